@@ -1,0 +1,19 @@
+-- Counts of events, which never fall, and stop at 2 ^ 64 - 1.
+use Rattle.std.specs.Prelude.{◌≡◌, ℕ, ◌+◌, ◌-◌, ◌^◌, ◌≤◌, min, Bool, true, false}
+
+-- at least n events came, as far as the count can tell
+abbrev pub RoseBy : ℕ → ℕ → ℕ → Type 0
+RoseBy n before now = min (before + n) (2 ^ 64 - 1) ≤ now
+
+-- an event came
+abbrev pub Rose : ℕ → ℕ → Type 0
+Rose before now = RoseBy 1 before now
+
+-- no event came
+abbrev pub Stood : ℕ → ℕ → Type 0
+Stood before now = now ≡ before
+
+-- an event came exactly where the test holds
+abbrev pub RoseExactly : Bool → ℕ → ℕ → Type 0
+RoseExactly true before now = Rose before now
+RoseExactly false before now = Stood before now

@@ -1,0 +1,5 @@
+pub mod Halves
+pub mod Hex
+pub mod Splits
+pub mod Canonical
+pub mod Faults

@@ -1,0 +1,5 @@
+use Rattle.repl_lsn.proofs.Canonical.{one_canonical}
+use Rattle.repl_lsn.proofs.laws.one_canonical_text.Goals as goal
+
+pub returns : goal.returns
+returns c = one_canonical

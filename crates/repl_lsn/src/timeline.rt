@@ -1,0 +1,29 @@
+ghost use Rattle.std.specs.Prelude.{◌≡◌, ◌<◌};
+ghost use Rattle.std.specs.Option.{SomeIff};
+
+use std::marker::Model;
+
+/// The number of a timeline, from 1 to 4,294,967,295 (PostgreSQL 17 manual, section "Timelines").
+#[derive(Clone, Copy, Debug, PartialEq, Eq, PartialOrd, Ord, Hash)]
+pub struct Tli(pub u32);
+
+impl Model for Tli {
+    ghost use Rattle.std.specs.Prelude.{ℕ, ◌<◌, ◌^◌};
+
+    ghost Value = { ℕ };
+
+    ghost view = { λ t. t.0 };
+
+    ghost invariant = { λ t. (0 < t.0) × (t.0 < 2 ^ 32) };
+
+    ghost inverse = { λ n. record { 0 = n } };
+}
+
+impl Tli {
+    /// The timeline with this number, which is not 0.
+    pub fn new(number: u32) -> Option<Tli>
+        ensures { SomeIff result (0 < number) number }
+    {
+        if number == 0 { None } else { Some(Tli(number)) }
+    }
+}
