@@ -26,4 +26,11 @@ impl Tli {
     {
         if number == 0 { None } else { Some(Tli(number)) }
     }
+
+    /// The timeline's number, which is not 0.
+    pub fn number(self) -> u32
+        ensures { result ≡ self }
+    {
+        self.0
+    }
 }

@@ -1,0 +1,36 @@
+use Rattle.std.proofs.Common.{◌≡◌, ◌<◌, inl, inr, arith, refl, ap, ◌∙◌, length}
+use Rattle.std.proofs.lemmas.Grind.{common_steps}
+use Rattle.repl_io.specs.Step.{bytes_of}
+use Rattle.repl_io.proofs.Steps.{gives, skips, step-is, answers-quiet}
+use Rattle.repl_io.proofs.script.ScriptLinkSource.read.Goals as goal
+use Rattle.repl_io.proofs.script.ScriptLinkSource.read.Goals.{then-self-len-2, else-self-len-2}
+
+pub returns-in-Quiet-clause-moved : goal.returns-in-Quiet-clause-moved
+returns-in-Quiet-clause-moved c =
+    let s = c.args.self.now in
+    skips s.steps.items s.next s.taken c.index.result.now (omega arith) c.index.ensures (ap bytes_of c.in-Quiet.is) s.in_step
+
+pub returns-in-Fail-clause-moved : goal.returns-in-Fail-clause-moved
+returns-in-Fail-clause-moved c =
+    let s = c.args.self.now in
+    skips s.steps.items s.next s.taken c.index.result.now (omega arith) c.index.ensures (ap bytes_of c.in-Fail.is) s.in_step
+
+pub returns-then-count-eq0-clause-script : goal.returns-then-count-eq0-clause-script
+returns-then-count-eq0-clause-script c =
+    let s = c.args.self.now in
+    let below : s.next < length s.steps.items = omega arith in
+    let at = step-is s.steps.items s.next c.index.result.now below c.index.ensures ∙ c.in-Give.is in
+    record {
+      steps_stay = refl;
+      at_end = (λ e. cc, λ h. absurd (omega arith));
+      at_step = λ _. answers-quiet s _ c.in-Give.bytes (length c.args.room.now) c.copy_front-count.result at c.requires c.if-count-eq0.true (grind (arith, common_steps));
+    }
+
+pub returns-else-count-eq0-clause-moved : goal.returns-else-count-eq0-clause-moved
+returns-else-count-eq0-clause-moved c =
+    let s = c.args.self.now in
+    let n = c.copy_front-count.result in
+    let below : s.next < length s.steps.items = omega arith in
+    let bytes : bytes_of c.index.result.now ≡ c.in-Give.bytes.items = ap bytes_of c.in-Give.is in
+    gives s.steps.items s.next s.taken n c.if-self-len-2.self.1.1.0 c.if-self-len-2.self.1.1.1.0 c.copy_front-count.new.room c.index.result.now below c.index.ensures (grind (arith, common_steps)) (grind (arith, common_steps)) (grind (arith, common_steps)) (grind (arith, common_steps))
+    (elim c.if-self-len-2.branch [ then-self-len-2 w ↦ inr (ap (λ (t : _). t.1.1.0) w.self-is, ap (λ (t : _). t.1.1.1.0) w.self-is, grind arith) | else-self-len-2 w ↦ inl (ap (λ (t : _). t.1.1.0) w.self-is, ap (λ (t : _). t.1.1.1.0) w.self-is) ])

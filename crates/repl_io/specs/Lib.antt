@@ -1,0 +1,6 @@
+pub mod Source
+pub mod Sink
+pub mod Steady
+pub mod Step
+pub mod Script
+pub mod Link

@@ -1,0 +1,85 @@
+-- What a scripted link tells, and how it follows its script.
+use Rattle.std.specs.Prelude.{◌≡◌, ◌≢◌, ℕ, ◌+◌, ◌-◌, ◌^◌, ◌<◌, ◌≤◌, ◌↔◌, min, List, [], ◌++◌, Some, take, drop, length, Contains}
+use Rattle.std.specs.List.{flat_map}
+use Rattle.repl_counts.specs.Told.{Told}
+use Rattle.repl_io.specs.declared.source.Got.{Got}
+use Rattle.repl_io.specs.declared.source.Got.TheVariants as got
+use Rattle.repl_io.specs.declared.sink.Put.{Put}
+use Rattle.repl_io.specs.declared.sink.Put.TheVariants as put
+use Rattle.repl_io.specs.declared.script.LinkStep.{LinkStep}
+use Rattle.repl_io.specs.declared.script.LinkStep.TheVariants as step
+use Rattle.repl_io.specs.declared.script.ScriptLink.{ScriptLink}
+use Rattle.repl_io.specs.Step.{bytes_of, step_at}
+
+-- the bytes of the steps that are done, and of the present one what is taken
+abbrev pub given_of : ScriptLink → Told
+given_of link = Some (flat_map bytes_of (take link.next link.steps.items) ++ take link.taken (bytes_of (step_at link.steps.items link.next)))
+
+-- the bytes of the steps from the present one on, but for what is taken
+abbrev pub left_of : ScriptLink → Told
+left_of link = Some (drop link.taken (flat_map bytes_of (drop link.next link.steps.items)))
+
+abbrev pub written_of : ScriptLink → Told
+written_of link = Some link.written.items
+
+abbrev pub read_faults_of : ScriptLink → ℕ
+read_faults_of link = link.read_faults
+
+abbrev pub quiets_of : ScriptLink → ℕ
+quiets_of link = link.quiets
+
+abbrev pub ends_of : ScriptLink → ℕ
+ends_of link = link.ends
+
+abbrev pub write_faults_of : ScriptLink → ℕ
+write_faults_of link = link.write_faults
+
+abbrev pub wants_of : ScriptLink → ℕ
+wants_of link = link.wants
+
+-- a read leaves the writing side as it was
+pub record KeepsSink (old new : ScriptLink) : Type 0 where
+  pub written : written_of new ≡ written_of old
+  pub faults : write_faults_of new ≡ write_faults_of old
+  pub wants : wants_of new ≡ wants_of old
+
+-- a write leaves the reading side as it was
+pub record KeepsSource (old new : ScriptLink) : Type 0 where
+  pub given : given_of new ≡ given_of old
+  pub left : left_of new ≡ left_of old
+  pub faults : read_faults_of new ≡ read_faults_of old
+  pub quiets : quiets_of new ≡ quiets_of old
+  pub ends : ends_of new ≡ ends_of old
+
+-- a link at its first step, to which nothing is written yet
+pub record IsFresh (steps : List LinkStep) (failing : List ℕ) (link : ScriptLink) : Type 0 where
+  pub steps_are : link.steps.items ≡ steps
+  pub failing_are : link.failing.items ≡ failing
+  pub given : given_of link ≡ Some []
+  pub left : left_of link ≡ Some (flat_map bytes_of steps)
+  pub written : written_of link ≡ Some []
+  pub no_read : (link.next ≡ 0) × (link.taken ≡ 0)
+  pub no_write : link.writes ≡ 0
+  pub read_faults : read_faults_of link ≡ 0
+  pub quiets : quiets_of link ≡ 0
+  pub ends : ends_of link ≡ 0
+  pub write_faults : write_faults_of link ≡ 0
+  pub wants : wants_of link ≡ 0
+
+-- what a step answers, and the number of the step after it
+abbrev pub AnswersStep : LinkStep → ScriptLink → Got → ScriptLink → Type 0
+AnswersStep step.Fail old answer new = (answer ≡ got.Failed) × (new.next ≡ old.next + 1)
+AnswersStep step.Quiet old answer new = (answer ≡ got.Quiet) × (new.next ≡ old.next + 1)
+AnswersStep (step.Give bytes) old answer new = (answer ≢ got.Failed) × (answer ≢ got.End) × (0 < length bytes.items → answer ≢ got.Quiet)
+
+-- past the last step a read answers the end, and before it what the step says
+pub record FollowsStep (old : ScriptLink) (answer : Got) (new : ScriptLink) : Type 0 where
+  pub steps_stay : new.steps.items ≡ old.steps.items
+  pub at_end : (answer ≡ got.End) ↔ (length old.steps.items ≤ old.next)
+  pub at_step : old.next < length old.steps.items → AnswersStep (step_at old.steps.items old.next) old answer new
+
+-- a write fails exactly where its number is on the list
+pub record FollowsList (old : ScriptLink) (answer : Put) (new : ScriptLink) : Type 0 where
+  pub list_stays : new.failing.items ≡ old.failing.items
+  pub counted : new.writes ≡ min (old.writes + 1) (2 ^ 64 - 1)
+  pub fails : (answer ≡ put.Failed) ↔ Contains old.failing.items new.writes

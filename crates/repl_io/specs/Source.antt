@@ -1,0 +1,43 @@
+-- What a read does to a source.
+use Rattle.std.specs.Prelude.{◌≡◌, ℕ, ◌<◌, ◌≤◌, List, [], length, take, Bool, true, false}
+use Rattle.repl_counts.specs.Told.{Told, IfTold, Gained, Lost, Kept}
+use Rattle.repl_io.specs.declared.source.Got.{Got}
+use Rattle.repl_io.specs.declared.source.Got.TheVariants.{Bytes, Quiet, End, Failed}
+
+-- n bytes at the front of the room are the next of the source
+pub record ReadsBytes (n : ℕ) (room : List ℕ) (given given' left left' : Told) : Type 0 where
+  pub some : 0 < n
+  pub fits : n ≤ length room
+  pub gained : Gained given given' (take n room)
+  pub lost : Lost left left' (take n room)
+
+-- nothing was read
+pub record ReadsNothing (given given' left left' : Told) : Type 0 where
+  pub given_stays : Kept given given'
+  pub left_stays : Kept left left'
+
+-- the room, the bytes given and the bytes left, before and after a read; the end is answered only where
+-- nothing is left
+abbrev pub Reads : Got → List ℕ → Told → Told → Told → Told → Type 0
+Reads (Bytes n) room given given' left left' = ReadsBytes n room given given' left left'
+Reads Quiet room given given' left left' = ReadsNothing given given' left left'
+Reads End room given given' left left' = ReadsNothing given given' left left' × IfTold left (λ bytes. bytes ≡ [])
+Reads Failed room given given' left left' = ReadsNothing given given' left left'
+
+abbrev pub is_quiet : Got → Bool
+is_quiet Quiet = true
+is_quiet End = false
+is_quiet Failed = false
+is_quiet (Bytes n) = false
+
+abbrev pub is_end : Got → Bool
+is_end End = true
+is_end Quiet = false
+is_end Failed = false
+is_end (Bytes n) = false
+
+abbrev pub is_failed : Got → Bool
+is_failed Failed = true
+is_failed Quiet = false
+is_failed End = false
+is_failed (Bytes n) = false

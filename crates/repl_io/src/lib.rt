@@ -1,0 +1,26 @@
+//! Where bytes come from and go to: sources, sinks, and links in memory for tests.
+//!
+//! `Source` and `Sink` say in their contracts what a read and a write do, as far as the object tells
+//! its bytes, and that a fault is answered only where the object counted one. Code that is generic over
+//! them cannot invent a fault or lose a byte. `SteadyLink` and `ScriptLink` are both in memory and tell
+//! everything; `StdSource` and `StdSink` adapt std's readers and writers and tell nothing, so what a real
+//! file or terminal holds is trusted. Stands on `repl_counts`.
+#![tactic(auto)]
+
+mod copies;
+mod link;
+mod script;
+mod sink;
+mod source;
+mod std_stream;
+mod steady;
+
+pub use link::Link;
+pub use script::{LinkStep, ScriptLink};
+pub use sink::{Put, Sent, Sink, write_all};
+pub use source::{Got, Source};
+pub use std_stream::{StdSink, StdSource};
+pub use steady::SteadyLink;
+
+#[cfg(test)]
+mod tests;

@@ -1,0 +1,10 @@
+pub mod FieldLaws
+pub mod PairLaws
+pub mod BodyLaws
+pub mod Frames
+pub mod Messages
+pub mod Extending
+pub mod Counting
+pub mod Spellings
+pub mod EntrySpellings
+pub mod OneSpelling

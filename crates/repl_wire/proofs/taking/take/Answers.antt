@@ -1,0 +1,15 @@
+use Rattle.std.proofs.Common.{arith}
+use Rattle.repl_wire.proofs.Messages.{is_found, is_only}
+use Rattle.repl_wire.proofs.taking.take.Goals as goal
+
+pub returns-in-Startup-clause-found : goal.returns-in-Startup-clause-found
+returns-in-Startup-clause-found c = is_found c.args.phase c.args.bytes.now c.take_startup.result (λ i. omega (arith, c.type_inv.bytes i)) (rw c.in-Startup.is c.take_startup.ensures)
+
+pub returns-in-Startup-clause-only : goal.returns-in-Startup-clause-only
+returns-in-Startup-clause-only c = is_only c.args.phase c.args.bytes.now c.take_startup.result (rw c.in-Startup.is c.take_startup.ensures)
+
+pub returns-in-Front-clause-found : goal.returns-in-Front-clause-found
+returns-in-Front-clause-found c = is_found c.args.phase c.args.bytes.now c.take_front.result (λ i. omega (arith, c.type_inv.bytes i)) (rw c.in-Front.is c.take_front.ensures)
+
+pub returns-in-Front-clause-only : goal.returns-in-Front-clause-only
+returns-in-Front-clause-only c = is_only c.args.phase c.args.bytes.now c.take_front.result (rw c.in-Front.is c.take_front.ensures)
