@@ -1,0 +1,7 @@
+use Rattle.std.proofs.Common.{◌≡◌, ◌++◌, take}
+use Rattle.std.specs.List.{flat_map}
+use Rattle.repl_wire.specs.Message.{back_spelling}
+use Rattle.repl_top.proofs.answer.encode_all.Given as goal
+
+abbrev pub invariant-loop-message : goal.invariant-loop-message
+invariant-loop-message l = l.out.items ≡ l.fn.out.items ++ flat_map back_spelling (take l.message-index l.messages)

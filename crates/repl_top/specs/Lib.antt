@@ -1,0 +1,5 @@
+pub mod Status
+pub mod Words
+pub mod Session
+pub mod Answer
+pub mod Tool

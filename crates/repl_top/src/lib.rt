@@ -1,0 +1,20 @@
+//! What the programs do, from words and bytes to a status: the top calls, which a `main` of a few lines
+//! makes over real streams.
+//!
+//! `run_tool` is the command line of `pgnode` but for serving. It reads the words, does the command over a
+//! source and a sink, and answers a `Status`, which `status_number` and `status_line` print. Its contract
+//! says for each status when it may come and what was written. The words that are a command line stand in
+//! `specs/Words.antt`, the input that `identify` takes in `specs/Session.antt`, and its answer, message by
+//! message, in `specs/Answer.antt`. Stands on `repl_io`, `repl_lsn` and `repl_wire`.
+#![tactic(auto)]
+
+mod answer;
+mod gather;
+mod session;
+mod status;
+mod tool;
+mod words;
+
+pub use status::{Status, status_line, status_number};
+pub use tool::{INPUT_LIMIT, TURNS, run_tool};
+pub use words::Identity;
