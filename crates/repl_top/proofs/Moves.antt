@@ -1,5 +1,5 @@
 -- Bytes that move from a source into a buffer, read by read.
-use Rattle.std.proofs.Common.{◌≡◌, ℕ, ◌≤◌, List, [], ◌++◌, length, take, Some, None, refl, sym, ap, subst, ◌∙◌, append_assoc, arith}
+use Rattle.std.proofs.Common.{◌≡◌, ℕ, Vec, Global, vec_len, ◌≤◌, List, [], ◌++◌, length, take, Some, None, refl, sym, ap, subst, ◌∙◌, append_assoc, arith}
 use Rattle.std.specs.Option.{option_map}
 use Rattle.std.proofs.lemmas.List.{take_at, take_all, take-append-le, append-nil}
 use Rattle.repl_counts.specs.Told.{Told, IfTold, Lost}
@@ -41,3 +41,10 @@ Lost-more before middle now bytes after room rest count so_far one fits added =
 pub Lost-still : (before middle now : Told) (bytes after : List ℕ) → Lost before middle bytes → now ≡ middle → after ≡ bytes → Lost before now after
 Lost-still before middle now bytes after so_far still same =
     subst (λ (s : List ℕ). Lost before now s) (sym same) (so_far ∙ ap (behind bytes) (sym still))
+
+-- what is said of a vector is said of the same vector
+pub items_of_same : (v w : Vec ℕ Global) (bytes : List ℕ) → v ≡ w → w.items ≡ bytes → v.items ≡ bytes
+items_of_same v w bytes same items = ap (λ (u : Vec ℕ Global). u.items) same ∙ items
+
+pub len_of_same : (v w : Vec ℕ Global) (len : ℕ) → v ≡ w → vec_len w ≡ len → vec_len v ≡ len
+len_of_same v w len same is = ap (λ (u : Vec ℕ Global). vec_len u) same ∙ is

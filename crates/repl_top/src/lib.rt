@@ -18,3 +18,6 @@ mod words;
 pub use status::{Status, status_line, status_number};
 pub use tool::{INPUT_LIMIT, TURNS, run_tool};
 pub use words::Identity;
+
+#[cfg(test)]
+mod tests;

@@ -33,6 +33,8 @@ pub fn run_tool<S: Source, K: Sink>(
 ) -> Status
     // The words are refused exactly where they are no command line, and at the first that is wrong.
     ensures usage { (word : ℕ) → (result ≡ Status.Usage word) ↔ IsUsage (texts words.now) word }
+    // Nothing is read or written then.
+    ensures untouched { (word : ℕ) → result ≡ Status.Usage word → (input.new ≡ input.old) × (out.new ≡ out.old) }
     // At Ok the input is a session, and its whole answer is written.
     ensures answered { result ≡ Status.Ok → Answers (texts words.now) (K.written out.old) (K.written out.new) }
     ensures session { result ≡ Status.Ok → IfTold (S.left input.old) (λ bytes. IsSession (take INPUT_LIMIT bytes)) }

@@ -1,6 +1,6 @@
 use Rattle.std.proofs.Common.{◌≡◌, ◌≤◌, ◌++◌, ℕ, List, Vec, Global, vec_len, length, take, drop, ap, ◌∙◌, arith, length-append}
 use Rattle.std.proofs.lemmas.List.{length-take}
-use Rattle.repl_top.proofs.Moves.{Lost-more, Lost-still, Lost-front, Lost-all}
+use Rattle.repl_top.proofs.Moves.{Lost-more, Lost-still, Lost-front, Lost-all, items_of_same, len_of_same}
 use Rattle.repl_top.proofs.gather.gather.Goals as goal
 use Rattle.repl_top.proofs.gather.gather.Goals.{in-Bytes+in_ok-extend_from_slice-in-Bytes, in-Quiet}
 
@@ -19,8 +19,8 @@ loop-preserved g c =
           let read = w.in-Bytes.ensures.moved in
           let room = c.read.new.room in
           let behind : List ℕ = drop c.min-some.result c.loop.room in
-          let items = ap (λ (v : Vec ℕ Global). v.items) w.bytes-is ∙ w.in_ok-extend_from_slice-in-Bytes.ensures.items in
-          let len = ap (λ (v : Vec ℕ Global). vec_len v) w.bytes-is ∙ w.in_ok-extend_from_slice-in-Bytes.ensures.len in
+          let items = items_of_same _ _ _ w.bytes-is w.in_ok-extend_from_slice-in-Bytes.ensures.items in
+          let len = len_of_same _ _ _ w.bytes-is w.in_ok-extend_from_slice-in-Bytes.ensures.len in
           let size : length (take w.in-Bytes.count (room ++ behind)) ≡ w.in-Bytes.count = omega (arith, length-take w.in-Bytes.count (room ++ behind), length-append room behind, read.fits) in
           let some : length room ≤ c.min-some.result = omega (arith, c.read.auto.room, length-take c.min-some.result c.loop.room) in
           record {
