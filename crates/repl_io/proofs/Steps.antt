@@ -1,15 +1,16 @@
 -- What the steps of a script give, from one read to the next.
-use Rattle.std.proofs.Common.{◌≡◌, ◌⊎◌, inl, inr, ℕ, ◌+◌, ◌-◌, ◌<◌, ◌≤◌, min, Vec, Global, List, [], ◌++◌, ◌∷◌, length, take, drop, get_or, Some, sym, ap, ◌∙◌, subst, arith, append_assoc}
+use Rattle.std.proofs.Common.{◌≡◌, ◌≢◌, ◌⊎◌, inl, inr, ℕ, ◌+◌, ◌-◌, ◌<◌, ◌≤◌, min, Vec, Global, List, [], ◌++◌, ◌∷◌, length, take, drop, get_or, Some, sym, ap, ◌∙◌, subst, arith, append_assoc}
 use Rattle.std.specs.List.{flat_map}
 use Rattle.std.proofs.lemmas.List.{take_more, drop_more, append-nil, drop-append-le, get_or_read}
 use Rattle.std.proofs.lemmas.List.Concat.{flat_map-append}
 use Rattle.std.proofs.Math.Seq.{take-add, take-length, drop-length}
 use Rattle.repl_io.specs.declared.script.LinkStep.{LinkStep}
 use Rattle.repl_io.specs.declared.script.LinkStep.TheVariants as step
+use Rattle.repl_io.specs.declared.source.Got.{Got}
 use Rattle.repl_io.specs.declared.source.Got.TheVariants as got
 use Rattle.repl_io.specs.declared.script.ScriptLink.{ScriptLink}
 use Rattle.repl_io.specs.Step.{bytes_of, step_at}
-use Rattle.repl_io.specs.Script.{AnswersStep}
+use Rattle.repl_io.specs.Script.{AnswersStep, GivesStep}
 use Rattle.repl_io.specs.Source.{ReadsBytes, ReadsNothing}
 use Rattle.repl_io.proofs.Moves.{rest-split}
 
@@ -106,11 +107,26 @@ skips steps next taken now below is none unfinished =
       left_stays = ap (λ (t : ℕ). Some (left-at steps (next + 1) t)) fresh ∙ ap Some (sym (left-done steps next below)) ∙ ap (λ (t : ℕ). Some (left-at steps next t)) (sym at);
     }
 
-none-left : (all taken room n : ℕ) → 0 < room → n ≡ 0 → n ≡ min (all - taken) room → (0 < taken → taken < all) → all ≡ 0
-none-left all taken room n some nothing is unfinished = grind arith
+within-step : (taken all : ℕ) → (0 < taken → taken < all) → taken ≤ all
+within-step taken all unfinished = grind arith
 
--- a step that gives nothing into a room has no bytes at all
-pub answers-quiet : (old new : ScriptLink) (bytes : Vec ℕ Global) (room n : ℕ) → step_at old.steps.items old.next ≡ step.Give bytes → 0 < room → n ≡ 0 → n ≡ min (length bytes.items - old.taken) room → AnswersStep (step_at old.steps.items old.next) old got.Quiet new
-answers-quiet old new bytes room n at some nothing is =
-    let none : length bytes.items ≡ 0 = none-left (length bytes.items) old.taken room n some nothing is (subst (λ (s : LinkStep). 0 < old.taken → old.taken < length (bytes_of s)) at old.in_step) in
-    subst (λ (s : LinkStep). AnswersStep s old got.Quiet new) (sym at) (λ e. cc, λ e. cc, λ h. absurd (omega arith))
+-- where a step has bytes, some of them are left, and some fit
+some-fit : (taken all room n : ℕ) → 0 < room → n ≡ min (all - taken) room → (0 < taken → taken < all) → 0 < all → 0 < n
+some-fit taken all room n some is unfinished has = grind arith
+
+-- a read at a step that gives, at the numbers that the code has
+pub gives-step : (old new : ScriptLink) (bytes : Vec ℕ Global) (answer : Got) (room n : ℕ) → step_at old.steps.items old.next ≡ step.Give bytes → 0 < room → n ≡ min (length bytes.items - old.taken) room → (n ≡ 0 → answer ≡ got.Quiet) → (0 < n → answer ≡ got.Bytes n) → ((new.next ≡ old.next) × (new.taken ≡ old.taken + n) × (old.taken + n ≢ length bytes.items)) ⊎ ((new.next ≡ old.next + 1) × (new.taken ≡ 0) × (old.taken + n ≡ length bytes.items)) → AnswersStep room (step_at old.steps.items old.next) old answer new
+gives-step old new bytes answer room n at some is quiet gave w =
+    let all : ℕ = length bytes.items in
+    let unfinished : 0 < old.taken → old.taken < all = subst (λ (s : LinkStep). 0 < old.taken → old.taken < length (bytes_of s)) at old.in_step in
+    let within : old.taken ≤ all = within-step old.taken all unfinished in
+    let given : GivesStep room bytes.items old answer new = record {
+      none = λ e. quiet (omega (arith, e, is));
+      some = λ h. gave (some-fit old.taken all room n some is unfinished h) ∙ ap (λ (k : ℕ). got.Bytes k) (omega (arith, is));
+      stays = λ h. elim w [
+        | inl v ↦ (v.0, v.1 ∙ ap (λ (k : ℕ). old.taken + k) (omega (arith, is, h)))
+        | inr v ↦ absurd (omega (arith, is, h, v.2))
+      ];
+      moves_on = λ h. elim w [ inl v ↦ absurd (v.2 (omega (arith, is, h, within))) | inr v ↦ (v.0, v.1) ];
+    } in
+    subst (λ (s : LinkStep). AnswersStep room s old answer new) (sym at) given

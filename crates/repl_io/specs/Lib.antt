@@ -4,3 +4,4 @@ pub mod Steady
 pub mod Step
 pub mod Script
 pub mod Link
+pub mod Streams

@@ -1,5 +1,5 @@
 -- What a scripted link tells, and how it follows its script.
-use Rattle.std.specs.Prelude.{◌≡◌, ◌≢◌, ℕ, ◌+◌, ◌-◌, ◌^◌, ◌<◌, ◌≤◌, ◌↔◌, min, List, [], ◌++◌, Some, take, drop, length, Contains}
+use Rattle.std.specs.Prelude.{◌≡◌, ℕ, ◌+◌, ◌-◌, ◌^◌, ◌<◌, ◌≤◌, ◌↔◌, min, List, [], ◌++◌, Some, take, drop, length, Contains}
 use Rattle.std.specs.List.{flat_map}
 use Rattle.repl_counts.specs.Told.{Told}
 use Rattle.repl_io.specs.declared.source.Got.{Got}
@@ -66,17 +66,26 @@ pub record IsFresh (steps : List LinkStep) (failing : List ℕ) (link : ScriptLi
   pub write_faults : write_faults_of link ≡ 0
   pub wants : wants_of link ≡ 0
 
--- what a step answers, and the number of the step after it
-abbrev pub AnswersStep : LinkStep → ScriptLink → Got → ScriptLink → Type 0
-AnswersStep step.Fail old answer new = (answer ≡ got.Failed) × (new.next ≡ old.next + 1)
-AnswersStep step.Quiet old answer new = (answer ≡ got.Quiet) × (new.next ≡ old.next + 1)
-AnswersStep (step.Give bytes) old answer new = (answer ≢ got.Failed) × (answer ≢ got.End) × (0 < length bytes.items → answer ≢ got.Quiet)
+-- a read into a room of this length at a step that gives these bytes: as many of those that are left as
+-- fit, or a quiet where the step has none; and the next step exactly where none is left then
+pub record GivesStep (room : ℕ) (bytes : List ℕ) (old : ScriptLink) (answer : Got) (new : ScriptLink) : Type 0 where
+  pub none : length bytes ≡ 0 → answer ≡ got.Quiet
+  pub some : 0 < length bytes → answer ≡ got.Bytes (min room (length bytes - old.taken))
+  pub stays : room < length bytes - old.taken → (new.next ≡ old.next) × (new.taken ≡ old.taken + room)
+  pub moves_on : length bytes - old.taken ≤ room → (new.next ≡ old.next + 1) × (new.taken ≡ 0)
 
--- past the last step a read answers the end, and before it what the step says
-pub record FollowsStep (old : ScriptLink) (answer : Got) (new : ScriptLink) : Type 0 where
+-- what a read into a room of this length answers at a step, and the step after it
+abbrev pub AnswersStep : ℕ → LinkStep → ScriptLink → Got → ScriptLink → Type 0
+AnswersStep room step.Fail old answer new = (answer ≡ got.Failed) × (new.next ≡ old.next + 1) × (new.taken ≡ 0)
+AnswersStep room step.Quiet old answer new = (answer ≡ got.Quiet) × (new.next ≡ old.next + 1) × (new.taken ≡ 0)
+AnswersStep room (step.Give bytes) old answer new = GivesStep room bytes.items old answer new
+
+-- past the last step a read answers the end and stays there, and before it the read answers what the step says
+pub record FollowsStep (room : ℕ) (old : ScriptLink) (answer : Got) (new : ScriptLink) : Type 0 where
   pub steps_stay : new.steps.items ≡ old.steps.items
   pub at_end : (answer ≡ got.End) ↔ (length old.steps.items ≤ old.next)
-  pub at_step : old.next < length old.steps.items → AnswersStep (step_at old.steps.items old.next) old answer new
+  pub end_stays : length old.steps.items ≤ old.next → (new.next ≡ old.next) × (new.taken ≡ old.taken)
+  pub at_step : old.next < length old.steps.items → AnswersStep room (step_at old.steps.items old.next) old answer new
 
 -- a write fails exactly where its number is on the list
 pub record FollowsList (old : ScriptLink) (answer : Put) (new : ScriptLink) : Type 0 where

@@ -1,5 +1,5 @@
 -- What a write does to a sink.
-use Rattle.std.specs.Prelude.{ℕ, ◌<◌, ◌≤◌, List, length, take, Bool, true, false}
+use Rattle.std.specs.Prelude.{◌≡◌, ℕ, ◌<◌, ◌≤◌, ⊤, List, length, take, Bool, true, false}
 use Rattle.repl_counts.specs.Told.{Told, Gained, Kept}
 use Rattle.repl_io.specs.declared.sink.Put.{Put}
 use Rattle.repl_io.specs.declared.sink.Put.TheVariants as put
@@ -17,6 +17,12 @@ abbrev pub Writes : Put → List ℕ → Told → Told → Type 0
 Writes (put.Wrote n) piece written written' = WritesBytes n piece written written'
 Writes put.Failed piece written written' = Kept written written'
 Writes put.Memory piece written written' = Kept written written'
+
+-- a write that succeeds writes the whole piece, as a link in memory does
+abbrev pub WritesWhole : Put → List ℕ → Type 0
+WritesWhole (put.Wrote n) piece = n ≡ length piece
+WritesWhole put.Failed piece = ⊤
+WritesWhole put.Memory piece = ⊤
 
 abbrev pub is_failed : Put → Bool
 is_failed put.Failed = true

@@ -1,6 +1,8 @@
 -- What a link in memory that never fails tells.
-use Rattle.std.specs.Prelude.{◌≡◌, ℕ, List, [], Some, take, drop}
-use Rattle.repl_counts.specs.Told.{Told}
+use Rattle.std.specs.Prelude.{◌≡◌, ℕ, ◌<◌, ◌↔◌, min, List, [], Some, length, take, drop}
+use Rattle.repl_counts.specs.Told.{Told, IfTold}
+use Rattle.repl_io.specs.declared.source.Got.{Got}
+use Rattle.repl_io.specs.declared.source.Got.TheVariants as got
 use Rattle.repl_io.specs.declared.steady.SteadyLink.{SteadyLink}
 
 abbrev pub given_of : SteadyLink → Told
@@ -17,6 +19,15 @@ ends_of link = link.ends
 
 abbrev pub wants_of : SteadyLink → ℕ
 wants_of link = link.wants
+
+-- a read into a room of this length gives as many of these bytes as fit, and the end exactly where there are none
+pub record GivesAllOf (room : ℕ) (left : List ℕ) (answer : Got) : Type 0 where
+  pub some : 0 < length left → answer ≡ got.Bytes (min room (length left))
+  pub ended : (answer ≡ got.End) ↔ (left ≡ [])
+
+-- the same of the bytes that are left before the read
+abbrev pub GivesAll : ℕ → Told → Got → Type 0
+GivesAll room left answer = IfTold left (λ bytes. GivesAllOf room bytes answer)
 
 -- a read leaves the writing side as it was
 pub record KeepsSink (old new : SteadyLink) : Type 0 where

@@ -3,8 +3,9 @@
 //! `Source` and `Sink` say in their contracts what a read and a write do, as far as the object tells
 //! its bytes, and that a fault is answered only where the object counted one. Code that is generic over
 //! them cannot invent a fault or lose a byte. `SteadyLink` and `ScriptLink` are both in memory and tell
-//! everything; `StdSource` and `StdSink` adapt std's readers and writers and tell nothing, so what a real
-//! file or terminal holds is trusted. Stands on `repl_counts`.
+//! everything. `StdSource` and `StdSink` adapt std's readers and writers: a read or a write of theirs says
+//! what the reader or the writer tells, and to generic code they tell no bytes. A real file or terminal
+//! tells nothing at all, so what it holds is trusted. Stands on `repl_counts`.
 #![tactic(auto)]
 
 mod copies;

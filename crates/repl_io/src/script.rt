@@ -96,7 +96,7 @@ impl Source for ScriptLink {
         ensures quiets { RoseExactly (is_quiet result) (quiets_of self.old) (quiets_of self.new) }
         ensures ends { RoseExactly (is_end result) (ends_of self.old) (ends_of self.new) }
         ensures others { KeepsSink self.old self.new }
-        ensures script { FollowsStep self.old result self.new }
+        ensures script { FollowsStep (length room.old) self.old result self.new }
     {
         if self.next == self.steps.len() {
             self.ends.raise();
@@ -133,7 +133,7 @@ impl Source for ScriptLink {
 
 impl Sink for ScriptLink {
     ghost use Rattle.repl_counts.specs.Counts.{RoseExactly};
-    ghost use Rattle.repl_io.specs.Sink.{Writes, is_failed, is_memory};
+    ghost use Rattle.repl_io.specs.Sink.{Writes, WritesWhole, is_failed, is_memory};
     ghost use Rattle.repl_io.specs.Script.{written_of, write_faults_of, wants_of, KeepsSource, FollowsList};
 
     ghost written = { written_of };
@@ -151,6 +151,7 @@ impl Sink for ScriptLink {
         ensures faults { RoseExactly (is_failed result) (write_faults_of self.old) (write_faults_of self.new) }
         ensures wants { RoseExactly (is_memory result) (wants_of self.old) (wants_of self.new) }
         ensures others { KeepsSource self.old self.new }
+        ensures whole { WritesWhole result piece.now }
         ensures script { FollowsList self.old result self.new }
     {
         self.writes.raise();

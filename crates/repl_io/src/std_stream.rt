@@ -1,14 +1,17 @@
 ghost use Rattle.std.specs.Prelude.{◌≡◌, ℕ, ◌<◌, None, length};
 ghost use Rattle.repl_counts.specs.Counts.{RoseExactly};
-ghost use Rattle.repl_io.specs.Source.{Reads, is_quiet, is_end, is_failed};
-ghost use Rattle.repl_io.specs.Sink.{Writes, is_memory};
 
 use crate::sink::{Put, Sink};
 use crate::source::{Got, Source};
 use repl_counts::Count;
 use std::io::{ErrorKind, Read, Write};
 
-/// A source over one of std's readers, as standard input. It tells no bytes.
+/// A source over one of std's readers, as standard input.
+///
+/// A read says of the reader's bytes what the reader tells of them, in the clause `told`: a slice of
+/// memory tells all, and a real file or a terminal tells nothing. As a `Source` it tells no bytes, since
+/// std lets a reader that tells none begin to tell, and a `Source` may not. So code that is generic over
+/// sources knows only the counts.
 #[derive(Drop)]
 pub struct StdSource<R> {
     reader: R,
@@ -18,8 +21,12 @@ pub struct StdSource<R> {
 }
 
 impl<R: Read> StdSource<R> {
+    ghost use Rattle.repl_io.specs.Streams.{IsUnread};
+
     /// A source that gives what the reader gives.
-    pub fn new(reader: R) -> StdSource<R> {
+    pub fn new(reader: R) -> StdSource<R>
+        ensures { IsUnread reader result }
+    {
         StdSource {
             reader,
             faults: Count::new(),
@@ -30,6 +37,9 @@ impl<R: Read> StdSource<R> {
 }
 
 impl<R: Read> Source for StdSource<R> {
+    ghost use Rattle.repl_io.specs.Source.{Reads, is_quiet, is_end, is_failed};
+    ghost use Rattle.repl_io.specs.Streams.{reader_left, TakesTold};
+
     ghost given = { λ _. None };
 
     ghost left = { λ _. None };
@@ -41,7 +51,14 @@ impl<R: Read> Source for StdSource<R> {
     ghost ends = { λ s. s.ends };
 
     /// A read that a signal interrupts is quiet.
-    fn read(&mut self, room: &mut [u8]) -> Got {
+    fn read(&mut self, room: &mut [u8]) -> Got
+        requires { 0 < length room.old }
+        ensures moved { Reads result room.new None None None None }
+        ensures faults { RoseExactly (is_failed result) self.old.faults self.new.faults }
+        ensures quiets { RoseExactly (is_quiet result) self.old.quiets self.new.quiets }
+        ensures ends { RoseExactly (is_end result) self.old.ends self.new.ends }
+        ensures told { TakesTold result room.new (reader_left R.remaining self.old) (reader_left R.remaining self.new) }
+    {
         match self.reader.read(room) {
             Ok(0) => {
                 self.ends.raise();
@@ -61,7 +78,12 @@ impl<R: Read> Source for StdSource<R> {
     }
 }
 
-/// A sink over one of std's writers, as standard output. It tells no bytes, and does not flush.
+/// A sink over one of std's writers, as standard output. It does not flush.
+///
+/// A write says of the writer's bytes what the writer tells of them, in the clause `told`: a `Vec` tells
+/// all, and a real file or a terminal tells nothing. As a `Sink` it tells no bytes, since std lets a writer
+/// that tells none begin to tell, and a `Sink` may not. So code that is generic over sinks knows only the
+/// counts.
 #[derive(Drop)]
 pub struct StdSink<W> {
     writer: W,
@@ -70,8 +92,12 @@ pub struct StdSink<W> {
 }
 
 impl<W: Write> StdSink<W> {
+    ghost use Rattle.repl_io.specs.Streams.{IsUnwritten};
+
     /// A sink that writes what it is given to the writer.
-    pub fn new(writer: W) -> StdSink<W> {
+    pub fn new(writer: W) -> StdSink<W>
+        ensures { IsUnwritten writer result }
+    {
         StdSink {
             writer,
             faults: Count::new(),
@@ -81,6 +107,9 @@ impl<W: Write> StdSink<W> {
 }
 
 impl<W: Write> Sink for StdSink<W> {
+    ghost use Rattle.repl_io.specs.Sink.{Writes, is_failed, is_memory};
+    ghost use Rattle.repl_io.specs.Streams.{writer_holds, AddsTold};
+
     ghost written = { λ _. None };
 
     ghost faults = { λ s. s.faults };
@@ -88,7 +117,13 @@ impl<W: Write> Sink for StdSink<W> {
     ghost wants = { λ s. s.wants };
 
     /// A write that takes nothing is a fault.
-    fn write(&mut self, piece: &[u8]) -> Put {
+    fn write(&mut self, piece: &[u8]) -> Put
+        requires { 0 < length piece.now }
+        ensures moved { Writes result piece.now None None }
+        ensures faults { RoseExactly (is_failed result) self.old.faults self.new.faults }
+        ensures wants { RoseExactly (is_memory result) self.old.wants self.new.wants }
+        ensures told { AddsTold result piece.now (writer_holds W.contents self.old) (writer_holds W.contents self.new) }
+    {
         match self.writer.write(piece) {
             Ok(0) => {
                 self.faults.raise();

@@ -47,7 +47,7 @@ impl Source for SteadyLink {
     ghost use Rattle.std.specs.Prelude.{◌<◌};
     ghost use Rattle.repl_counts.specs.Counts.{RoseExactly};
     ghost use Rattle.repl_io.specs.Source.{Reads, is_quiet, is_end, is_failed};
-    ghost use Rattle.repl_io.specs.Steady.{given_of, left_of, ends_of, KeepsSink};
+    ghost use Rattle.repl_io.specs.Steady.{given_of, left_of, ends_of, GivesAll, KeepsSink};
 
     ghost given = { given_of };
 
@@ -62,7 +62,15 @@ impl Source for SteadyLink {
     ghost read_keeps = { KeepsSink };
 
     /// Gives as much of the input as fits the room, and at its end `End`.
-    fn read(&mut self, room: &mut [u8]) -> Got {
+    fn read(&mut self, room: &mut [u8]) -> Got
+        requires { 0 < length room.old }
+        ensures moved { Reads result room.new (given_of self.old) (given_of self.new) (left_of self.old) (left_of self.new) }
+        ensures faults { RoseExactly (is_failed result) 0 0 }
+        ensures quiets { RoseExactly (is_quiet result) 0 0 }
+        ensures ends { RoseExactly (is_end result) (ends_of self.old) (ends_of self.new) }
+        ensures others { KeepsSink self.old self.new }
+        ensures all { GivesAll (length room.old) (left_of self.old) result }
+    {
         if self.taken == self.input.len() {
             self.ends.raise();
             return Got::End;
@@ -74,6 +82,9 @@ impl Source for SteadyLink {
 }
 
 impl Sink for SteadyLink {
+    ghost use Rattle.std.specs.Prelude.{◌<◌};
+    ghost use Rattle.repl_counts.specs.Counts.{RoseExactly};
+    ghost use Rattle.repl_io.specs.Sink.{Writes, WritesWhole, is_failed, is_memory};
     ghost use Rattle.repl_io.specs.Steady.{written_of, wants_of, KeepsSource};
 
     ghost written = { written_of };
@@ -85,7 +96,14 @@ impl Sink for SteadyLink {
     ghost write_keeps = { KeepsSource };
 
     /// Writes the whole piece, or answers `Memory`.
-    fn write(&mut self, piece: &[u8]) -> Put {
+    fn write(&mut self, piece: &[u8]) -> Put
+        requires { 0 < length piece.now }
+        ensures moved { Writes result piece.now (written_of self.old) (written_of self.new) }
+        ensures faults { RoseExactly (is_failed result) 0 0 }
+        ensures wants { RoseExactly (is_memory result) (wants_of self.old) (wants_of self.new) }
+        ensures others { KeepsSource self.old self.new }
+        ensures whole { WritesWhole result piece.now }
+    {
         match self.written.extend_from_slice(piece) {
             Ok(()) => Put::Wrote(piece.len()),
             Err(_) => {

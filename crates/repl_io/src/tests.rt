@@ -1,4 +1,6 @@
-ghost use Rattle.std.specs.Prelude.{◌≡◌, ◌<◌, Some, length};
+ghost use Rattle.std.specs.Prelude.{◌≡◌, ℕ, ◌<◌, List, Some, length, min};
+ghost use Rattle.repl_io.specs.Steady.{left_of};
+ghost use Rattle.repl_io.specs.Streams.{AddsTold, TakesTold};
 
 use crate::*;
 use repl_counts::Count;
@@ -65,6 +67,33 @@ fn write_then_left<L: Link>(link: &mut L, piece: &[u8]) -> Put
     ensures ends { L.ends link.new ≡ L.ends link.old }
 {
     link.write(piece)
+}
+
+/// A write to a sink over memory, which adds what it takes to the memory.
+fn write_to_memory(sink: &mut StdSink<Vec<u8>>, piece: &[u8]) -> Put
+    requires { 0 < length piece.now }
+    ensures { AddsTold result piece.now (Some sink.old.writer.items) (Some sink.new.writer.items) }
+{
+    sink.write(piece)
+}
+
+/// A read of a source over memory, which takes what it gives off the front of the memory.
+fn read_from_memory(source: &mut StdSource<&[u8]>, room: &mut [u8]) -> Got
+    requires { 0 < length room.old }
+    ensures { TakesTold result room.new (Some source.old.reader.now) (Some source.new.reader.now) }
+{
+    source.read(room)
+}
+
+/// A read of a link that has bytes left, which gives as many as fit.
+fn read_some(link: &mut SteadyLink, room: &mut [u8]) -> Got
+    ghost left: { List ℕ }
+    requires room { 0 < length room.old }
+    requires left { left_of link.old ≡ Some left }
+    requires some { 0 < length left }
+    ensures { result ≡ Got.Bytes (min (length room.old) (length left)) }
+{
+    link.read(room)
 }
 
 #[test]
@@ -144,5 +173,11 @@ fn std_streams_round_trip(rt: HostRuntime) -> Result<(), Fail> {
         (Got::End, b""),
     ];
     check_reads(&rt, &mut source, &wanted);
+
+    let mut memory = StdSink::new(Vec::new(rt.alloc()));
+    assert_eq!(rt; write_to_memory(&mut memory, b"abc"), Put::Wrote(3));
+    let mut text = StdSource::new(b"de".as_slice());
+    assert_eq!(rt; read_from_memory(&mut text, &mut [0; 3]), Got::Bytes(2));
+    assert_eq!(rt; read_from_memory(&mut text, &mut [0; 3]), Got::End);
     Ok(())
 }

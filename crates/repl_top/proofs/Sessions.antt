@@ -13,7 +13,6 @@ use Rattle.repl_wire.specs.declared.fault.WireFault.{WireFault}
 use Rattle.repl_wire.specs.declared.taking.Taken.{Taken}
 use Rattle.repl_wire.specs.declared.taking.Taken.TheVariants as taken
 use Rattle.repl_wire.specs.Message.{Spells}
-use Rattle.repl_wire.specs.Judging.{IsTaken}
 use Rattle.repl_top.specs.Session.{IsReplication, IsEnd, IsEnding, IsSession}
 
 -- the two clauses of `take`
@@ -21,7 +20,7 @@ abbrev pub Finds : Phase → List ℕ → Taken → Type 0
 Finds p bytes answer = (m : Message) (used : ℕ) → answer ≡ taken.Whole m used → (used ≤ length bytes) × Spells p m (take used bytes)
 
 abbrev pub TakesAll : Phase → List ℕ → Taken → Type 0
-TakesAll p bytes answer = (m : Message) (text rest : List ℕ) → IsTaken m → Spells p m text → bytes ≡ text ++ rest → (answer ≡ taken.Whole m (length text)) ⊎ (answer ≡ taken.Memory)
+TakesAll p bytes answer = (m : Message) (text rest : List ℕ) → Spells p m text → bytes ≡ text ++ rest → (answer ≡ taken.Whole m (length text)) ⊎ (answer ≡ taken.Memory)
 
 -- an answer that is neither a message nor a lack of memory
 pub record IsOther (answer : Taken) : Type 0 where
@@ -39,9 +38,9 @@ record IsFront (bytes : List ℕ) (m : Message) (used : ℕ) (w : Message) (text
   rest_is : drop used bytes ≡ rest
 
 front_is : (p : Phase) (bytes : List ℕ) (answer : Taken) (m : Message) (used : ℕ) → TakesAll p bytes answer → answer ≡ taken.Whole m used
-    → (w : Message) (text rest : List ℕ) → IsTaken w → Spells p w text → bytes ≡ text ++ rest → IsFront bytes m used w text rest
-front_is p bytes answer m used only is w text rest known spells parts =
-    elim (only w text rest known spells parts) [
+    → (w : Message) (text rest : List ℕ) → Spells p w text → bytes ≡ text ++ rest → IsFront bytes m used w text rest
+front_is p bytes answer m used only is w text rest spells parts =
+    elim (only w text rest spells parts) [
       | inl e ↦
           let used_is : used ≡ length text = cc in
           record { same = cc; length_is = used_is; rest_is = rw parts (drop_at text rest used (sym used_is)) }
@@ -49,9 +48,9 @@ front_is p bytes answer m used only is w text rest known spells parts =
     ]
 
 none_is : (p : Phase) (bytes : List ℕ) (answer : Taken) → TakesAll p bytes answer → IsOther answer
-    → (w : Message) (text rest : List ℕ) → IsTaken w → Spells p w text → bytes ≡ text ++ rest → ⊥
-none_is p bytes answer only other w text rest known spells parts =
-    elim (only w text rest known spells parts) [
+    → (w : Message) (text rest : List ℕ) → Spells p w text → bytes ≡ text ++ rest → ⊥
+none_is p bytes answer only other w text rest spells parts =
+    elim (only w text rest spells parts) [
       | inl e ↦ other.no_message w (length text) e
       | inr e ↦ other.memory_left e
     ]
@@ -67,17 +66,17 @@ end_then bytes answer m used found only is t test holds b b_is = (
   λ e.
       let all : used ≡ length bytes = (Decides-eqb used (length bytes)).0 (sym b_is ∙ e) in
       rw (test.0 holds, take_all used bytes (omega arith)) at (found m used is).1,
-  λ h. b_is ∙ (Decides-eqb used (length bytes)).1 (front_is phase.Front bytes answer m used only is terminate bytes [] tt h (sym (append-nil bytes))).length_is,
+  λ h. b_is ∙ (Decides-eqb used (length bytes)).1 (front_is phase.Front bytes answer m used only is terminate bytes [] h (sym (append-nil bytes))).length_is,
 )
 
 pub end_else : (bytes : List ℕ) (answer : Taken) (m : Message) (used : ℕ) → TakesAll phase.Front bytes answer → answer ≡ taken.Whole m used
     → (t : Bool) → (IsTrue t ↔ (m ≡ terminate)) → t ≡ false → (b : Bool) → b ≡ t → IsTrue b ↔ IsEnd bytes
 end_else bytes answer m used only is t test fails b b_is =
-    (λ e. absurd cc, λ h. b_is ∙ test.1 (front_is phase.Front bytes answer m used only is terminate bytes [] tt h (sym (append-nil bytes))).same)
+    (λ e. absurd cc, λ h. b_is ∙ test.1 (front_is phase.Front bytes answer m used only is terminate bytes [] h (sym (append-nil bytes))).same)
 
 pub end_other : (bytes : List ℕ) (answer : Taken) → TakesAll phase.Front bytes answer → IsOther answer → IsTrue false ↔ IsEnd bytes
 end_other bytes answer only other =
-    (λ e. absurd cc, λ h. absurd (none_is phase.Front bytes answer only other terminate bytes [] tt h (sym (append-nil bytes))))
+    (λ e. absurd cc, λ h. absurd (none_is phase.Front bytes answer only other terminate bytes [] h (sym (append-nil bytes))))
 
 -- ---- the query, and the end of the session
 
@@ -95,17 +94,17 @@ ending_then bytes answer m used found only is t test holds b part =
         identifies = rw (test.0 holds) at (found m used is).1;
         ends = rest.0 e;
       },
-      λ h. rest.1 (rw (front_is phase.Front bytes answer m used only is identify h.query h.rest tt h.identifies h.parts).rest_is h.ends),
+      λ h. rest.1 (rw (front_is phase.Front bytes answer m used only is identify h.query h.rest h.identifies h.parts).rest_is h.ends),
     )
 
 pub ending_else : (bytes : List ℕ) (answer : Taken) (m : Message) (used : ℕ) → TakesAll phase.Front bytes answer → answer ≡ taken.Whole m used
     → (t : Bool) → (IsTrue t ↔ (m ≡ identify)) → t ≡ false → IsTrue false ↔ IsEnding bytes
 ending_else bytes answer m used only is t test fails =
-    (λ e. absurd cc, λ h. sym fails ∙ test.1 (front_is phase.Front bytes answer m used only is identify h.query h.rest tt h.identifies h.parts).same)
+    (λ e. absurd cc, λ h. sym fails ∙ test.1 (front_is phase.Front bytes answer m used only is identify h.query h.rest h.identifies h.parts).same)
 
 pub ending_other : (bytes : List ℕ) (answer : Taken) → TakesAll phase.Front bytes answer → IsOther answer → IsTrue false ↔ IsEnding bytes
 ending_other bytes answer only other =
-    (λ e. absurd cc, λ h. absurd (none_is phase.Front bytes answer only other identify h.query h.rest tt h.identifies h.parts))
+    (λ e. absurd cc, λ h. absurd (none_is phase.Front bytes answer only other identify h.query h.rest h.identifies h.parts))
 
 -- ---- the session
 
@@ -130,14 +129,14 @@ session_then bytes answer m used found only is t test holds b part =
         asks = starts.2;
         goes_on = rest.0 e;
       },
-      λ h. rest.1 (rw (front_is phase.Startup bytes answer m used only is (start h.pairs) h.packet h.rest tt h.starts h.parts).rest_is h.goes_on),
+      λ h. rest.1 (rw (front_is phase.Startup bytes answer m used only is (start h.pairs) h.packet h.rest h.starts h.parts).rest_is h.goes_on),
     )
 
 pub session_else : (bytes : List ℕ) (answer : Taken) (m : Message) (used : ℕ) → TakesAll phase.Startup bytes answer → answer ≡ taken.Whole m used
     → (t : Bool) → (IsTrue t ↔ IsStart m) → t ≡ false → IsTrue false ↔ IsSession bytes
 session_else bytes answer m used only is t test fails =
-    (λ e. absurd cc, λ h. sym fails ∙ test.1 (h.pairs, (front_is phase.Startup bytes answer m used only is (start h.pairs) h.packet h.rest tt h.starts h.parts).same, h.asks))
+    (λ e. absurd cc, λ h. sym fails ∙ test.1 (h.pairs, (front_is phase.Startup bytes answer m used only is (start h.pairs) h.packet h.rest h.starts h.parts).same, h.asks))
 
 pub session_other : (bytes : List ℕ) (answer : Taken) → TakesAll phase.Startup bytes answer → IsOther answer → IsTrue false ↔ IsSession bytes
 session_other bytes answer only other =
-    (λ e. absurd cc, λ h. absurd (none_is phase.Startup bytes answer only other (start h.pairs) h.packet h.rest tt h.starts h.parts))
+    (λ e. absurd cc, λ h. absurd (none_is phase.Startup bytes answer only other (start h.pairs) h.packet h.rest h.starts h.parts))

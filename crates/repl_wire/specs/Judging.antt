@@ -5,7 +5,9 @@ use Rattle.std.specs.Prelude.{◌≡◌, ℕ, zero, suc, ◌+◌, ◌-◌, ◌||
 use Rattle.std.specs.Option.{option_map}
 use Rattle.std.specs.Int.{w32, from_be_bytes}
 use Rattle.repl_wire.specs.declared.startup.Pair.{Pair}
+use Rattle.repl_wire.specs.declared.startup.Startup.{Startup}
 use Rattle.repl_wire.specs.declared.startup.Startup.TheVariants as startup
+use Rattle.repl_wire.specs.declared.front.Front.{Front}
 use Rattle.repl_wire.specs.declared.front.Front.TheVariants as front
 use Rattle.repl_wire.specs.declared.fault.WireFault.{WireFault}
 use Rattle.repl_wire.specs.declared.fault.WireFault.TheVariants as fault
@@ -13,7 +15,7 @@ use Rattle.repl_wire.specs.declared.message.Phase.{Phase}
 use Rattle.repl_wire.specs.declared.message.Phase.TheVariants as phase
 use Rattle.repl_wire.specs.declared.message.Message.{Message}
 use Rattle.repl_wire.specs.declared.message.Message.TheVariants as message
-use Rattle.repl_wire.specs.declared.message.TheConstants.{STARTUP_LEAST, STARTUP_LIMIT, MESSAGE_LIMIT}
+use Rattle.repl_wire.specs.declared.message.TheConstants.{STARTUP_LEAST, STARTUP_LIMIT, MESSAGE_LIMIT, COPY_DATA_LIMIT}
 use Rattle.repl_wire.specs.declared.taking.Taken.{Taken}
 use Rattle.repl_wire.specs.declared.taking.Taken.TheVariants as taken
 use Rattle.repl_wire.specs.declared.fields.FieldFault.{FieldFault}
@@ -59,17 +61,25 @@ whole (x, rest) = if length rest == 0 then Ok x else Err (length rest)
 unfoldable pub parameters_of : List ℕ → Result (List Pair) ℕ
 parameters_of body = pairs_at (length body) body >>= whole
 
-unfoldable pub query_of : List ℕ → Result (List ℕ) ℕ
-query_of body = string_at body >>= whole
+unfoldable pub text_of : List ℕ → Result (List ℕ) ℕ
+text_of body = string_at body >>= whole
 
 unfoldable pub nothing_of : List ℕ → Result (Unit {0}) ℕ
 nothing_of body = whole (tt, body)
 
--- ---- frames
+-- bytes as they are
+unfoldable pub bytes_of : List ℕ → Result (List ℕ) ℕ
+bytes_of body = Ok body
 
 -- the number in the first four bytes
 abbrev pub number : List ℕ → ℕ
 number bytes = from_be_bytes w32 (take 4 bytes)
+
+-- two numbers, judged by their length alone
+unfoldable pub two_numbers_of : List ℕ → Result (ℕ × ℕ) ℕ
+two_numbers_of body = if length body == 8 then Ok (number body, number (drop 4 body)) else Err (length body)
+
+-- ---- frames
 
 -- The body behind a length field, where the whole frame is there, or nothing yet, or the field's fault at
 -- this place. The length is at least that of the shortest body, and at most the limit.
@@ -85,10 +95,16 @@ abbrev pub read_as : {A : Type 0} → (A → Message) → ℕ → Result A ℕ �
 read_as make end (Ok x) = taken.Whole (make x) end
 read_as make end (Err left) = taken.Wrong (fault.Body (end - left))
 
--- a startup packet's body, behind the length field: a code, and for version 3.0 the parameters
+-- a startup packet's body, behind the length field: a code, and fields that are read so
+abbrev pub read_packet : {A : Type 0} → (A → Startup) → (List ℕ → Result A ℕ) → List ℕ → Taken
+read_packet make read body = read_as (λ x. message.Startup (make x)) (length body + 4) (read (drop 4 body))
+
 unfoldable pub judge_packet : List ℕ → Taken
 judge_packet body =
-    if number body == 196_608 then read_as (λ pairs. message.Startup (startup.Params pairs)) (length body + 4) (parameters_of (drop 4 body))
+    if number body == 196_608 then read_packet (λ pairs. startup.Params pairs) parameters_of body
+    else if number body == 80_877_102 then read_packet (λ (ids : ℕ × ℕ). startup.Cancel ids.0 ids.1) two_numbers_of body
+    else if number body == 80_877_103 then read_packet (λ _. startup.Ssl) nothing_of body
+    else if number body == 80_877_104 then read_packet (λ _. startup.Gss) nothing_of body
     else taken.Wrong (fault.Code 4 (number body))
 
 abbrev pub on_frame : Result (Option (List ℕ)) WireFault → (List ℕ → Taken) → Taken
@@ -99,15 +115,19 @@ on_frame (Err f) read = taken.Wrong f
 unfoldable pub judge_startup : List ℕ → Taken
 judge_startup bytes = on_frame (frame_of 0 STARTUP_LEAST STARTUP_LIMIT bytes) judge_packet
 
--- a message of this kind, behind its type byte: its body has so many bytes at least, and is read so
-abbrev pub judge_message : {A : Type 0} → (A → Message) → ℕ → (List ℕ → Result A ℕ) → List ℕ → Taken
-judge_message make least read bytes = on_frame (frame_of 1 (least + 4) MESSAGE_LIMIT bytes) (λ body. read_as make (length body + 5) (read body))
+-- A message of this kind, behind its type byte: its body has so many bytes at least, its length field is
+-- at most the limit, and the body is read so.
+abbrev pub judge_message : {A : Type 0} → (A → Front) → ℕ → ℕ → (List ℕ → Result A ℕ) → List ℕ → Taken
+judge_message make least limit read bytes = on_frame (frame_of 1 (least + 4) limit bytes) (λ body. read_as (λ x. message.Front (make x)) (length body + 5) (read body))
 
 unfoldable pub judge_front : List ℕ → Taken
 judge_front [] = taken.Short
 judge_front (kind ∷ bytes) =
-    if kind == 81 then judge_message (λ text. message.Front (front.Query text)) 1 query_of bytes
-    else if kind == 88 then judge_message (λ _. message.Front front.Terminate) 0 nothing_of bytes
+    if kind == 81 then judge_message (λ text. front.Query text) 1 MESSAGE_LIMIT text_of bytes
+    else if kind == 100 then judge_message (λ piece. front.CopyData piece) 0 COPY_DATA_LIMIT bytes_of bytes
+    else if kind == 99 then judge_message (λ _. front.CopyDone) 0 MESSAGE_LIMIT nothing_of bytes
+    else if kind == 102 then judge_message (λ text. front.CopyFail text) 1 MESSAGE_LIMIT text_of bytes
+    else if kind == 88 then judge_message (λ _. front.Terminate) 0 MESSAGE_LIMIT nothing_of bytes
     else taken.Wrong (fault.Kind 0)
 
 abbrev pub judge : Phase → List ℕ → Taken
@@ -136,16 +156,3 @@ IsJudged taken.Memory judged = Unit {0}
 IsJudged (taken.Whole m used) judged = judged ≡ taken.Whole m used
 IsJudged taken.Short judged = judged ≡ taken.Short
 IsJudged (taken.Wrong f) judged = judged ≡ taken.Wrong f
-
--- the messages that are read so far; any other is refused at its type byte or its code
-abbrev pub IsTaken : Message → Type 0
-IsTaken (message.Startup (startup.Params pairs)) = Unit {0}
-IsTaken (message.Startup startup.Ssl) = ⊥
-IsTaken (message.Startup startup.Gss) = ⊥
-IsTaken (message.Startup (startup.Cancel pid key)) = ⊥
-IsTaken (message.Front (front.Query text)) = Unit {0}
-IsTaken (message.Front front.Terminate) = Unit {0}
-IsTaken (message.Front (front.CopyData bytes)) = ⊥
-IsTaken (message.Front front.CopyDone) = ⊥
-IsTaken (message.Front (front.CopyFail text)) = ⊥
-IsTaken (message.Back m) = ⊥

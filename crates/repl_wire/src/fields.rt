@@ -1,7 +1,8 @@
 ghost use Rattle.std.specs.Prelude.{◌≡◌, ◌≤◌, List, length, take, drop};
-ghost use Rattle.repl_wire.specs.Judging.{Gives, string_at, pairs_at, parameters_of, query_of, nothing_of};
+ghost use Rattle.repl_wire.specs.Judging.{Gives, string_at, pairs_at, parameters_of, text_of, nothing_of, bytes_of, two_numbers_of};
 
 use crate::startup::{Pair, Pairs};
+use bytes::Bytes;
 use repl_text::Text;
 use std::alloc::{AllocError, AllocFailed, Global};
 
@@ -84,10 +85,10 @@ pub(crate) fn read_parameters(alloc: Global, body: &[u8]) -> Result<Pairs, Field
     }
 }
 
-/// The text that a query's body spells.
-#[tactic(auto, unfolding(crate::specs::Judging::query_of))]
-pub(crate) fn read_query(alloc: Global, body: &[u8]) -> Result<Text, FieldFault>
-    ensures { Gives (λ x. x) result (query_of body.now) }
+/// A body of one string.
+#[tactic(auto, unfolding(crate::specs::Judging::text_of))]
+pub(crate) fn read_text(alloc: Global, body: &[u8]) -> Result<Text, FieldFault>
+    ensures { Gives (λ x. x) result (text_of body.now) }
 {
     let (text, rest) = string_of(alloc, body)?;
     if !rest.is_empty() {
@@ -105,5 +106,27 @@ pub(crate) fn read_nothing(body: &[u8]) -> Result<(), FieldFault>
         Ok(())
     } else {
         Err(FieldFault::Left(body.len()))
+    }
+}
+
+/// A body of bytes, as many as there are.
+#[tactic(auto, unfolding(crate::specs::Judging::bytes_of))]
+pub(crate) fn read_bytes(alloc: Global, body: &[u8]) -> Result<Bytes, FieldFault>
+    ensures { Gives (λ x. x) result (bytes_of body.now) }
+{
+    Ok(Bytes::copy_from_slice(alloc, body)?)
+}
+
+/// A body of two numbers.
+#[tactic(auto, unfolding(crate::specs::Judging::two_numbers_of))]
+pub(crate) fn read_two_numbers(body: &[u8]) -> Result<(u32, u32), FieldFault>
+    ensures { Gives (λ x. x) result (two_numbers_of body.now) }
+{
+    match body {
+        [a, b, c, d, e, f, g, h] => Ok((
+            u32::from_be_bytes([*a, *b, *c, *d]),
+            u32::from_be_bytes([*e, *f, *g, *h]),
+        )),
+        _ => Err(FieldFault::Left(body.len())),
     }
 }

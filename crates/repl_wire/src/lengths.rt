@@ -1,10 +1,12 @@
 //! How many bytes the spellings take, counted without writing them. The counts stop at 2^64 - 1.
 ghost use Rattle.std.specs.Prelude.{◌≡◌, ℕ, ◌+◌, length, List};
 ghost use Rattle.std.specs.List.{flat_map};
-ghost use Rattle.repl_wire.specs.Message.{string, field, column, error_field, counted, ended, int16, back_body};
+ghost use Rattle.repl_wire.specs.Message.{string, field, column, error_field, pair, counted, ended, int16, startup_body, front_body, back_body};
 ghost use Rattle.repl_wire.specs.Encoding.{capped};
 
 use crate::back::{Back, Column, ErrorField, Field};
+use crate::front::Front;
+use crate::startup::{Pair, Startup};
 use repl_text::Text;
 
 fn of_string(text: &Text) -> u64
@@ -88,5 +90,43 @@ pub(crate) fn of_back_body(message: &Back) -> u64
         Back::CopyData(bytes) => bytes.len() as u64,
         Back::CopyDone => 0,
         Back::CopyBoth { formats, .. } => of_formats(formats.as_slice()).saturating_add(1),
+    }
+}
+
+fn of_pair(entry: &Pair) -> u64
+    ensures { result ≡ capped (length (pair entry.now)) }
+{
+    of_string(&entry.name).saturating_add(of_string(&entry.value))
+}
+
+fn of_pairs(pairs: &[Pair]) -> u64
+    ensures { result ≡ capped (length (ended pair pairs.now)) }
+{
+    let mut sum = 1u64;
+    for entry in pairs {
+        sum = sum.saturating_add(of_pair(entry));
+    }
+    sum
+}
+
+/// The length of a startup packet's body.
+pub(crate) fn of_startup_body(message: &Startup) -> u64
+    ensures { result ≡ capped (length (startup_body message.now)) }
+{
+    match message {
+        Startup::Params(pairs) => of_pairs(pairs.as_slice()).saturating_add(4),
+        Startup::Ssl | Startup::Gss => 4,
+        Startup::Cancel { .. } => 12,
+    }
+}
+
+/// The length of a client message's body.
+pub(crate) fn of_front_body(message: &Front) -> u64
+    ensures { result ≡ capped (length (front_body message.now)) }
+{
+    match message {
+        Front::Query(text) | Front::CopyFail(text) => of_string(text),
+        Front::CopyData(bytes) => bytes.len() as u64,
+        Front::CopyDone | Front::Terminate => 0,
     }
 }

@@ -6,6 +6,15 @@ use std::marker::Model;
 /// The code of protocol version 3.0.
 pub const PROTOCOL_3_0: u32 = 196_608;
 
+/// The code that asks to cancel.
+pub(crate) const CANCEL_REQUEST: u32 = 80_877_102;
+
+/// The code that asks for TLS.
+pub(crate) const SSL_REQUEST: u32 = 80_877_103;
+
+/// The code that asks for GSS encryption.
+pub(crate) const GSS_REQUEST: u32 = 80_877_104;
+
 /// A parameter of a startup packet: a name, which is not empty, and its value.
 #[derive(Debug, Drop)]
 pub struct Pair {

@@ -1,13 +1,18 @@
 ghost use Rattle.std.specs.Prelude.{◌≡◌, ℕ, ◌+◌, ◌<◌, ◌≤◌, ◌⊎◌, List, ◌++◌, length, take, IfOk, IfErr, MatchOption};
 ghost use Rattle.std.specs.Option.{option_copied};
 ghost use Rattle.repl_wire.specs.Message.{Spells};
-ghost use Rattle.repl_wire.specs.Judging.{IsJudged, IsTaken, judge, judge_startup, judge_front, judge_packet, judge_message, query_of, nothing_of, frame_of, number, refusal};
+ghost use Rattle.repl_wire.specs.Judging.{IsJudged, judge, judge_startup, judge_front, judge_packet, judge_message, read_as, parameters_of, text_of, nothing_of, bytes_of, two_numbers_of, frame_of, number, refusal};
 
 use crate::fault::WireFault;
-use crate::fields::{FieldFault, read_nothing, read_parameters, read_query};
+use crate::fields::{
+    FieldFault, read_bytes, read_nothing, read_parameters, read_text, read_two_numbers,
+};
 use crate::front::Front;
-use crate::message::{MESSAGE_LIMIT, Message, Phase, STARTUP_LEAST, STARTUP_LIMIT};
-use crate::startup::{PROTOCOL_3_0, Startup};
+use crate::message::{
+    COPY_DATA_LIMIT, MESSAGE_LIMIT, Message, Phase, STARTUP_LEAST, STARTUP_LIMIT,
+};
+use crate::startup::{CANCEL_REQUEST, GSS_REQUEST, PROTOCOL_3_0, SSL_REQUEST, Startup};
+use repl_text::Text;
 use std::alloc::Global;
 
 /// What stands at the front of a buffer.
@@ -25,15 +30,15 @@ pub enum Taken {
 
 /// Reads the message at the front of the bytes, whatever follows it.
 ///
-/// Of startup packets it knows the parameters of protocol 3.0, of the client's messages Query and
-/// Terminate. Any other is refused at its code or its type byte.
+/// It reads every message that may be sent in the phase: every startup packet, or every message of the
+/// client. A packet of another code is refused at its code, another message at its type byte.
 pub fn take(alloc: Global, phase: Phase, bytes: &[u8]) -> Taken
     // What is read is spelled so.
     ensures found { (m : Message) (used : ℕ) → result ≡ Taken.Whole m used →
         (used ≤ length bytes.now) × Spells phase m (take used bytes.now) }
     // What is spelled so is read, whatever follows it, unless memory runs out.
-    ensures only { (m : Message) (text rest : List ℕ) → IsTaken m → Spells phase m text →
-        bytes.now ≡ text ++ rest → (result ≡ Taken.Whole m (length text)) ⊎ (result ≡ Taken.Memory) }
+    ensures only { (m : Message) (text rest : List ℕ) → Spells phase m text → bytes.now ≡ text ++ rest →
+        (result ≡ Taken.Whole m (length text)) ⊎ (result ≡ Taken.Memory) }
     // Which answer it is, and which fault.
     ensures exact { IsJudged result (judge phase bytes.now) }
 {
@@ -102,17 +107,49 @@ fn take_packet(alloc: Global, body: &[u8]) -> Taken
     ensures { IsJudged result (judge_packet body.now) }
 {
     let used = body.len() + 4;
-    let (code, parameters) = body.split_at(4);
-    let code = u32::from_be_bytes([code[0], code[1], code[2], code[3]]);
-    if code != PROTOCOL_3_0 {
-        return Taken::Wrong(WireFault::Code {
-            place: 4,
-            said: code,
-        });
+    let (code, fields) = body.split_at(4);
+    match u32::from_be_bytes([code[0], code[1], code[2], code[3]]) {
+        PROTOCOL_3_0 => take_parameters(alloc, fields, used),
+        CANCEL_REQUEST => take_cancel(fields, used),
+        SSL_REQUEST => take_request(Startup::Ssl, fields, used),
+        GSS_REQUEST => take_request(Startup::Gss, fields, used),
+        said => Taken::Wrong(WireFault::Code { place: 4, said }),
     }
-    match read_parameters(alloc, parameters) {
+}
+
+/// The packet of these parameters, which end at the place `used`.
+fn take_parameters(alloc: Global, fields: &[u8], used: usize) -> Taken
+    ensures { IsJudged result (read_as (λ pairs. Message.Startup (Startup.Params pairs)) used (parameters_of fields.now)) }
+{
+    match read_parameters(alloc, fields) {
         Ok(pairs) => Taken::Whole {
             message: Message::Startup(Startup::Params(pairs)),
+            used,
+        },
+        Err(fault) => not_read(fault, used),
+    }
+}
+
+/// The packet that asks to cancel, of a session's number and key, which end at the place `used`.
+fn take_cancel(fields: &[u8], used: usize) -> Taken
+    ensures { IsJudged result (read_as (λ (ids : ℕ × ℕ). Message.Startup (Startup.Cancel ids.0 ids.1)) used (two_numbers_of fields.now)) }
+{
+    match read_two_numbers(fields) {
+        Ok((pid, key)) => Taken::Whole {
+            message: Message::Startup(Startup::Cancel { pid, key }),
+            used,
+        },
+        Err(fault) => not_read(fault, used),
+    }
+}
+
+/// A packet that is only its code, where nothing stands behind it up to the place `used`.
+fn take_request(request: Startup, fields: &[u8], used: usize) -> Taken
+    ensures { IsJudged result (read_as (λ _. Message.Startup request) used (nothing_of fields.now)) }
+{
+    match read_nothing(fields) {
+        Ok(()) => Taken::Whole {
+            message: Message::Startup(request),
             used,
         },
         Err(fault) => not_read(fault, used),
@@ -125,19 +162,25 @@ fn take_front(alloc: Global, bytes: &[u8]) -> Taken
 {
     match bytes {
         [] => Taken::Short,
-        [b'Q', rest @ ..] => take_query(alloc, rest),
-        [b'X', rest @ ..] => take_terminate(rest),
+        [b'Q', rest @ ..] => take_text(alloc, Front::Query, rest),
+        [b'd', rest @ ..] => take_copy_data(alloc, rest),
+        [b'c', rest @ ..] => take_nothing(Front::CopyDone, rest),
+        [b'f', rest @ ..] => take_text(alloc, Front::CopyFail, rest),
+        [b'X', rest @ ..] => take_nothing(Front::Terminate, rest),
         [_, ..] => Taken::Wrong(WireFault::Kind(0)),
     }
 }
 
-fn take_query(alloc: Global, bytes: &[u8]) -> Taken
-    ensures { IsJudged result (judge_message (λ text. Message.Front (Front.Query text)) 1 query_of bytes.now) }
+/// Reads a message that is made of the one string in its body.
+fn take_text<F: FnOnce(Text) -> Front>(alloc: Global, make: F, bytes: &[u8]) -> Taken
+    requires { F.IsAlwaysCallable make }
+    ensures { (made : List ℕ → Front) → ((text : List ℕ) (m : Front) → F.post make text m → m ≡ made text) →
+        IsJudged result (judge_message made 1 MESSAGE_LIMIT text_of bytes.now) }
 {
     match frame_at(1, 5, MESSAGE_LIMIT, bytes) {
-        Ok(Some(body)) => match read_query(alloc, body) {
+        Ok(Some(body)) => match read_text(alloc, body) {
             Ok(text) => Taken::Whole {
-                message: Message::Front(Front::Query(text)),
+                message: Message::Front(make(text)),
                 used: body.len() + 5,
             },
             Err(fault) => not_read(fault, body.len() + 5),
@@ -147,13 +190,30 @@ fn take_query(alloc: Global, bytes: &[u8]) -> Taken
     }
 }
 
-fn take_terminate(bytes: &[u8]) -> Taken
-    ensures { IsJudged result (judge_message (λ _. Message.Front Front.Terminate) 0 nothing_of bytes.now) }
+fn take_copy_data(alloc: Global, bytes: &[u8]) -> Taken
+    ensures { IsJudged result (judge_message (λ piece. Front.CopyData piece) 0 COPY_DATA_LIMIT bytes_of bytes.now) }
+{
+    match frame_at(1, 4, COPY_DATA_LIMIT, bytes) {
+        Ok(Some(body)) => match read_bytes(alloc, body) {
+            Ok(piece) => Taken::Whole {
+                message: Message::Front(Front::CopyData(piece)),
+                used: body.len() + 5,
+            },
+            Err(fault) => not_read(fault, body.len() + 5),
+        },
+        Ok(None) => Taken::Short,
+        Err(fault) => Taken::Wrong(fault),
+    }
+}
+
+/// Reads a message that is only its type byte and its length.
+fn take_nothing(message: Front, bytes: &[u8]) -> Taken
+    ensures { IsJudged result (judge_message (λ _. message) 0 MESSAGE_LIMIT nothing_of bytes.now) }
 {
     match frame_at(1, 4, MESSAGE_LIMIT, bytes) {
         Ok(Some(body)) => match read_nothing(body) {
             Ok(()) => Taken::Whole {
-                message: Message::Front(Front::Terminate),
+                message: Message::Front(message),
                 used: body.len() + 5,
             },
             Err(fault) => not_read(fault, body.len() + 5),

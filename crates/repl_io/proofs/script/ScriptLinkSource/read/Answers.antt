@@ -1,7 +1,7 @@
 use Rattle.std.proofs.Common.{◌≡◌, ◌<◌, inl, inr, arith, refl, ap, ◌∙◌, length}
 use Rattle.std.proofs.lemmas.Grind.{common_steps}
 use Rattle.repl_io.specs.Step.{bytes_of}
-use Rattle.repl_io.proofs.Steps.{gives, skips, step-is, answers-quiet}
+use Rattle.repl_io.proofs.Steps.{gives, skips, step-is, gives-step}
 use Rattle.repl_io.proofs.script.ScriptLinkSource.read.Goals as goal
 use Rattle.repl_io.proofs.script.ScriptLinkSource.read.Goals.{then-self-len-2, else-self-len-2}
 
@@ -18,12 +18,29 @@ returns-in-Fail-clause-moved c =
 pub returns-then-count-eq0-clause-script : goal.returns-then-count-eq0-clause-script
 returns-then-count-eq0-clause-script c =
     let s = c.args.self.now in
+    let n = c.copy_front-count.result in
     let below : s.next < length s.steps.items = omega arith in
     let at = step-is s.steps.items s.next c.index.result.now below c.index.ensures ∙ c.in-Give.is in
     record {
       steps_stay = refl;
       at_end = (λ e. cc, λ h. absurd (omega arith));
-      at_step = λ _. answers-quiet s _ c.in-Give.bytes (length c.args.room.now) c.copy_front-count.result at c.requires c.if-count-eq0.true (grind (arith, common_steps));
+      end_stays = λ h. absurd (omega arith);
+      at_step = λ _. gives-step s _ c.in-Give.bytes _ (length c.args.room.now) n at c.requires (grind (arith, common_steps)) (λ _. refl) (λ h. absurd (omega (arith, h, c.if-count-eq0.true)))
+          (elim c.if-self-len-2.branch [ then-self-len-2 w ↦ inr (ap (λ (t : _). t.1.1.0) w.self-is, ap (λ (t : _). t.1.1.1.0) w.self-is, grind arith) | else-self-len-2 w ↦ inl (ap (λ (t : _). t.1.1.0) w.self-is, ap (λ (t : _). t.1.1.1.0) w.self-is, λ e. grind arith) ]);
+    }
+
+pub returns-else-count-eq0-clause-script : goal.returns-else-count-eq0-clause-script
+returns-else-count-eq0-clause-script c =
+    let s = c.args.self.now in
+    let n = c.copy_front-count.result in
+    let below : s.next < length s.steps.items = omega arith in
+    let at = step-is s.steps.items s.next c.index.result.now below c.index.ensures ∙ c.in-Give.is in
+    record {
+      steps_stay = refl;
+      at_end = (λ e. cc, λ h. absurd (omega arith));
+      end_stays = λ h. absurd (omega arith);
+      at_step = λ _. gives-step s _ c.in-Give.bytes _ (length c.args.room.now) n at c.requires (grind (arith, common_steps)) (λ e. absurd (c.if-count-eq0.false e)) (λ _. refl)
+          (elim c.if-self-len-2.branch [ then-self-len-2 w ↦ inr (ap (λ (t : _). t.1.1.0) w.self-is, ap (λ (t : _). t.1.1.1.0) w.self-is, grind arith) | else-self-len-2 w ↦ inl (ap (λ (t : _). t.1.1.0) w.self-is, ap (λ (t : _). t.1.1.1.0) w.self-is, λ e. grind arith) ]);
     }
 
 pub returns-else-count-eq0-clause-moved : goal.returns-else-count-eq0-clause-moved

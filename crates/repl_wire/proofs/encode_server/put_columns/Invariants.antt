@@ -1,7 +1,7 @@
 use Rattle.std.proofs.Common.{◌≡◌, ◌++◌, length, take}
 use Rattle.std.specs.List.{flat_map}
 use Rattle.repl_wire.specs.Message.{int16, column}
-use Rattle.repl_wire.proofs.encode.put_columns.Given as goal
+use Rattle.repl_wire.proofs.encode_server.put_columns.Given as goal
 
 abbrev pub invariant-loop-entry : goal.invariant-loop-entry
 invariant-loop-entry l =

@@ -2,7 +2,7 @@ use Rattle.std.proofs.Common.{length}
 use Rattle.repl_wire.specs.Message.{int16, field}
 use Rattle.repl_wire.proofs.Counting.{added_more}
 use Rattle.repl_wire.proofs.Extending.{Extends-after, at_err}
-use Rattle.repl_wire.proofs.encode.put_fields.Goals as goal
+use Rattle.repl_wire.proofs.encode_server.put_fields.Goals as goal
 
 pub loop-entry-preserved : goal.loop-entry-preserved
 loop-entry-preserved c =

@@ -1,5 +1,5 @@
 use Rattle.repl_wire.proofs.Extending.{Extends-after, at_err}
-use Rattle.repl_wire.proofs.encode.put_error_fields.Goals as goal
+use Rattle.repl_wire.proofs.encode_server.put_error_fields.Goals as goal
 
 pub returns-in_err-put_error_field-clause-err : goal.returns-in_err-put_error_field-clause-err
 returns-in_err-put_error_field-clause-err c =

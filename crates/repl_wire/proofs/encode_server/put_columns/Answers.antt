@@ -1,7 +1,7 @@
 use Rattle.std.proofs.Common.{ℕ, List, Option, length, ap, arith}
 use Rattle.repl_wire.specs.Message.{column, counted}
 use Rattle.repl_wire.proofs.Counting.{entry_fits}
-use Rattle.repl_wire.proofs.encode.put_columns.Goals as goal
+use Rattle.repl_wire.proofs.encode_server.put_columns.Goals as goal
 
 pub put_column-requires : goal.put_column-requires
 put_column-requires c =

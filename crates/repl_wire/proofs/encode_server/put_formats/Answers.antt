@@ -1,6 +1,6 @@
 use Rattle.std.proofs.Common.{◌∙◌}
 use Rattle.repl_wire.proofs.Extending.{Extends-by, at_err}
-use Rattle.repl_wire.proofs.encode.put_formats.Goals as goal
+use Rattle.repl_wire.proofs.encode_server.put_formats.Goals as goal
 
 pub returns-in_err-extend_from_slice-clause-err : goal.returns-in_err-extend_from_slice-clause-err
 returns-in_err-extend_from_slice-clause-err c =

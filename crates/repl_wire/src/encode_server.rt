@@ -1,3 +1,4 @@
+//! Encoding what a server sends.
 ghost use Rattle.std.specs.Prelude.{◌≡◌, ℕ, ◌+◌, ◌<◌, ◌≤◌, ◌^◌, ◌∷◌, ◌++◌, [], length, OnOk, OnErr, Err, List, ℤ};
 ghost use Rattle.repl_wire.specs.Message.{string, field, column, error_field, counted, ended, int16, int32, signed16, signed32, back_kind, back_body, back_spelling, back_limit, status_byte, framed};
 ghost use Rattle.repl_wire.specs.Encoding.{capped, Extends};
@@ -7,9 +8,10 @@ use crate::back::{
     TransactionStatus,
 };
 use crate::fault::EncodeFault;
+use crate::framing::{length_field, put_head, whole_or_none};
 use crate::lengths::of_back_body;
 use crate::message::{COPY_DATA_LIMIT, MESSAGE_LIMIT};
-use repl_text::Text;
+use crate::put::{put_byte, put_bytes, put_pair, put_string, put_strings, put_u32};
 use std::alloc::AllocError;
 
 /// Appends the one spelling of a server's message. Where that is not done, `out` is as it was.
@@ -21,18 +23,10 @@ pub fn encode_back(message: &Back, out: &mut Vec<u8>) -> Result<(), EncodeFault>
         (back_limit message.now < length (back_body message.now) + 4) × (n ≡ capped (length (back_body message.now) + 4)) }
     ensures err { OnErr result (out.new.items ≡ out.old.items) }
 {
-    let length = of_back_body(message).saturating_add(4);
-    if length > u64::from(limit_of(message)) {
-        return Err(EncodeFault::TooLong { length });
-    }
+    let said = length_field(of_back_body(message), limit_of(message))?;
     let start = out.len();
-    match put_back(out, message, length as u32) {
-        Ok(()) => Ok(()),
-        Err(_) => {
-            out.truncate(start);
-            Err(EncodeFault::Memory)
-        }
-    }
+    let written = put_back(out, message, said);
+    whole_or_none(out, start, written)
 }
 
 /// The greatest length field of the message.
@@ -51,9 +45,7 @@ fn put_back(out: &mut Vec<u8>, message: &Back, said: u32) -> Result<(), AllocErr
     ensures ok { OnOk result (out.new.items ≡ out.old.items ++ back_spelling message.now) }
     ensures err { OnErr result (Extends out.old.items out.new.items) }
 {
-    out.reserve(said as usize + 1)?;
-    out.push(kind_of(message))?;
-    put_u32(out, said)?;
+    put_head(out, kind_of(message), said)?;
     put_body(out, message)
 }
 
@@ -75,22 +67,6 @@ fn kind_of(message: &Back) -> u8
         Back::CopyDone => b'c',
         Back::CopyBoth { .. } => b'W',
     }
-}
-
-fn put_u32(out: &mut Vec<u8>, number: u32) -> Result<(), AllocError>
-    ensures ok { OnOk result (out.new.items ≡ out.old.items ++ int32 number) }
-    ensures err { OnErr result (Extends out.old.items out.new.items) }
-{
-    out.extend_from_slice(&number.to_be_bytes())
-}
-
-fn put_string(out: &mut Vec<u8>, text: &Text) -> Result<(), AllocError>
-    ensures ok { OnOk result (out.new.items ≡ out.old.items ++ string text.now) }
-    ensures err { OnErr result (Extends out.old.items out.new.items) }
-{
-    out.extend_from_slice(text.as_slice())?;
-    out.push(0)?;
-    Ok(())
 }
 
 /// Appends a column of RowDescription.
@@ -226,25 +202,6 @@ fn put_formats(out: &mut Vec<u8>, formats: &Formats) -> Result<(), AllocError>
     Ok(())
 }
 
-/// Appends a number of four bytes and another.
-fn put_pair(out: &mut Vec<u8>, first: u32, second: u32) -> Result<(), AllocError>
-    ensures ok { OnOk result (out.new.items ≡ out.old.items ++ (int32 first ++ int32 second)) }
-    ensures err { OnErr result (Extends out.old.items out.new.items) }
-{
-    put_u32(out, first)?;
-    put_u32(out, second)?;
-    Ok(())
-}
-
-/// Appends a string and another.
-fn put_strings(out: &mut Vec<u8>, first: &Text, second: &Text) -> Result<(), AllocError>
-    ensures ok { OnOk result (out.new.items ≡ out.old.items ++ (string first.now ++ string second.now)) }
-    ensures err { OnErr result (Extends out.old.items out.new.items) }
-{
-    put_string(out, first)?;
-    put_string(out, second)
-}
-
 /// Appends what a copy's beginning says of it.
 fn put_copy(out: &mut Vec<u8>, format: u8, formats: &Formats) -> Result<(), AllocError>
     ensures ok { OnOk result (out.new.items ≡ out.old.items ++ format ∷ counted int16 formats.now) }
@@ -252,21 +209,6 @@ fn put_copy(out: &mut Vec<u8>, format: u8, formats: &Formats) -> Result<(), Allo
 {
     out.push(format)?;
     put_formats(out, formats)
-}
-
-fn put_byte(out: &mut Vec<u8>, byte: u8) -> Result<(), AllocError>
-    ensures ok { OnOk result (out.new.items ≡ out.old.items ++ byte ∷ []) }
-    ensures err { OnErr result (Extends out.old.items out.new.items) }
-{
-    out.push(byte)?;
-    Ok(())
-}
-
-fn put_bytes(out: &mut Vec<u8>, bytes: &[u8]) -> Result<(), AllocError>
-    ensures ok { OnOk result (out.new.items ≡ out.old.items ++ bytes.now) }
-    ensures err { OnErr result (Extends out.old.items out.new.items) }
-{
-    out.extend_from_slice(bytes)
 }
 
 fn status_of(status: TransactionStatus) -> u8
