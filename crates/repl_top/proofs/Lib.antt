@@ -6,3 +6,4 @@ pub mod Parameters
 pub mod Sessions
 pub mod Messages
 pub mod Ends
+pub mod Steps

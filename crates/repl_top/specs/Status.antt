@@ -1,5 +1,5 @@
 -- How a program's end is told to its caller.
-use Rattle.std.specs.Prelude.{ℕ, List, [], ◌∷◌, ◌++◌, codes}
+use Rattle.std.specs.Prelude.{ℕ, Bool, true, false, List, [], ◌∷◌, ◌++◌, codes}
 use Rattle.std.specs.Fmt.{decimal}
 use Rattle.repl_top.specs.declared.status.Status.{Status}
 use Rattle.repl_top.specs.declared.status.Status.TheVariants as status
@@ -22,3 +22,21 @@ line_of status.ReadFault = codes "ReadFault" ++ 10 ∷ []
 line_of status.WriteFault = codes "WriteFault" ++ 10 ∷ []
 line_of status.TurnsSpent = codes "TurnsSpent" ++ 10 ∷ []
 line_of status.Memory = codes "Memory" ++ 10 ∷ []
+
+abbrev pub is_read_fault : Status → Bool
+is_read_fault status.ReadFault = true
+is_read_fault status.Ok = false
+is_read_fault (status.Usage word) = false
+is_read_fault (status.BadInput place) = false
+is_read_fault status.WriteFault = false
+is_read_fault status.TurnsSpent = false
+is_read_fault status.Memory = false
+
+abbrev pub is_write_fault : Status → Bool
+is_write_fault status.WriteFault = true
+is_write_fault status.Ok = false
+is_write_fault (status.Usage word) = false
+is_write_fault (status.BadInput place) = false
+is_write_fault status.ReadFault = false
+is_write_fault status.TurnsSpent = false
+is_write_fault status.Memory = false

@@ -1,7 +1,7 @@
 -- What a run of a command leaves written.
 use Rattle.std.specs.Prelude.{◌≡◌, ℕ, ◌^◌, List, take}
 use Rattle.repl_counts.specs.Counts.{Rose, RoseBy}
-use Rattle.repl_counts.specs.Told.{Told, IfTold, Gained, Kept}
+use Rattle.repl_counts.specs.Told.{Told, IfTold, Gained, Lost, Kept}
 use Rattle.repl_io.specs.Sink.{WritesFront}
 use Rattle.repl_top.specs.declared.words.Identity.{Identity}
 use Rattle.repl_top.specs.declared.status.Status.{Status}
@@ -27,6 +27,16 @@ pub record IsCut (words : List (List ℕ)) (written written' : Told) : Type 0 wh
   pub identity : Identity
   pub command : IsIdentify words identity
   pub front : WritesFront (answer_bytes identity) written written'
+
+-- at these ends the whole input was read, or as much of it as is read at most, and no more
+abbrev pub HasRead : Status → Told → Told → Type 0
+HasRead status.Ok left left' = IfTold left (λ bytes. Lost left left' (take INPUT_LIMIT bytes))
+HasRead (status.BadInput place) left left' = IfTold left (λ bytes. Lost left left' (take INPUT_LIMIT bytes))
+HasRead (status.Usage word) left left' = Kept left left'
+HasRead status.ReadFault left left' = Unit {0}
+HasRead status.WriteFault left left' = IfTold left (λ bytes. Lost left left' (take INPUT_LIMIT bytes))
+HasRead status.TurnsSpent left left' = Unit {0}
+HasRead status.Memory left left' = Unit {0}
 
 -- nothing is written at these ends
 abbrev pub Unwritten : Status → Told → Told → Type 0

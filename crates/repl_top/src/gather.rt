@@ -1,7 +1,8 @@
 ghost use Rattle.std.specs.Prelude.{◌≡◌, ℕ, ◌^◌, List, take, IfOk, Err};
-ghost use Rattle.repl_counts.specs.Counts.{Rose, RoseBy};
-ghost use Rattle.repl_counts.specs.Told.{IfTold};
+ghost use Rattle.repl_counts.specs.Counts.{RoseBy, RoseExactly};
+ghost use Rattle.repl_counts.specs.Told.{IfTold, Lost};
 ghost use Rattle.repl_top.specs.declared.gather.Stop.TheVariants as stop;
+ghost use Rattle.repl_top.specs.Gathering.{has_failed};
 
 use crate::tool::{INPUT_LIMIT, TURNS};
 use repl_io::{Got, Source};
@@ -34,7 +35,9 @@ impl From<AllocError> for Stop {
 /// Reads the whole input, or its first `INPUT_LIMIT` bytes where there are more.
 pub(crate) fn gather<S: Source>(alloc: Global, input: &mut S) -> Result<Vec<u8>, Stop>
     ensures bytes { IfOk result (λ bytes. IfTold (S.left input.old) (λ left. bytes.items ≡ take INPUT_LIMIT left)) }
-    ensures fault { result ≡ Err stop.ReadFault → Rose (S.faults input.old) (S.faults input.new) }
+    // Those bytes were read, and no others.
+    ensures lost { IfOk result (λ bytes. Lost (S.left input.old) (S.left input.new) bytes.items) }
+    ensures fault { RoseExactly (has_failed result) (S.faults input.old) (S.faults input.new) }
     ensures spent { result ≡ Err stop.TurnsSpent → RoseBy (2 ^ 62) (S.quiets input.old) (S.quiets input.new) }
 {
     let mut bytes = Vec::new(alloc);

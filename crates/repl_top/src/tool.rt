@@ -1,11 +1,12 @@
 ghost use Rattle.std.specs.Prelude.{◌≡◌, ℕ, ◌^◌, ◌⊎◌, ◌↔◌, List, Some, take};
-ghost use Rattle.repl_counts.specs.Counts.{Rose, RoseBy};
+ghost use Rattle.repl_counts.specs.Counts.{Rose, RoseBy, RoseExactly};
 ghost use Rattle.repl_counts.specs.Told.{IfTold, Gained, Kept};
 ghost use Rattle.repl_io.specs.Sink.{WritesFront};
 ghost use Rattle.repl_top.specs.Words.{IsIdentify, IsCommandLine, IsUsage, texts};
 ghost use Rattle.repl_top.specs.Session.{IsSession, IsRefusedAt};
 ghost use Rattle.repl_top.specs.Answer.{answer_bytes};
-ghost use Rattle.repl_top.specs.Tool.{Answers, IsCut, Unwritten, Identifies, Replies};
+ghost use Rattle.repl_top.specs.Status.{is_read_fault, is_write_fault};
+ghost use Rattle.repl_top.specs.Tool.{Answers, IsCut, HasRead, Unwritten, Identifies, Replies};
 
 use crate::answer::answer;
 use crate::gather::{Stop, gather};
@@ -38,11 +39,13 @@ pub fn run_tool<S: Source, K: Sink>(
     // At Ok the input is a session, and its whole answer is written.
     ensures answered { result ≡ Status.Ok → Answers (texts words.now) (K.written out.old) (K.written out.new) }
     ensures session { result ≡ Status.Ok → IfTold (S.left input.old) (λ bytes. IsSession (take INPUT_LIMIT bytes)) }
-    // Each other end has its cause.
+    // Those bytes are read, and no others.
+    ensures has_read { HasRead result (S.left input.old) (S.left input.new) }
+    // Each other end has its cause, and a fault is never passed over.
     ensures bad_input { (place : ℕ) → result ≡ Status.BadInput place →
         IfTold (S.left input.old) (λ bytes. IsRefusedAt (take INPUT_LIMIT bytes) place) }
-    ensures read_fault { result ≡ Status.ReadFault → Rose (S.faults input.old) (S.faults input.new) }
-    ensures write_fault { result ≡ Status.WriteFault → Rose (K.faults out.old) (K.faults out.new) }
+    ensures read_fault { RoseExactly (is_read_fault result) (S.faults input.old) (S.faults input.new) }
+    ensures write_fault { RoseExactly (is_write_fault result) (K.faults out.old) (K.faults out.new) }
     ensures turns_spent { result ≡ Status.TurnsSpent → RoseBy (2 ^ 62) (S.quiets input.old) (S.quiets input.new) }
     // What is written then is a front of the answer, or nothing.
     ensures cut { (result ≡ Status.WriteFault) ⊎ (result ≡ Status.Memory) →
@@ -70,9 +73,12 @@ fn identify<S: Source, K: Sink>(
     input: &mut S,
     out: &mut K,
 ) -> Status
-    ensures { Identifies (answer_bytes identity.now) result
+    ensures ends { Identifies (answer_bytes identity.now) result
         (record { left = S.left input.old; read_faults = S.faults input.old; read_faults_after = S.faults input.new; quiets = S.quiets input.old; quiets_after = S.quiets input.new })
         (record { written = K.written out.old; written_after = K.written out.new; faults = K.faults out.old; faults_after = K.faults out.new }) }
+    ensures has_read { HasRead result (S.left input.old) (S.left input.new) }
+    ensures read_fault { RoseExactly (is_read_fault result) (S.faults input.old) (S.faults input.new) }
+    ensures write_fault { RoseExactly (is_write_fault result) (K.faults out.old) (K.faults out.new) }
 {
     let bytes = match gather(alloc, input) {
         Ok(bytes) => bytes,
@@ -89,7 +95,8 @@ fn identify<S: Source, K: Sink>(
 
 /// Writes the whole answer.
 fn reply<K: Sink>(alloc: Global, identity: &Identity, out: &mut K) -> Status
-    ensures { Replies (answer_bytes identity.now) result (record { written = K.written out.old; written_after = K.written out.new; faults = K.faults out.old; faults_after = K.faults out.new }) }
+    ensures ends { Replies (answer_bytes identity.now) result (record { written = K.written out.old; written_after = K.written out.new; faults = K.faults out.old; faults_after = K.faults out.new }) }
+    ensures write_fault { RoseExactly (is_write_fault result) (K.faults out.old) (K.faults out.new) }
 {
     let Ok(bytes) = answer(alloc, identity) else {
         return Status::Memory;

@@ -8,15 +8,15 @@ use Rattle.repl_top.proofs.tool.run_tool.Goals as goal
 
 pub returns-in-Ok-clause-answered : goal.returns-in-Ok-clause-answered
 returns-in-Ok-clause-answered g c = λ e.
-    answers (texts c.args.words.now) c.in-Ok.identity c.identify.result _ _ c.identify.ensures c.in-Ok.ensures.read e
+    answers (texts c.args.words.now) c.in-Ok.identity c.identify.result _ _ c.identify.ensures.ends c.in-Ok.ensures.read e
 
 pub returns-in-Ok-clause-complete : goal.returns-in-Ok-clause-complete
 returns-in-Ok-clause-complete g c = λ bytes left command no_read no_write no_quiet session.
-    completes (answer_bytes c.in-Ok.identity) bytes c.identify.result _ _ c.identify.ensures left no_read no_write no_quiet session
+    completes (answer_bytes c.in-Ok.identity) bytes c.identify.result _ _ c.identify.ensures.ends left no_read no_write no_quiet session
 
 pub returns-in-Ok-clause-refuses : goal.returns-in-Ok-clause-refuses
 returns-in-Ok-clause-refuses g c = λ bytes left command no_read no_quiet no_session.
-    refuses (answer_bytes c.in-Ok.identity) bytes c.identify.result _ _ c.identify.ensures left no_read no_quiet no_session
+    refuses (answer_bytes c.in-Ok.identity) bytes c.identify.result _ _ c.identify.ensures.ends left no_read no_quiet no_session
 
 pub returns-in-Err-clause-usage : goal.returns-in-Err-clause-usage
 returns-in-Err-clause-usage g c = λ word. (
