@@ -51,6 +51,9 @@ pub fn run_tool<S: Source, K: Sink>(
     ensures cut { (result ≡ Status.WriteFault) ⊎ (result ≡ Status.Memory) →
         IsCut (texts words.now) (K.written out.old) (K.written out.new) }
     ensures unwritten { Unwritten result (K.written out.old) (K.written out.new) }
+    // Where memory runs out before the writing, nothing is written.
+    ensures memory { result ≡ Status.Memory →
+        Rose (K.wants out.old) (K.wants out.new) ⊎ Kept (K.written out.old) (K.written out.new) }
     // A command over a session, or over another input, ends so unless an object is faulty or memory runs out.
     ensures complete { (bytes : List ℕ) → S.left input.old ≡ Some bytes → IsCommandLine (texts words.now) →
         ¬ Rose (S.faults input.old) (S.faults input.new) → ¬ Rose (K.faults out.old) (K.faults out.new) →
@@ -79,6 +82,8 @@ fn identify<S: Source, K: Sink>(
     ensures has_read { HasRead result (S.left input.old) (S.left input.new) }
     ensures read_fault { RoseExactly (is_read_fault result) (S.faults input.old) (S.faults input.new) }
     ensures write_fault { RoseExactly (is_write_fault result) (K.faults out.old) (K.faults out.new) }
+    ensures memory { result ≡ Status.Memory →
+        Rose (K.wants out.old) (K.wants out.new) ⊎ Kept (K.written out.old) (K.written out.new) }
 {
     let bytes = match gather(alloc, input) {
         Ok(bytes) => bytes,
@@ -97,6 +102,8 @@ fn identify<S: Source, K: Sink>(
 fn reply<K: Sink>(alloc: Global, identity: &Identity, out: &mut K) -> Status
     ensures ends { Replies (answer_bytes identity.now) result (record { written = K.written out.old; written_after = K.written out.new; faults = K.faults out.old; faults_after = K.faults out.new }) }
     ensures write_fault { RoseExactly (is_write_fault result) (K.faults out.old) (K.faults out.new) }
+    ensures memory { result ≡ Status.Memory →
+        Rose (K.wants out.old) (K.wants out.new) ⊎ Kept (K.written out.old) (K.written out.new) }
 {
     let Ok(bytes) = answer(alloc, identity) else {
         return Status::Memory;
