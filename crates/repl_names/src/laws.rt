@@ -1,0 +1,51 @@
+ghost use Rattle.std.specs.Prelude.{◌≡◌, ◌≤◌, ◌<◌, ℕ, [], List, length, All, Contains, count_by};
+ghost use Rattle.std.specs.List.{AllZip};
+ghost use Rattle.repl_names.specs.declared.list.Method.TheVariants as Method;
+ghost use Rattle.repl_names.specs.declared.quorum.Mode.{Mode};
+ghost use Rattle.repl_names.specs.declared.quorum.Candidate.{Candidate};
+ghost use Rattle.repl_names.specs.StandbyList.{Listing, IsListing, spelling};
+ghost use Rattle.repl_names.specs.Grammar.{IsRead};
+ghost use Rattle.repl_names.specs.Quorum.{Met, IsGreatest, Counted, Differ, Forward, candidates, counts, reaches, position};
+
+/// What is printed is read back as the same list.
+pub fn printed_is_read()
+    ensures { (list : Listing) → IsListing list → IsRead (spelling list) list }
+{}
+
+/// A text says one list at most.
+pub fn one_list()
+    ensures { (text : List ℕ) (a b : Listing) → IsRead text a → IsRead text b → a ≡ b }
+{}
+
+/// A list that is met at a position is met at every earlier one.
+pub fn met_below()
+    ensures { (list : Listing) (sessions : List Candidate) (m : Mode) (earlier end : ℕ) → earlier ≤ end →
+        Met list sessions m end → Met list sessions m earlier }
+{}
+
+/// A standby that moves forward unmeets nothing.
+pub fn met_forward()
+    ensures { (list : Listing) (old new : List Candidate) (m : Mode) (end : ℕ) → AllZip Forward old new →
+        All (λ (c : Candidate). 0 < c.flushed) old → Met list old m end → Met list new m end }
+{}
+
+/// The list without names is met by nobody's report.
+pub fn met_without_names()
+    ensures { (list : Listing) (m : Mode) (end : ℕ) → list.names ≡ [] → Met list [] m end }
+{}
+
+/// The greatest position at which `ANY n` is met is reached by n candidates at least, and no later one is.
+pub fn any_reached()
+    ensures { (list : Listing) (sessions : List Candidate) (m : Mode) (end : ℕ) → list.method ≡ Method.Any →
+        0 < length list.names → IsGreatest list sessions m end →
+        (list.number ≤ count_by (reaches m end) (candidates sessions)) ×
+        ((later : ℕ) → end < later → count_by (reaches m later) (candidates sessions) < list.number) }
+{}
+
+/// Where a list is met, those that count are as many as it demands, each is a candidate, and each has the
+/// position.
+pub fn counted_reach()
+    ensures { (list : Listing) (sessions counted : List Candidate) (m : Mode) (end : ℕ) → IsListing list →
+        Differ sessions → Met list sessions m end → Counted list sessions m end counted →
+        (length counted ≡ list.number) × Differ counted × All (λ (c : Candidate). Contains (candidates sessions) c × (end ≤ position m c)) counted }
+{}

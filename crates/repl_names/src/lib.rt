@@ -1,0 +1,40 @@
+//! Lists of synchronous standbys, and the count that decides what an acknowledged commit means
+//! (PostgreSQL 17 manual, section "Synchronous Replication", and `synchronous_standby_names`).
+//!
+//! `parse_names` reads a list: it accepts exactly the texts of the grammar in `specs/Grammar.antt`, and
+//! refuses any other at the first token with which no list goes on. `print_names` prints the one spelling
+//! of a list, which is read back as that list. `priority` finds the entry that a standby's name matches.
+//! `released` is the greatest position at which a list is met (`Met` in `specs/Quorum.antt`) by what the
+//! standbys have reported. Stands on `repl_text` and `repl_lsn`.
+#![tactic(auto)]
+
+mod fault;
+mod grammar;
+mod laws;
+mod length;
+mod list;
+mod matching;
+mod parse;
+mod print;
+mod quorum;
+mod setting;
+mod token;
+
+pub use fault::NamesFault;
+pub use laws::{
+    any_reached, counted_reach, met_below, met_forward, met_without_names, one_list,
+    printed_is_read,
+};
+pub use list::{Method, NUMBER_LIMIT, NameList, SPELLING_LIMIT, StandbyList};
+pub use matching::priority;
+pub use parse::parse_names;
+pub use print::print_names;
+pub use quorum::{Candidate, Mode, released};
+pub use setting::Setting;
+
+#[cfg(test)]
+mod print_tests;
+#[cfg(test)]
+mod quorum_tests;
+#[cfg(test)]
+mod tests;
