@@ -1,8 +1,9 @@
 //! `pgnode`: one node of PostgreSQL streaming replication.
 //!
-//! So far it has one command, `identify SYSID TLI LSN`, which answers one session on its standard input.
-//! The work is `run_tool` of `repl_top`; this program gives it the words and the standard streams, prints
-//! the line of every status but Ok on standard error, and ends with the status's number.
+//! `identify SYSID TLI LSN` answers one session on its standard input, `frames front` and `frames back`
+//! print the messages of theirs, and `names TEXT` prints the spelling of a standby list. The work is
+//! `run_tool` of `repl_top`; this program gives it the words and the standard streams, prints the line of
+//! every status but Ok on standard error, and ends with the status's number.
 #![tactic(auto)]
 
 use repl_io::{StdSink, StdSource};

@@ -2,16 +2,63 @@
 -- wrong.
 use Rattle.std.proofs.Common.{◌≡◌, ℕ, ◌+◌, ◌<◌, ◌≤◌, List, [], ◌∷◌, ◌++◌, length, get_or, take, refl, sym, ap, subst, ◌∙◌, arith, codes}
 use Rattle.std.proofs.lemmas.List.{take_all}
-use Rattle.repl_text.proofs.Stops.{stops_from, one_place}
+use Rattle.repl_text.proofs.Stops.{Follows, stops_from, one_place}
 use Rattle.repl_lsn.specs.Position.{Spells}
 use Rattle.repl_lsn.proofs.Splits.{one_position}
+use Rattle.repl_message.specs.declared.message.Side.{Side}
+use Rattle.repl_message.specs.declared.message.Side.TheVariants as side
 use Rattle.repl_top.specs.declared.words.Identity.{Identity}
-use Rattle.repl_top.specs.Words.{IsDecimal, IsSystem, IsTimeline, IsIdentify, IsCommandLine, IsUsage}
+use Rattle.repl_top.specs.declared.words.Command.{Command}
+use Rattle.repl_top.specs.declared.words.Command.TheVariants as command
+use Rattle.repl_top.specs.Words.{IsDecimal, IsSystem, IsTimeline, IsIdentify, IsFrames, IsNames, IsCommand, IsCommandLine, IsUsage, side_word}
+
+-- ---- the first word tells the command
+
+identify_or_frames : codes "identify" ≡ codes "frames" → ⊥
+identify_or_frames e = cc
+
+identify_or_names : codes "identify" ≡ codes "names" → ⊥
+identify_or_names e = cc
+
+frames_or_names : codes "frames" ≡ codes "names" → ⊥
+frames_or_names e = cc
+
+identify_first : (words : List (List ℕ)) (identity : Identity) → IsIdentify words identity → get_or words 0 [] ≡ codes "identify"
+identify_first words identity h = ap (λ w. get_or w 0 []) h.parts
+
+frames_first : (words : List (List ℕ)) (s : Side) → IsFrames words s → get_or words 0 [] ≡ codes "frames"
+frames_first words s h = ap (λ w. get_or w 0 []) h
+
+names_first : (words : List (List ℕ)) (text : List ℕ) → IsNames words text → get_or words 0 [] ≡ codes "names"
+names_first words text h = ap (λ w. get_or w 0 []) h
+
+of_identify : (words : List (List ℕ)) (c : Command) → get_or words 0 [] ≡ codes "identify" → IsCommand words c → (identity : Identity) × IsIdentify words identity
+of_identify words (command.Identify identity) first h = (identity, h)
+of_identify words (command.Frames s) first h = absurd (identify_or_frames (sym first ∙ frames_first words s h))
+of_identify words command.Names first h = absurd (identify_or_names (sym first ∙ names_first words h.0 h.1))
+
+of_frames : (words : List (List ℕ)) (c : Command) → get_or words 0 [] ≡ codes "frames" → IsCommand words c → (s : Side) × IsFrames words s
+of_frames words (command.Identify identity) first h = absurd (identify_or_frames (sym (identify_first words identity h) ∙ first))
+of_frames words (command.Frames s) first h = (s, h)
+of_frames words command.Names first h = absurd (frames_or_names (sym first ∙ names_first words h.0 h.1))
+
+of_names : (words : List (List ℕ)) (c : Command) → get_or words 0 [] ≡ codes "names" → IsCommand words c → (text : List ℕ) × IsNames words text
+of_names words (command.Identify identity) first h = absurd (identify_or_names (sym (identify_first words identity h) ∙ first))
+of_names words (command.Frames s) first h = absurd (frames_or_names (sym (frames_first words s h) ∙ first))
+of_names words command.Names first h = h
+
+-- no other first word is one of a command
+no_other_first : (words : List (List ℕ)) (c : Command) → (get_or words 0 [] ≡ codes "identify" → ⊥) → (get_or words 0 [] ≡ codes "frames" → ⊥) → (get_or words 0 [] ≡ codes "names" → ⊥) → IsCommand words c → ⊥
+no_other_first words (command.Identify identity) i f n h = i (identify_first words identity h)
+no_other_first words (command.Frames s) i f n h = f (frames_first words s h)
+no_other_first words command.Names i f n h = n (names_first words h.0 h.1)
+
+-- ---- `identify`
 
 -- what each word is
 pub record WordByWord (words : List (List ℕ)) (identity : Identity) : Type 0 where
   pub four : length words ≡ 4
-  pub command : get_or words 0 [] ≡ codes "identify"
+  pub first : get_or words 0 [] ≡ codes "identify"
   pub system : IsSystem (get_or words 1 []) identity.system
   pub timeline : IsTimeline (get_or words 2 []) identity.timeline
   pub flushed : Spells (get_or words 3 []) identity.flushed
@@ -19,7 +66,7 @@ pub record WordByWord (words : List (List ℕ)) (identity : Identity) : Type 0 w
 pub word_by_word : (words : List (List ℕ)) (identity : Identity) → IsIdentify words identity → WordByWord words identity
 word_by_word words identity h = subst (λ w. WordByWord w identity) (sym h.parts) (record {
   four = refl;
-  command = refl;
+  first = refl;
   system = h.system;
   timeline = h.timeline;
   flushed = h.flushed;
@@ -59,86 +106,186 @@ zero_position =
 
 pub command_line : (system timeline flushed : List ℕ) (s t f : ℕ) → IsSystem system s → IsTimeline timeline t → Spells flushed f → IsCommandLine (codes "identify" ∷ system ∷ timeline ∷ flushed ∷ [])
 command_line system timeline flushed s t f s_is t_is f_is = (
-  record { system = s; timeline = t; flushed = f },
+  command.Identify (record { system = s; timeline = t; flushed = f }),
   record { system_word = system; timeline_word = timeline; flushed_word = flushed; parts = refl; system = s_is; timeline = t_is; flushed = f_is },
 )
 
+-- what a command line is that begins with the word `identify`
+like_identify : (words other : List (List ℕ)) (place : ℕ) → get_or words 0 [] ≡ codes "identify" → Follows [] words place other → IsCommandLine other → (identity : Identity) × WordByWord other identity
+like_identify words other place first f p =
+    let found = of_identify other p.0 (f.same 0 (omega arith) ∙ first) p.1 in
+    (found.0, word_by_word other found.0 found.1)
+
 -- the five faults
 
-pub stops_at_command : (words : List (List ℕ)) → (get_or words 0 [] ≡ codes "identify" → ⊥) → IsUsage words 1
-stops_at_command words none = record {
+pub stops_at_command : (words : List (List ℕ)) → (get_or words 0 [] ≡ codes "identify" → ⊥) → (get_or words 0 [] ≡ codes "frames" → ⊥) → (get_or words 0 [] ≡ codes "names" → ⊥) → IsUsage words 1
+stops_at_command words i f n = record {
   place = 0;
   number = refl;
-  stops = stops_from IsCommandLine [] words 0 (omega arith) (codes "identify" ∷ codes "0" ∷ codes "1" ∷ codes "0/0" ∷ [], command_line (codes "0") (codes "1") (codes "0/0") 0 1 0 zero_system one_timeline zero_position)
-      (λ other f p. none (sym (f.same 0 (omega arith)) ∙ (word_by_word other p.0 p.1).command));
+  stops = stops_from IsCommandLine [] words 0 (omega arith) (codes "frames" ∷ codes "front" ∷ [], (command.Frames side.Front, refl))
+      (λ other g p. let same = sym (g.same 0 (omega arith)) in no_other_first other p.0 (λ e. i (same ∙ e)) (λ e. f (same ∙ e)) (λ e. n (same ∙ e)) p.1);
 }
 
 pub stops_at_system : (words : List (List ℕ)) → get_or words 0 [] ≡ codes "identify" → ((n : ℕ) → IsSystem (get_or words 1 []) n → ⊥) → IsUsage words 2
-stops_at_system [] command none = absurd (cc)
-stops_at_system (a ∷ words) command none = record {
+stops_at_system [] first none = absurd (cc)
+stops_at_system (a ∷ words) first none = record {
   place = 1;
   number = refl;
   stops = stops_from IsCommandLine [] (a ∷ words) 1 (omega arith)
-      (codes "0" ∷ codes "1" ∷ codes "0/0" ∷ [], subst (λ w. IsCommandLine (w ∷ codes "0" ∷ codes "1" ∷ codes "0/0" ∷ [])) (sym command) (command_line (codes "0") (codes "1") (codes "0/0") 0 1 0 zero_system one_timeline zero_position))
-      (λ other f p. none (p.0).system (subst (λ w. IsSystem w (p.0).system) (f.same 1 (omega arith)) (word_by_word other p.0 p.1).system));
+      (codes "0" ∷ codes "1" ∷ codes "0/0" ∷ [], subst (λ w. IsCommandLine (w ∷ codes "0" ∷ codes "1" ∷ codes "0/0" ∷ [])) (sym first) (command_line (codes "0") (codes "1") (codes "0/0") 0 1 0 zero_system one_timeline zero_position))
+      (λ other f p. let found = like_identify (a ∷ words) other 1 first f p in none (found.0).system (subst (λ w. IsSystem w (found.0).system) (f.same 1 (omega arith)) (found.1).system));
 }
 
 pub stops_at_timeline : (words : List (List ℕ)) (s : ℕ) → get_or words 0 [] ≡ codes "identify" → IsSystem (get_or words 1 []) s → ((n : ℕ) → IsTimeline (get_or words 2 []) n → ⊥) → IsUsage words 3
-stops_at_timeline [] s command s_is none = absurd (cc)
-stops_at_timeline (a ∷ []) s command s_is none = absurd (no_empty_system s s_is)
-stops_at_timeline (a ∷ b ∷ words) s command s_is none = record {
+stops_at_timeline [] s first s_is none = absurd (cc)
+stops_at_timeline (a ∷ []) s first s_is none = absurd (no_empty_system s s_is)
+stops_at_timeline (a ∷ b ∷ words) s first s_is none = record {
   place = 2;
   number = refl;
   stops = stops_from IsCommandLine [] (a ∷ b ∷ words) 2 (omega arith)
-      (codes "1" ∷ codes "0/0" ∷ [], subst (λ w. IsCommandLine (w ∷ b ∷ codes "1" ∷ codes "0/0" ∷ [])) (sym command) (command_line b (codes "1") (codes "0/0") s 1 0 s_is one_timeline zero_position))
-      (λ other f p. none (p.0).timeline (subst (λ w. IsTimeline w (p.0).timeline) (f.same 2 (omega arith)) (word_by_word other p.0 p.1).timeline));
+      (codes "1" ∷ codes "0/0" ∷ [], subst (λ w. IsCommandLine (w ∷ b ∷ codes "1" ∷ codes "0/0" ∷ [])) (sym first) (command_line b (codes "1") (codes "0/0") s 1 0 s_is one_timeline zero_position))
+      (λ other f p. let found = like_identify (a ∷ b ∷ words) other 2 first f p in none (found.0).timeline (subst (λ w. IsTimeline w (found.0).timeline) (f.same 2 (omega arith)) (found.1).timeline));
 }
 
 pub stops_at_position : (words : List (List ℕ)) (s t : ℕ) → get_or words 0 [] ≡ codes "identify" → IsSystem (get_or words 1 []) s → IsTimeline (get_or words 2 []) t
     → ((n : ℕ) → Spells (get_or words 3 []) n → ⊥) → IsUsage words 4
-stops_at_position [] s t command s_is t_is none = absurd (cc)
-stops_at_position (a ∷ []) s t command s_is t_is none = absurd (no_empty_system s s_is)
-stops_at_position (a ∷ b ∷ []) s t command s_is t_is none = absurd (no_empty_timeline t t_is)
-stops_at_position (a ∷ b ∷ d ∷ words) s t command s_is t_is none = record {
+stops_at_position [] s t first s_is t_is none = absurd (cc)
+stops_at_position (a ∷ []) s t first s_is t_is none = absurd (no_empty_system s s_is)
+stops_at_position (a ∷ b ∷ []) s t first s_is t_is none = absurd (no_empty_timeline t t_is)
+stops_at_position (a ∷ b ∷ d ∷ words) s t first s_is t_is none = record {
   place = 3;
   number = refl;
   stops = stops_from IsCommandLine [] (a ∷ b ∷ d ∷ words) 3 (omega arith)
-      (codes "0/0" ∷ [], subst (λ w. IsCommandLine (w ∷ b ∷ d ∷ codes "0/0" ∷ [])) (sym command) (command_line b d (codes "0/0") s t 0 s_is t_is zero_position))
-      (λ other f p. none (p.0).flushed (subst (λ w. Spells w (p.0).flushed) (f.same 3 (omega arith)) (word_by_word other p.0 p.1).flushed));
+      (codes "0/0" ∷ [], subst (λ w. IsCommandLine (w ∷ b ∷ d ∷ codes "0/0" ∷ [])) (sym first) (command_line b d (codes "0/0") s t 0 s_is t_is zero_position))
+      (λ other f p. let found = like_identify (a ∷ b ∷ d ∷ words) other 3 first f p in none (found.0).flushed (subst (λ w. Spells w (found.0).flushed) (f.same 3 (omega arith)) (found.1).flushed));
 }
 
 -- the words up to the fourth
 pub command_line_words : (words : List (List ℕ)) (s t f : ℕ) → get_or words 0 [] ≡ codes "identify" → IsSystem (get_or words 1 []) s → IsTimeline (get_or words 2 []) t → Spells (get_or words 3 []) f
     → take 4 words ≡ codes "identify" ∷ get_or words 1 [] ∷ get_or words 2 [] ∷ get_or words 3 [] ∷ []
-command_line_words [] s t f command s_is t_is f_is = absurd (cc)
-command_line_words (a ∷ []) s t f command s_is t_is f_is = absurd (no_empty_system s s_is)
-command_line_words (a ∷ b ∷ []) s t f command s_is t_is f_is = absurd (no_empty_timeline t t_is)
-command_line_words (a ∷ b ∷ d ∷ []) s t f command s_is t_is f_is = absurd (no_empty_position f f_is)
-command_line_words (a ∷ b ∷ d ∷ e ∷ words) s t f command s_is t_is f_is = ap (λ w. w ∷ b ∷ d ∷ e ∷ []) command
+command_line_words [] s t f first s_is t_is f_is = absurd (cc)
+command_line_words (a ∷ []) s t f first s_is t_is f_is = absurd (no_empty_system s s_is)
+command_line_words (a ∷ b ∷ []) s t f first s_is t_is f_is = absurd (no_empty_timeline t t_is)
+command_line_words (a ∷ b ∷ d ∷ []) s t f first s_is t_is f_is = absurd (no_empty_position f f_is)
+command_line_words (a ∷ b ∷ d ∷ e ∷ words) s t f first s_is t_is f_is = ap (λ w. w ∷ b ∷ d ∷ e ∷ []) first
 
 pub stops_after_position : (words : List (List ℕ)) (s t f : ℕ) → get_or words 0 [] ≡ codes "identify" → IsSystem (get_or words 1 []) s → IsTimeline (get_or words 2 []) t → Spells (get_or words 3 []) f
     → 4 < length words → IsUsage words 5
-stops_after_position words s t f command s_is t_is f_is more = record {
+stops_after_position words s t f first s_is t_is f_is more = record {
   place = 4;
   number = refl;
   stops = stops_from IsCommandLine [] words 4 (omega arith)
-      ([], subst (λ w. IsCommandLine (w ++ [])) (sym (command_line_words words s t f command s_is t_is f_is)) (command_line (get_or words 1 []) (get_or words 2 []) (get_or words 3 []) s t f s_is t_is f_is))
-      (λ other g p. omega (arith, g.long more, (word_by_word other p.0 p.1).four));
+      ([], subst (λ w. IsCommandLine (w ++ [])) (sym (command_line_words words s t f first s_is t_is f_is)) (command_line (get_or words 1 []) (get_or words 2 []) (get_or words 3 []) s t f s_is t_is f_is))
+      (λ other g p. let found = like_identify words other 4 first g p in omega (arith, g.long more, (found.1).four));
 }
 
 pub is_identify : (words : List (List ℕ)) (s t f : ℕ) → get_or words 0 [] ≡ codes "identify" → IsSystem (get_or words 1 []) s → IsTimeline (get_or words 2 []) t → Spells (get_or words 3 []) f
     → length words ≤ 4 → IsIdentify words (record { system = s; timeline = t; flushed = f })
-is_identify words s t f command s_is t_is f_is all = record {
+is_identify words s t f first s_is t_is f_is all = record {
   system_word = get_or words 1 [];
   timeline_word = get_or words 2 [];
   flushed_word = get_or words 3 [];
-  parts = sym (take_all 4 words all) ∙ command_line_words words s t f command s_is t_is f_is;
+  parts = sym (take_all 4 words all) ∙ command_line_words words s t f first s_is t_is f_is;
   system = s_is;
   timeline = t_is;
   flushed = f_is;
 }
 
--- one answer
+-- ---- `frames`
+
+front_or_back : codes "front" ≡ codes "back" → ⊥
+front_or_back e = cc
+
+one_side : (a b : Side) → side_word a ≡ side_word b → a ≡ b
+one_side side.Front side.Front e = refl
+one_side side.Front side.Back e = absurd (front_or_back e)
+one_side side.Back side.Front e = absurd (front_or_back (sym e))
+one_side side.Back side.Back e = refl
+
+-- no other word is one of a side
+no_other_side : (word : List ℕ) (s : Side) → (word ≡ codes "front" → ⊥) → (word ≡ codes "back" → ⊥) → word ≡ side_word s → ⊥
+no_other_side word side.Front f b e = f e
+no_other_side word side.Back f b e = b e
+
+like_frames : (words other : List (List ℕ)) (place : ℕ) → get_or words 0 [] ≡ codes "frames" → Follows [] words place other → IsCommandLine other → (s : Side) × IsFrames other s
+like_frames words other place first f p = of_frames other p.0 (f.same 0 (omega arith) ∙ first) p.1
+
+pub stops_at_side : (words : List (List ℕ)) → get_or words 0 [] ≡ codes "frames" → (get_or words 1 [] ≡ codes "front" → ⊥) → (get_or words 1 [] ≡ codes "back" → ⊥) → IsUsage words 2
+stops_at_side [] first front back = absurd (cc)
+stops_at_side (a ∷ words) first front back = record {
+  place = 1;
+  number = refl;
+  stops = stops_from IsCommandLine [] (a ∷ words) 1 (omega arith)
+      (codes "front" ∷ [], subst (λ w. IsCommandLine (w ∷ codes "front" ∷ [])) (sym first) (command.Frames side.Front, refl))
+      (λ other f p.
+      let found = like_frames (a ∷ words) other 1 first f p in
+      no_other_side (get_or (a ∷ words) 1 []) found.0 front back (sym (f.same 1 (omega arith)) ∙ ap (λ w. get_or w 1 []) found.1));
+}
+
+-- a word of a side is not missing
+no_empty_side : (s : Side) → [] ≡ side_word s → ⊥
+no_empty_side side.Front e = cc
+no_empty_side side.Back e = cc
+
+-- the words up to the second
+pub frames_words : (words : List (List ℕ)) (s : Side) → get_or words 0 [] ≡ codes "frames" → get_or words 1 [] ≡ side_word s → take 2 words ≡ codes "frames" ∷ side_word s ∷ []
+frames_words [] s first second = absurd (cc)
+frames_words (a ∷ []) s first second = absurd (no_empty_side s second)
+frames_words (a ∷ b ∷ words) s first second = ap (λ w. w ∷ b ∷ []) first ∙ ap (λ w. codes "frames" ∷ w ∷ []) second
+
+pub stops_after_side : (words : List (List ℕ)) (s : Side) → get_or words 0 [] ≡ codes "frames" → get_or words 1 [] ≡ side_word s → 2 < length words → IsUsage words 3
+stops_after_side words s first second more = record {
+  place = 2;
+  number = refl;
+  stops = stops_from IsCommandLine [] words 2 (omega arith)
+      ([], (command.Frames s, ap (λ w. w ++ []) (frames_words words s first second)))
+      (λ other g p.
+      let found = like_frames words other 2 first g p in
+      omega (arith, g.long more, ap (λ w. length w) found.1));
+}
+
+pub is_frames : (words : List (List ℕ)) (s : Side) → get_or words 0 [] ≡ codes "frames" → get_or words 1 [] ≡ side_word s → length words ≤ 2 → IsFrames words s
+is_frames words s first second all = sym (take_all 2 words all) ∙ frames_words words s first second
+
+-- ---- `names`
+
+pub is_names : (words : List (List ℕ)) → get_or words 0 [] ≡ codes "names" → length words ≡ 2 → IsNames words (get_or words 1 [])
+is_names [] first two = absurd (cc)
+is_names (a ∷ []) first two = absurd (omega (arith, two))
+is_names (a ∷ b ∷ []) first two = ap (λ w. w ∷ b ∷ []) first
+is_names (a ∷ b ∷ c ∷ words) first two = absurd (omega (arith, two))
+
+-- a text is missing, and none is not the empty one
+pub stops_at_text : (words : List (List ℕ)) → get_or words 0 [] ≡ codes "names" → length words < 2 → IsUsage words 2
+stops_at_text [] first few = absurd (cc)
+stops_at_text (a ∷ []) first few = record {
+  place = 1;
+  number = refl;
+  stops = record {
+    within = omega arith;
+    refused = λ p.
+        let found = of_names (a ∷ []) p.0 first p.1 in
+        omega (arith, ap (λ w. length w) found.1);
+    goes_on = ([] ∷ [], (command.Names, ([], ap (λ w. w ∷ [] ∷ []) first)));
+    stops = λ more. absurd (omega (arith, more));
+  };
+}
+stops_at_text (a ∷ b ∷ words) first few = absurd (omega (arith, few))
+
+pub stops_after_text : (words : List (List ℕ)) → get_or words 0 [] ≡ codes "names" → 2 < length words → IsUsage words 3
+stops_after_text [] first more = absurd (cc)
+stops_after_text (a ∷ []) first more = absurd (omega (arith, more))
+stops_after_text (a ∷ b ∷ words) first more = record {
+  place = 2;
+  number = refl;
+  stops = stops_from IsCommandLine [] (a ∷ b ∷ words) 2 (omega arith)
+      ([], (command.Names, (b, ap (λ w. w ∷ b ∷ []) first)))
+      (λ other g p.
+      let found = of_names other p.0 (g.same 0 (omega arith) ∙ first) p.1 in
+      omega (arith, g.long more, ap (λ w. length w) found.1));
+}
+
+-- ---- one answer
 
 one_decimal : (word : List ℕ) (a b : ℕ) → IsDecimal word a → IsDecimal word b → a ≡ b
 one_decimal word a b p q = p.value ∙ sym q.value
@@ -151,6 +298,21 @@ one_identity words a b p q =
     let t : a.timeline ≡ b.timeline = one_decimal (get_or words 2 []) a.timeline b.timeline u.timeline.0 v.timeline.0 in
     let f : a.flushed ≡ b.flushed = one_position (get_or words 3 []) a.flushed b.flushed u.flushed v.flushed in
     λ i. record { system = s i; timeline = t i; flushed = f i }
+
+pub one_text : (words : List (List ℕ)) (a b : List ℕ) → IsNames words a → IsNames words b → a ≡ b
+one_text words a b p q = ap (λ w. get_or w 1 []) (sym p ∙ q)
+
+-- the words tell the command
+pub one_command : (words : List (List ℕ)) (a b : Command) → IsCommand words a → IsCommand words b → a ≡ b
+one_command words (command.Identify a) (command.Identify b) p q = ap (λ i. command.Identify i) (one_identity words a b p q)
+one_command words (command.Identify a) (command.Frames t) p q = absurd (identify_or_frames (sym (identify_first words a p) ∙ frames_first words t q))
+one_command words (command.Identify a) command.Names p q = absurd (identify_or_names (sym (identify_first words a p) ∙ names_first words q.0 q.1))
+one_command words (command.Frames s) (command.Identify b) p q = absurd (identify_or_frames (sym (identify_first words b q) ∙ frames_first words s p))
+one_command words (command.Frames s) (command.Frames t) p q = ap (λ side. command.Frames side) (one_side s t (ap (λ w. get_or w 1 []) (sym p ∙ q)))
+one_command words (command.Frames s) command.Names p q = absurd (frames_or_names (sym (frames_first words s p) ∙ names_first words q.0 q.1))
+one_command words command.Names (command.Identify b) p q = absurd (identify_or_names (sym (identify_first words b q) ∙ names_first words p.0 p.1))
+one_command words command.Names (command.Frames t) p q = absurd (frames_or_names (sym (frames_first words t q) ∙ names_first words p.0 p.1))
+one_command words command.Names command.Names p q = refl
 
 pub one_usage : (words : List (List ℕ)) (j k : ℕ) → IsUsage words j → IsUsage words k → j ≡ k
 one_usage words j k p q = p.number ∙ ap (λ place. place + 1) (one_place IsCommandLine words p.place q.place p.stops q.stops) ∙ sym q.number

@@ -4,8 +4,8 @@ use Rattle.std.specs.Fmt.{decimal}
 use Rattle.std.specs.List.{flat_map}
 use Rattle.std.proofs.lemmas.List.Concat.{flat_map-append}
 use Rattle.repl_lsn.specs.Position.{position_text, IsCanonical}
-use Rattle.repl_wire.specs.declared.back.Back.{Back}
-use Rattle.repl_wire.specs.Message.{back_spelling, counted, column}
+use Rattle.repl_message.specs.declared.back.Back.{Back}
+use Rattle.repl_message.specs.Message.{back_spelling, counted, column}
 use Rattle.repl_top.specs.declared.words.Identity.{Identity}
 use Rattle.repl_top.specs.Answer.{answer_row}
 

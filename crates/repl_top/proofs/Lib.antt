@@ -7,3 +7,5 @@ pub mod Sessions
 pub mod Messages
 pub mod Ends
 pub mod Steps
+pub mod Streams
+pub mod FrameLines

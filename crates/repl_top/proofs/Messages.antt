@@ -9,9 +9,9 @@ use Rattle.repl_text.proofs.Literals.{is_text_by_test, text_from_test}
 use Rattle.repl_lsn.specs.Position.{IsCanonical, position_text}
 use Rattle.repl_lsn.proofs.Halves.{half_fits}
 use Rattle.repl_lsn.proofs.Canonical.{position_text_canonical}
-use Rattle.repl_wire.specs.declared.back.TransactionStatus.TheVariants.{Idle}
-use Rattle.repl_wire.specs.declared.back.Back.TheVariants as back
-use Rattle.repl_wire.specs.Message.{counted, column, AreBytes, FitsField, IsBack, AreMessages}
+use Rattle.repl_message.specs.declared.back.TransactionStatus.TheVariants.{Idle}
+use Rattle.repl_message.specs.declared.back.Back.TheVariants as back
+use Rattle.repl_message.specs.Message.{counted, column, AreBytes, FitsField, IsBack, AreMessages}
 use Rattle.repl_top.specs.declared.words.Identity.{Identity}
 use Rattle.repl_top.specs.Words.{IsIdentify}
 use Rattle.repl_top.specs.Answer.{greeting, identification, answer, answer_bytes, answer_fields, answer_row, text_field, int8_field}

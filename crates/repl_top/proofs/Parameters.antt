@@ -3,7 +3,7 @@ use Rattle.std.proofs.Common.{◌≡◌, ℕ, ◌⊎◌, ◌↔◌, List, [], �
 use Rattle.std.specs.List.{All}
 use Rattle.std.proofs.lemmas.List.{take_at}
 use Rattle.std.proofs.lemmas.List.Elements.{All-nil, All-push, All-take, All-same, All-contains, Contains-push}
-use Rattle.repl_wire.specs.declared.startup.Pair.{Pair}
+use Rattle.repl_message.specs.declared.startup.Pair.{Pair}
 use Rattle.repl_top.specs.Session.{IsLast, IsOption, IsPhysical, IsTrueValue, HasUser, HasNoOption, IsReplication}
 
 -- A list with x at its end, parted at y: y is that x, or it stands before it.

@@ -3,11 +3,11 @@
 use Rattle.std.specs.Prelude.{ℕ, ◌+◌, ◌≤◌, length, List, [], ◌∷◌, ◌++◌, Option, Some, None, codes, pos, negsuc}
 use Rattle.std.specs.Fmt.{decimal}
 use Rattle.std.specs.List.{flat_map}
-use Rattle.repl_wire.specs.declared.back.TransactionStatus.TheVariants.{Idle}
-use Rattle.repl_wire.specs.declared.back.Field.{Field}
-use Rattle.repl_wire.specs.declared.back.Back.{Back}
-use Rattle.repl_wire.specs.declared.back.Back.TheVariants as back
-use Rattle.repl_wire.specs.Message.{back_spelling, back_body, back_limit}
+use Rattle.repl_message.specs.declared.back.TransactionStatus.TheVariants.{Idle}
+use Rattle.repl_message.specs.declared.back.Field.{Field}
+use Rattle.repl_message.specs.declared.back.Back.{Back}
+use Rattle.repl_message.specs.declared.back.Back.TheVariants as back
+use Rattle.repl_message.specs.Message.{back_spelling, back_body, back_limit}
 use Rattle.repl_lsn.specs.Position.{position_text}
 use Rattle.repl_top.specs.declared.words.Identity.{Identity}
 

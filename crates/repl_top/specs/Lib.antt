@@ -1,6 +1,11 @@
-pub mod Status
 pub mod Words
+pub mod Status
 pub mod Session
 pub mod Answer
 pub mod Gathering
+pub mod Outcome
+pub mod Frames
+pub mod Printing
+pub mod Names
 pub mod Tool
+pub mod Stream

@@ -1,12 +1,12 @@
 -- The input of `identify`: one session of a client that asks a server who it is.
 use Rattle.std.specs.Prelude.{◌≡◌, ◌≢◌, ℕ, ◌⊎◌, List, ◌∷◌, ◌++◌, codes}
 use Rattle.std.specs.List.{All, Any}
-use Rattle.repl_wire.specs.declared.startup.Pair.{Pair}
-use Rattle.repl_wire.specs.declared.startup.Startup.TheVariants as startup
-use Rattle.repl_wire.specs.declared.front.Front.TheVariants as front
-use Rattle.repl_wire.specs.declared.message.Phase.TheVariants as phase
-use Rattle.repl_wire.specs.declared.message.Message.TheVariants as message
-use Rattle.repl_wire.specs.Message.{Spells}
+use Rattle.repl_message.specs.declared.startup.Pair.{Pair}
+use Rattle.repl_message.specs.declared.startup.Startup.TheVariants as startup
+use Rattle.repl_message.specs.declared.front.Front.TheVariants as front
+use Rattle.repl_message.specs.declared.message.Phase.TheVariants as phase
+use Rattle.repl_message.specs.declared.message.Message.TheVariants as message
+use Rattle.repl_message.specs.Message.{Spells}
 
 -- the values of `replication` that ask for physical replication
 abbrev pub IsTrueValue : List ℕ → Type 0

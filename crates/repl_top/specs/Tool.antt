@@ -1,75 +1,38 @@
--- What a run of a command leaves written.
-use Rattle.std.specs.Prelude.{◌≡◌, ℕ, ◌^◌, List, take}
+-- What a run of a command reads and leaves written.
+use Rattle.std.specs.Prelude.{◌≡◌, ℕ, ◌^◌, ◌⊎◌, List, Some, take}
 use Rattle.repl_counts.specs.Counts.{Rose, RoseBy}
-use Rattle.repl_counts.specs.Told.{Told, IfTold, Gained, Lost, Kept}
+use Rattle.repl_counts.specs.Told.{IfTold, Gained, Lost, Kept}
 use Rattle.repl_io.specs.Sink.{WritesFront}
 use Rattle.repl_top.specs.declared.words.Identity.{Identity}
+use Rattle.repl_top.specs.declared.words.Command.{Command}
+use Rattle.repl_top.specs.declared.words.Command.TheVariants as command
 use Rattle.repl_top.specs.declared.status.Status.{Status}
 use Rattle.repl_top.specs.declared.status.Status.TheVariants as status
-use Rattle.repl_top.specs.Words.{IsIdentify}
 use Rattle.repl_top.specs.declared.tool.TheConstants.{INPUT_LIMIT}
+use Rattle.repl_top.specs.Words.{IsNames}
 use Rattle.repl_top.specs.Session.{IsSession, IsRefusedAt}
-use Rattle.repl_wire.specs.declared.back.Back.{Back}
-use Rattle.repl_wire.specs.Message.{AreMessages}
+use Rattle.repl_top.specs.Outcome.{Reading, Writing}
+use Rattle.repl_top.specs.Frames.{Framed}
+use Rattle.repl_top.specs.Names.{Named}
+use Rattle.repl_message.specs.declared.back.Back.{Back}
+use Rattle.repl_message.specs.Message.{AreMessages}
 use Rattle.repl_top.specs.Answer.{answer, answer_bytes}
 
--- The words are a command, and its whole answer was written, and nothing else. It reads back as the
--- answer's messages, and in no other way.
-pub record Answers (words : List (List ℕ)) (written written' : Told) : Type 0 where
-  pub identity : Identity
-  pub command : IsIdentify words identity
-  pub gained : Gained written written' (answer_bytes identity)
-  pub messages : AreMessages (answer_bytes identity) (answer identity)
-  pub no_others : (others : List Back) → AreMessages (answer_bytes identity) others → others ≡ answer identity
-
--- the words are a command, and a front of its answer was written, less than all of it, and nothing else
-pub record IsCut (words : List (List ℕ)) (written written' : Told) : Type 0 where
-  pub identity : Identity
-  pub command : IsIdentify words identity
-  pub front : WritesFront (answer_bytes identity) written written'
-
 -- at these ends the whole input was read, or as much of it as is read at most, and no more
-abbrev pub HasRead : Status → Told → Told → Type 0
-HasRead status.Ok left left' = IfTold left (λ bytes. Lost left left' (take INPUT_LIMIT bytes))
-HasRead (status.BadInput place) left left' = IfTold left (λ bytes. Lost left left' (take INPUT_LIMIT bytes))
-HasRead (status.Usage word) left left' = Kept left left'
-HasRead status.ReadFault left left' = Unit {0}
-HasRead status.WriteFault left left' = IfTold left (λ bytes. Lost left left' (take INPUT_LIMIT bytes))
-HasRead status.TurnsSpent left left' = Unit {0}
-HasRead status.Memory left left' = Unit {0}
+abbrev pub HasRead : Status → Reading → Type 0
+HasRead status.Ok r = IfTold r.left (λ bytes. Lost r.left r.left_after (take INPUT_LIMIT bytes))
+HasRead (status.BadInput place) r = IfTold r.left (λ bytes. Lost r.left r.left_after (take INPUT_LIMIT bytes))
+HasRead (status.Usage word) r = Kept r.left r.left_after
+HasRead status.ReadFault r = Unit {0}
+HasRead status.WriteFault r = IfTold r.left (λ bytes. Lost r.left r.left_after (take INPUT_LIMIT bytes))
+HasRead status.TurnsSpent r = Unit {0}
+HasRead status.Memory r = Unit {0}
 
--- nothing is written at these ends
-abbrev pub Unwritten : Status → Told → Told → Type 0
-Unwritten status.Ok written written' = Unit {0}
-Unwritten (status.Usage word) written written' = Kept written written'
-Unwritten (status.BadInput place) written written' = Kept written written'
-Unwritten status.ReadFault written written' = Kept written written'
-Unwritten status.WriteFault written written' = Unit {0}
-Unwritten status.TurnsSpent written written' = Kept written written'
-Unwritten status.Memory written written' = Unit {0}
-
--- ---- the steps inside
-
--- what a source tells and counts around a call
-pub record Reading : Type 0 where
-  pub left : Told
-  pub read_faults : ℕ
-  pub read_faults_after : ℕ
-  pub quiets : ℕ
-  pub quiets_after : ℕ
-
--- what a sink tells and counts around a call
-pub record Writing : Type 0 where
-  pub written : Told
-  pub written_after : Told
-  pub faults : ℕ
-  pub faults_after : ℕ
-
--- how the writing of these bytes ends
+-- How the writing of these bytes ends. Where memory runs out before the writing, nothing is written.
 abbrev pub Replies : List ℕ → Status → Writing → Type 0
 Replies bytes status.Ok w = Gained w.written w.written_after bytes
 Replies bytes status.WriteFault w = Rose w.faults w.faults_after × WritesFront bytes w.written w.written_after
-Replies bytes status.Memory w = WritesFront bytes w.written w.written_after
+Replies bytes status.Memory w = WritesFront bytes w.written w.written_after × (Rose w.wants w.wants_after ⊎ Kept w.written w.written_after)
 Replies bytes (status.Usage word) w = ⊥
 Replies bytes (status.BadInput place) w = ⊥
 Replies bytes status.ReadFault w = ⊥
@@ -79,8 +42,27 @@ Replies bytes status.TurnsSpent w = ⊥
 abbrev pub Identifies : List ℕ → Status → Reading → Writing → Type 0
 Identifies bytes status.Ok r w = IfTold r.left (λ left. IsSession (take INPUT_LIMIT left)) × Gained w.written w.written_after bytes
 Identifies bytes status.WriteFault r w = IfTold r.left (λ left. IsSession (take INPUT_LIMIT left)) × Rose w.faults w.faults_after × WritesFront bytes w.written w.written_after
-Identifies bytes status.Memory r w = WritesFront bytes w.written w.written_after
+Identifies bytes status.Memory r w = WritesFront bytes w.written w.written_after × (Rose w.wants w.wants_after ⊎ Kept w.written w.written_after)
 Identifies bytes (status.BadInput place) r w = IfTold r.left (λ left. IsRefusedAt (take INPUT_LIMIT left) place) × Kept w.written w.written_after
-Identifies bytes status.ReadFault r w = Rose r.read_faults r.read_faults_after × Kept w.written w.written_after
+Identifies bytes status.ReadFault r w = Rose r.faults r.faults_after × Kept w.written w.written_after
 Identifies bytes status.TurnsSpent r w = RoseBy (2 ^ 62) r.quiets r.quiets_after × Kept w.written w.written_after
 Identifies bytes (status.Usage word) r w = ⊥
+
+-- What `identify` does: it reads its input, and writes the whole answer where that is a session. The answer reads
+-- back as its messages, and in no other way. Unless an object is faulty or memory runs out, a session is answered,
+-- and another input is refused.
+pub record Identified (identity : Identity) (end : Status) (r : Reading) (w : Writing) : Type 0 where
+  pub ends : Identifies (answer_bytes identity) end r w
+  pub has_read : HasRead end r
+  pub messages : AreMessages (answer_bytes identity) (answer identity)
+  pub no_others : (others : List Back) → AreMessages (answer_bytes identity) others → others ≡ answer identity
+  pub complete : (bytes : List ℕ) → r.left ≡ Some bytes → ¬ Rose r.faults r.faults_after → ¬ Rose w.faults w.faults_after →
+      ¬ RoseBy (2 ^ 62) r.quiets r.quiets_after → IsSession (take INPUT_LIMIT bytes) → (end ≡ status.Ok) ⊎ (end ≡ status.Memory)
+  pub refuses : (bytes : List ℕ) → r.left ≡ Some bytes → ¬ Rose r.faults r.faults_after →
+      ¬ RoseBy (2 ^ 62) r.quiets r.quiets_after → ¬ IsSession (take INPUT_LIMIT bytes) → (end ≡ status.BadInput 0) ⊎ (end ≡ status.Memory)
+
+-- how a command ends
+abbrev pub Ends : List (List ℕ) → Command → Status → Reading → Writing → Type 0
+Ends words (command.Identify identity) end r w = Identified identity end r w
+Ends words (command.Frames s) end r w = Framed s end r w
+Ends words command.Names end r w = (text : List ℕ) → IsNames words text → Named text end r w

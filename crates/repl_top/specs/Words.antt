@@ -4,7 +4,11 @@ use Rattle.std.specs.declared.alloc.Global.{Global}
 use Rattle.std.specs.Str.Parse.{AllDigits, digits_value}
 use Rattle.repl_text.specs.Language.{StopsAt}
 use Rattle.repl_lsn.specs.Position.{Spells}
+use Rattle.repl_message.specs.declared.message.Side.{Side}
+use Rattle.repl_message.specs.declared.message.Side.TheVariants as side
 use Rattle.repl_top.specs.declared.words.Identity.{Identity}
+use Rattle.repl_top.specs.declared.words.Command.{Command}
+use Rattle.repl_top.specs.declared.words.Command.TheVariants as command
 
 -- the words, each as its bytes
 abbrev pub texts : List (String Global) → List (List ℕ)
@@ -34,9 +38,27 @@ pub record IsIdentify (words : List (List ℕ)) (identity : Identity) : Type 0 w
   pub timeline : IsTimeline timeline_word identity.timeline
   pub flushed : Spells flushed_word identity.flushed
 
+abbrev pub side_word : Side → List ℕ
+side_word side.Front = codes "front"
+side_word side.Back = codes "back"
+
+-- `frames front` and `frames back`
+abbrev pub IsFrames : List (List ℕ) → Side → Type 0
+IsFrames words s = words ≡ codes "frames" ∷ side_word s ∷ []
+
+-- `names TEXT`
+abbrev pub IsNames : List (List ℕ) → List ℕ → Type 0
+IsNames words text = words ≡ codes "names" ∷ text ∷ []
+
+-- the words are this command with its arguments
+abbrev pub IsCommand : List (List ℕ) → Command → Type 0
+IsCommand words (command.Identify identity) = IsIdentify words identity
+IsCommand words (command.Frames s) = IsFrames words s
+IsCommand words command.Names = (text : List ℕ) × IsNames words text
+
 -- the words are a command with its arguments
 abbrev pub IsCommandLine : List (List ℕ) → Type 0
-IsCommandLine words = (identity : Identity) × IsIdentify words identity
+IsCommandLine words = (c : Command) × IsCommand words c
 
 -- counted from 1, the first word with which no command line goes on, or the one missing after the last
 pub record IsUsage (words : List (List ℕ)) (word : ℕ) : Type 0 where

@@ -1,7 +1,7 @@
 ghost use Rattle.std.specs.Prelude.{◌≡◌, ◌++◌, List, Some, IfOk, OnOk, string_bytes, length, ◌≤◌};
 ghost use Rattle.std.specs.List.{flat_map, AllByRecursion};
 ghost use Rattle.repl_text.specs.Text.{IsText};
-ghost use Rattle.repl_wire.specs.Message.{back_spelling, counted, column};
+ghost use Rattle.repl_message.specs.Message.{back_spelling, counted, column};
 ghost use Rattle.repl_top.specs.Answer.{greeting, identification, answer_bytes, answer_fields, answer_row, text_field, int8_field, IsWithin};
 
 use crate::words::Identity;

@@ -1,7 +1,9 @@
 ghost use Rattle.std.specs.Prelude.{◌≡◌, ◌↔◌, List, ◌++◌, codes, IsTrue, IfOk};
-ghost use Rattle.repl_top.specs.Session.{IsSession, IsEnding, IsEnd, IsReplication, HasUser, IsPhysical, HasNoOption, IsOption, IsTrueValue};
+ghost use Rattle.repl_top.specs.Stream.{AreSession};
+ghost use Rattle.repl_top.specs.Session.{IsSession, IsReplication, HasUser, IsPhysical, HasNoOption, IsOption, IsTrueValue};
 
-use repl_wire::{Front, Message, Pair, Pairs, Phase, Startup, Taken, take};
+use crate::stream::read_messages;
+use repl_wire::{Front, Message, Pair, Pairs, Side, Startup};
 use std::alloc::{AllocError, Global};
 
 /// Whether the bytes are one session that `identify` answers: a startup packet for physical replication,
@@ -9,44 +11,19 @@ use std::alloc::{AllocError, Global};
 pub(crate) fn is_session(alloc: Global, input: &[u8]) -> Result<bool, AllocError>
     ensures { IfOk result (λ yes. IsTrue yes ↔ IsSession input.now) }
 {
-    match take(alloc, Phase::Startup, input) {
-        Taken::Whole { message, used } => {
-            if starts(&message) {
-                is_ending(alloc, &input[used..])
-            } else {
-                Ok(false)
-            }
-        }
-        Taken::Memory => Err(AllocError),
-        Taken::Short | Taken::Wrong(_) => Ok(false),
+    match read_messages(alloc, Side::Front, input)? {
+        Some(messages) => Ok(are_session(&messages)),
+        None => Ok(false),
     }
 }
 
-/// Whether the bytes are the query IDENTIFY_SYSTEM and the end of the session.
-fn is_ending(alloc: Global, input: &[u8]) -> Result<bool, AllocError>
-    ensures { IfOk result (λ yes. IsTrue yes ↔ IsEnding input.now) }
+/// Whether the messages are those of a session.
+fn are_session(messages: &[Message]) -> bool
+    ensures { IsTrue result ↔ AreSession messages.now }
 {
-    match take(alloc, Phase::Front, input) {
-        Taken::Whole { message, used } => {
-            if identifies(&message) {
-                is_end(alloc, &input[used..])
-            } else {
-                Ok(false)
-            }
-        }
-        Taken::Memory => Err(AllocError),
-        Taken::Short | Taken::Wrong(_) => Ok(false),
-    }
-}
-
-/// Whether the bytes are the end of the session.
-fn is_end(alloc: Global, input: &[u8]) -> Result<bool, AllocError>
-    ensures { IfOk result (λ yes. IsTrue yes ↔ IsEnd input.now) }
-{
-    match take(alloc, Phase::Front, input) {
-        Taken::Whole { message, used } => Ok(ends(&message) && used == input.len()),
-        Taken::Memory => Err(AllocError),
-        Taken::Short | Taken::Wrong(_) => Ok(false),
+    match messages {
+        [start, query, end] => starts(start) && identifies(query) && ends(end),
+        _ => false,
     }
 }
 

@@ -1,8 +1,9 @@
-ghost use Rattle.std.specs.Prelude.{◌≡◌, ℕ, ◌≤◌, ◌<◌, List, [], get_or, IfOk, IfErr, IfSome, IfNone};
-ghost use Rattle.repl_top.specs.Words.{IsIdentify, IsUsage, IsDecimal, IsSystem, IsTimeline, texts};
+ghost use Rattle.std.specs.Prelude.{◌≡◌, ℕ, ◌≤◌, ◌<◌, List, [], get_or, codes, IfOk, IfErr, IfSome, IfNone};
+ghost use Rattle.repl_top.specs.Words.{IsCommand, IsIdentify, IsFrames, IsUsage, IsDecimal, IsSystem, IsTimeline, texts};
 ghost use Rattle.repl_lsn.specs.Position.{Spells};
 
 use repl_lsn::{Lsn, Tli};
+use repl_wire::Side;
 
 /// What a server says of itself to IDENTIFY_SYSTEM (PostgreSQL 17 manual, section "Streaming Replication
 /// Protocol").
@@ -16,17 +17,41 @@ pub struct Identity {
     pub flushed: Lsn,
 }
 
+/// What a command line asks for.
+#[derive(Clone, Copy, Debug, PartialEq, Eq)]
+pub(crate) enum Command {
+    /// `identify SYSID TLI LSN`.
+    Identify(Identity),
+    /// `frames front` or `frames back`.
+    Frames(Side),
+    /// `names TEXT`: the text is the second word.
+    Names,
+}
+
 /// Reads the words of a command line, without the program's name.
 ///
-/// The one command so far is `identify SYSID TLI LSN`. A fault is the number, counted from 1, of the first
-/// word with which no command line goes on, or of the word that is missing after the last.
-pub(crate) fn read_words(words: &[String]) -> Result<Identity, usize>
+/// A fault is the number, counted from 1, of the first word with which no command line goes on, or of the
+/// word that is missing after the last.
+pub(crate) fn read_words(words: &[String]) -> Result<Command, usize>
+    ensures read { IfOk result (λ command. IsCommand (texts words.now) command) }
+    ensures wrong { IfErr result (λ word. IsUsage (texts words.now) word) }
+{
+    match word_at(words, 0) {
+        "identify" => Ok(Command::Identify(read_identity(words)?)),
+        "frames" => Ok(Command::Frames(read_side(words)?)),
+        "names" if words.len() == 2 => Ok(Command::Names),
+        "names" if words.len() < 2 => Err(2),
+        "names" => Err(3),
+        _ => Err(1),
+    }
+}
+
+/// The arguments of `identify`, whose word is there.
+fn read_identity(words: &[String]) -> Result<Identity, usize>
+    requires { get_or (texts words.now) 0 [] ≡ codes "identify" }
     ensures read { IfOk result (λ identity. IsIdentify (texts words.now) identity) }
     ensures wrong { IfErr result (λ word. IsUsage (texts words.now) word) }
 {
-    if word_at(words, 0) != "identify" {
-        return Err(1);
-    }
     let Some(system) = read_system(word_at(words, 1)) else {
         return Err(2);
     };
@@ -46,8 +71,25 @@ pub(crate) fn read_words(words: &[String]) -> Result<Identity, usize>
     })
 }
 
+/// The argument of `frames`, whose word is there.
+fn read_side(words: &[String]) -> Result<Side, usize>
+    requires { get_or (texts words.now) 0 [] ≡ codes "frames" }
+    ensures read { IfOk result (λ side. IsFrames (texts words.now) side) }
+    ensures wrong { IfErr result (λ word. IsUsage (texts words.now) word) }
+{
+    let side = match word_at(words, 1) {
+        "front" => Side::Front,
+        "back" => Side::Back,
+        _ => return Err(2),
+    };
+    if words.len() > 2 {
+        return Err(3);
+    }
+    Ok(side)
+}
+
 /// The word at the place, from 0, or past the last an empty text, which is no command and no argument.
-fn word_at(words: &[String], place: usize) -> &str
+pub(crate) fn word_at(words: &[String], place: usize) -> &str
     ensures { result.now ≡ get_or (texts words.now) place [] }
 {
     match words.get(place) {

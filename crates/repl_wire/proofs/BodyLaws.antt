@@ -4,10 +4,11 @@ use Rattle.std.specs.List.{AllByRecursion, flat_map}
 use Rattle.std.proofs.lemmas.Bool.{eqb-true}
 use Rattle.std.proofs.lemmas.List.{append-nil, length-append, length-drop, nil_from_length}
 use Rattle.repl_text.specs.Text.{IsText}
-use Rattle.repl_wire.specs.declared.startup.Pair.{Pair}
-use Rattle.repl_wire.specs.Message.{int32, string, pair, ended, AreBytes, FitsPair}
-use Rattle.repl_wire.specs.Judging.{string_at, pairs_at, whole, number, parameters_of, text_of, nothing_of, bytes_of, two_numbers_of}
-use Rattle.repl_wire.proofs.FieldLaws.{IsBytes, IsBytes-rest, bind_ok, ok_is, guard_ended, whole_takes, Takes-then, Takes-all, int32_takes, int32_again, string_takes, string_again}
+use Rattle.repl_message.specs.declared.startup.Pair.{Pair}
+use Rattle.repl_message.specs.Message.{int32, string, pair, ended, AreBytes, FitsPair}
+use Rattle.repl_message.specs.Reading.{string_at, whole, number}
+use Rattle.repl_wire.specs.Judging.{pairs_at, parameters_of, text_of, nothing_of, bytes_of, two_numbers_of}
+use Rattle.repl_message.proofs.FieldLaws.{IsBytes, IsBytes-rest, bind_ok, ok_is, guard_ended, whole_takes, Takes-then, Takes-all, int32_takes, int32_again, string_takes, string_again}
 use Rattle.repl_wire.proofs.PairLaws.{pairs_take, pairs_again, length-pairs}
 
 pub parameters_take : (body : List ℕ) (ps : List Pair) → IsBytes body → parameters_of body ≡ Ok ps → (body ≡ ended pair ps) × AllByRecursion FitsPair ps
@@ -47,7 +48,7 @@ pub nothing_again : nothing_of [] ≡ Ok tt
 unfolding nothing_of
 nothing_again = refl
 
-are_bytes : (bytes : List ℕ) → IsBytes bytes → AreBytes bytes
+pub are_bytes : (bytes : List ℕ) → IsBytes bytes → AreBytes bytes
 are_bytes [] fits = tt
 are_bytes (b ∷ bytes) fits = (fits 0, are_bytes bytes (IsBytes-rest b bytes fits))
 

@@ -3,9 +3,10 @@ use Rattle.std.proofs.Common.{◌≡◌, ℕ, ◌+◌, ◌-◌, ◌^◌, ◌<◌
 use Rattle.std.proofs.lemmas.Bool.{ltb-false, le-ltb, or_parts}
 use Rattle.std.proofs.lemmas.List.{take_at, take-take, drop-take, length-append, length-take, length-drop}
 use Rattle.repl_wire.specs.declared.fault.WireFault.{WireFault}
-use Rattle.repl_wire.specs.Message.{int32, framed}
-use Rattle.repl_wire.specs.Judging.{frame_of, number}
-use Rattle.repl_wire.proofs.FieldLaws.{IsBytes, IsBytes-take, IsBytes-drop, int32_takes, int32_again}
+use Rattle.repl_message.specs.Message.{int32, framed}
+use Rattle.repl_message.specs.Reading.{number}
+use Rattle.repl_wire.specs.Judging.{frame_of}
+use Rattle.repl_message.proofs.FieldLaws.{IsBytes, IsBytes-take, IsBytes-drop, int32_takes, int32_again}
 
 abbrev Read : Type 0
 Read = Result (Option (List ℕ)) WireFault
@@ -34,7 +35,7 @@ tests_passed false true part f made body e = absurd cc
 tests_passed false false true f made body e = absurd cc
 tests_passed false false false f made body e = (refl, refl, refl, cc)
 
-whole_of_body : (place least limit : ℕ) (bytes body : List ℕ) → frame_of place least limit bytes ≡ there_is body → IsWhole least limit bytes × (drop 4 (take (number bytes) bytes) ≡ body)
+pub whole_of_body : (place least limit : ℕ) (bytes body : List ℕ) → frame_of place least limit bytes ≡ there_is body → IsWhole least limit bytes × (drop 4 (take (number bytes) bytes) ≡ body)
 unfolding frame_of
 whole_of_body place least limit bytes body e =
     let t = tests_passed (ltb (length bytes) 4) (ltb (number bytes) least || ltb limit (number bytes)) (ltb (length bytes) (number bytes)) _ (drop 4 (take (number bytes) bytes)) body e in

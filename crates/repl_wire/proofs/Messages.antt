@@ -2,24 +2,27 @@
 use Rattle.std.proofs.Common.{◌≡◌, ℕ, suc, ◌+◌, ◌^◌, ◌<◌, ◌≤◌, Bool, true, false, cond, eqb, List, [], ◌∷◌, ◌++◌, length, take, drop, Option, Some, None, Result, Ok, Err, refl, sym, ap, subst, ◌∙◌, arith, ◌⊎◌, inl, inr}
 use Rattle.std.proofs.lemmas.Bool.{eqb-true}
 use Rattle.std.proofs.lemmas.List.{length-append}
-use Rattle.repl_wire.specs.declared.startup.Startup.{Startup}
-use Rattle.repl_wire.specs.declared.startup.Startup.TheVariants as startup
-use Rattle.repl_wire.specs.declared.startup.Pair.{Pair}
-use Rattle.repl_wire.specs.declared.front.Front.{Front}
-use Rattle.repl_wire.specs.declared.front.Front.TheVariants as front
+use Rattle.repl_message.specs.declared.startup.Startup.{Startup}
+use Rattle.repl_message.specs.declared.startup.Startup.TheVariants as startup
+use Rattle.repl_message.specs.declared.startup.Pair.{Pair}
+use Rattle.repl_message.specs.declared.back.Back.{Back}
+use Rattle.repl_message.specs.declared.front.Front.{Front}
+use Rattle.repl_message.specs.declared.front.Front.TheVariants as front
 use Rattle.repl_wire.specs.declared.fault.WireFault.{WireFault}
-use Rattle.repl_wire.specs.declared.message.Phase.{Phase}
-use Rattle.repl_wire.specs.declared.message.Phase.TheVariants as phase
-use Rattle.repl_wire.specs.declared.message.Message.{Message}
-use Rattle.repl_wire.specs.declared.message.Message.TheVariants as message
-use Rattle.repl_wire.specs.declared.message.TheConstants.{STARTUP_LEAST, STARTUP_LIMIT, MESSAGE_LIMIT, COPY_DATA_LIMIT}
+use Rattle.repl_message.specs.declared.message.Phase.{Phase}
+use Rattle.repl_message.specs.declared.message.Phase.TheVariants as phase
+use Rattle.repl_message.specs.declared.message.Message.{Message}
+use Rattle.repl_message.specs.declared.message.Message.TheVariants as message
+use Rattle.repl_message.specs.declared.message.TheConstants.{STARTUP_LEAST, STARTUP_LIMIT, MESSAGE_LIMIT, COPY_DATA_LIMIT}
 use Rattle.repl_wire.specs.declared.taking.Taken.{Taken}
 use Rattle.repl_wire.specs.declared.taking.Taken.TheVariants as taken
-use Rattle.repl_wire.specs.Message.{int32, pair, ended, framed, startup_body, front_kind, front_body, front_limit, front_spelling, spelling, FitsStartup, FitsFront, IsFront, IsStartup, Belongs, Spells}
-use Rattle.repl_wire.specs.Judging.{IsJudged, judge, judge_startup, judge_front, judge_packet, judge_message, on_frame, read_as, read_packet, text_of, nothing_of, bytes_of, two_numbers_of, parameters_of, frame_of, number}
-use Rattle.repl_wire.proofs.FieldLaws.{IsBytes, IsBytes-drop, IsBytes-rest, int32_takes, int32_again}
+use Rattle.repl_message.specs.Message.{int32, pair, ended, framed, startup_body, front_kind, front_body, front_limit, front_spelling, back_body, back_spelling, spelling, FitsStartup, FitsFront, IsFront, IsBack, IsStartup, Belongs, Spells}
+use Rattle.repl_message.specs.Reading.{number}
+use Rattle.repl_wire.specs.Judging.{IsJudged, judge, judge_startup, judge_front, judge_back, judge_ended, judge_row, Row, back_row, judge_packet, judge_message, on_frame, read_as, read_packet, text_of, nothing_of, bytes_of, two_numbers_of, parameters_of, frame_of}
+use Rattle.repl_message.proofs.FieldLaws.{IsBytes, IsBytes-drop, IsBytes-rest, int32_takes, int32_again}
 use Rattle.repl_wire.proofs.Frames.{IsFrame, frame_takes, frame_again, length-framed}
 use Rattle.repl_wire.proofs.BodyLaws.{parameters_take, parameters_again, text_takes, text_again, nothing_takes, nothing_again, bytes_take, bytes_again, two_numbers_take, two_numbers_again}
+use Rattle.repl_wire.proofs.ServerBodies.{IsBody, rows_take, has_row}
 
 -- ---- steps
 
@@ -141,6 +144,39 @@ front_found (kind ∷ bytes) m used fits e =
       ]
     ]
 
+-- ---- messages of the server
+
+-- a frame behind a type byte spells the message whose kind and body they are
+back_spells : (m : Back) (kind least limit : ℕ) (bytes body : List ℕ) → IsFrame least limit bytes body → IsBody kind limit body m
+    → (length body + 5 ≤ length (kind ∷ bytes)) × Spells phase.Back (message.Back m) (take (length body + 5) (kind ∷ bytes))
+back_spells m kind least limit bytes body f is =
+    let one_more : length body + 5 ≡ suc (length body + 4) = omega arith in
+    let parts = is.parts in
+    let limit_is = is.limit_is in
+    let spelled : take (length body + 5) (kind ∷ bytes) ≡ back_spelling m = rw (one_more, f.spelled, ← is.kind_is, parts) refl in
+    (omega (arith, f.there), record { belongs = record { fits = is.fits; within = rw (← parts, ← limit_is) f.high }; spelled = spelled })
+
+-- the row by which a message was read
+row_whole : (o : Option Row) (bytes : List ℕ) (m : Message) (used : ℕ) → judge_row o bytes ≡ taken.Whole m used → (r : Row) × (o ≡ Some r) × (judge_row (Some r) bytes ≡ taken.Whole m used)
+row_whole None bytes m used e = absurd cc
+row_whole (Some r) bytes m used e = (r, refl, e)
+
+back_found : (bytes : List ℕ) (m : Message) (used : ℕ) → IsBytes bytes → judge_back bytes ≡ taken.Whole m used → (used ≤ length bytes) × Spells phase.Back m (take used bytes)
+unfolding judge_back
+back_found [] m used fits e = absurd cc
+back_found (kind ∷ bytes) m used fits e =
+    let w = row_whole (back_row kind) bytes m used e in
+    let r : Row = w.0 in
+    let is = rows_take kind r w.1 in
+    let f = framed_whole (frame_of 1 (r.least + 4) r.limit bytes) (λ body. read_as (λ (n : Back). message.Back n) (length body + 5) (r.read body)) m used w.2 in
+    let n = read_whole (λ (n : Back). message.Back n) (length f.0 + 5) (r.read f.0) m used f.2 in
+    let frame = frame_takes 1 (r.least + 4) r.limit bytes f.0 (omega arith) (IsBytes-rest kind bytes fits) f.1 in
+    found_as phase.Back (kind ∷ bytes) m (message.Back n.0) used (length f.0 + 5) n.2 n.3 (back_spells n.0 kind (r.least + 4) r.limit bytes f.0 frame (is.takes f.0 n.0 frame.fits n.1))
+
+ended_found : (bytes : List ℕ) (m : Message) (used : ℕ) → judge_ended bytes ≡ taken.Whole m used → ⊥
+ended_found [] m used e = cc
+ended_found (kind ∷ bytes) m used e = cc
+
 -- ---- startup packets
 
 -- the fields behind this code are read so
@@ -217,6 +253,8 @@ startup_found bytes m used fits e =
 pub is_found : (p : Phase) (bytes : List ℕ) (t : Taken) → IsBytes bytes → IsJudged t (judge p bytes) → (m : Message) (used : ℕ) → t ≡ taken.Whole m used → (used ≤ length bytes) × Spells p m (take used bytes)
 is_found phase.Startup bytes t fits judged m used e = startup_found bytes m used fits (subst (λ (x : Taken). IsJudged x (judge_startup bytes)) e judged)
 is_found phase.Front bytes t fits judged m used e = front_found bytes m used fits (subst (λ (x : Taken). IsJudged x (judge_front bytes)) e judged)
+is_found phase.Back bytes t fits judged m used e = back_found bytes m used fits (subst (λ (x : Taken). IsJudged x (judge_back bytes)) e judged)
+is_found phase.Ended bytes t fits judged m used e = absurd (ended_found bytes m used (subst (λ (x : Taken). IsJudged x (judge_ended bytes)) e judged))
 
 -- ---- what is spelled is taken
 
@@ -284,6 +322,19 @@ front_again front.CopyDone rest is = message_again copy_done_reader tt rest is
 front_again (front.CopyFail text) rest is = message_again copy_fail_reader text rest is
 front_again front.Terminate rest is = message_again terminate_reader tt rest is
 
+back_again : (m : Back) (rest : List ℕ) → IsBack m → judge_back (back_spelling m ++ rest) ≡ taken.Whole (message.Back m) (length (back_spelling m))
+unfolding judge_back
+back_again m rest is =
+    let body = back_body m in
+    let row = has_row m is in
+    let r : Row = row.its in
+    let row_is = row.row_is in
+    let low = row.low in
+    let high : length body + 4 ≤ r.limit = rw row.limit_is is.within in
+    let len : length body + 5 ≡ suc (length (framed body)) = omega (arith, length-framed body) in
+    let read_is = row.again in
+    rw (row_is, frame_again 1 (r.least + 4) r.limit body rest (omega arith) high row.below, read_is) (ap (taken.Whole (message.Back m)) len)
+
 again : (p : Phase) (m : Message) (rest : List ℕ) → Belongs p m → judge p (spelling m ++ rest) ≡ taken.Whole m (length (spelling m))
 again phase.Startup (message.Startup m) rest is = startup_again m rest is
 again phase.Startup (message.Front m) rest is = absurd is
@@ -291,6 +342,10 @@ again phase.Startup (message.Back m) rest is = absurd is
 again phase.Front (message.Startup m) rest is = absurd is
 again phase.Front (message.Front m) rest is = front_again m rest is
 again phase.Front (message.Back m) rest is = absurd is
+again phase.Back (message.Startup m) rest is = absurd is
+again phase.Back (message.Front m) rest is = absurd is
+again phase.Back (message.Back m) rest is = back_again m rest is
+again phase.Ended m rest is = absurd is
 
 whole_or_memory : (t judged : Taken) (m : Message) (used : ℕ) → IsJudged t judged → judged ≡ taken.Whole m used → (t ≡ taken.Whole m used) ⊎ (t ≡ taken.Memory)
 whole_or_memory taken.Memory judged m used j e = inr refl

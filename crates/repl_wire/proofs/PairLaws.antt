@@ -5,22 +5,23 @@ use Rattle.std.specs.List.{AllByRecursion, flat_map}
 use Rattle.std.proofs.lemmas.List.{append-nil, length-append}
 use Rattle.std.proofs.lemmas.List.Elements.{All-from_recursion}
 use Rattle.std.proofs.lemmas.List.Concat.{flat_map-cons}
-use Rattle.repl_wire.specs.declared.startup.Pair.{Pair}
+use Rattle.repl_message.specs.declared.startup.Pair.{Pair}
 use Rattle.repl_wire.specs.declared.fields.FieldFault.{FieldFault}
 use Rattle.repl_wire.specs.declared.fields.FieldFault.TheVariants as field_fault
-use Rattle.repl_wire.specs.Lists.{AreNamed}
-use Rattle.repl_wire.specs.Message.{string, pair, ended, FitsPair}
-use Rattle.repl_wire.specs.Judging.{◌>>=◌, Fails, string_at, pairs_at}
-use Rattle.repl_wire.proofs.FieldLaws.{IsBytes, IsBytes-rest, bind_ok, ok_is, Takes, Takes-then, Takes-ended, ended-cons, string_takes, string_again, string_first, string_begins}
+use Rattle.repl_message.specs.Lists.{AreNamed}
+use Rattle.repl_message.specs.Message.{string, pair, ended, FitsPair}
+use Rattle.repl_message.specs.Reading.{◌>>=◌, string_at}
+use Rattle.repl_wire.specs.Judging.{Fails, pairs_at}
+use Rattle.repl_message.proofs.FieldLaws.{IsBytes, IsBytes-rest, bind_ok, ok_is, Takes, Takes-then, Takes-ended, ended-cons, string_takes, string_again, string_first, string_begins}
 
 -- a pair and what follows it, where no zero byte stands first, in steps
-abbrev after_others : List ℕ → List ℕ → List Pair × List ℕ → Result (List Pair × List ℕ) ℕ
+abbrev pub after_others : List ℕ → List ℕ → List Pair × List ℕ → Result (List Pair × List ℕ) ℕ
 after_others name value others = Ok (record { name = name; value = value } ∷ others.0, others.1)
 
-abbrev after_value : ℕ → List ℕ → List ℕ × List ℕ → Result (List Pair × List ℕ) ℕ
+abbrev pub after_value : ℕ → List ℕ → List ℕ × List ℕ → Result (List Pair × List ℕ) ℕ
 after_value turns name value = pairs_at turns value.1 >>= after_others name value.0
 
-abbrev after_name : ℕ → List ℕ × List ℕ → Result (List Pair × List ℕ) ℕ
+abbrev pub after_name : ℕ → List ℕ × List ℕ → Result (List Pair × List ℕ) ℕ
 after_name turns name = string_at name.1 >>= after_value turns name.0
 
 abbrev pair_then : ℕ → List ℕ → Result (List Pair × List ℕ) ℕ

@@ -2,44 +2,31 @@
 -- bytes are needed, or the first fault. The type byte is judged at once, the length field when its four
 -- bytes are there, and the body when the whole frame is there.
 use Rattle.std.specs.Prelude.{◌≡◌, ℕ, zero, suc, ◌+◌, ◌-◌, ◌||◌, List, [], ◌∷◌, length, take, drop, Option, Some, None, Result, Ok, Err, nat_lt, ◌==◌, if◌then◌else◌}
-use Rattle.std.specs.Option.{option_map}
-use Rattle.std.specs.Int.{w32, from_be_bytes}
-use Rattle.repl_wire.specs.declared.startup.Pair.{Pair}
-use Rattle.repl_wire.specs.declared.startup.Startup.{Startup}
-use Rattle.repl_wire.specs.declared.startup.Startup.TheVariants as startup
-use Rattle.repl_wire.specs.declared.front.Front.{Front}
-use Rattle.repl_wire.specs.declared.front.Front.TheVariants as front
+use Rattle.std.specs.Int.{w16, w32, from_be_bytes, cast_signed}
+use Rattle.repl_message.specs.declared.startup.Pair.{Pair}
+use Rattle.repl_message.specs.declared.startup.Startup.{Startup}
+use Rattle.repl_message.specs.declared.startup.Startup.TheVariants as startup
+use Rattle.repl_message.specs.Reading.{◌>>=◌, string_at, whole, number}
+use Rattle.repl_message.specs.declared.back.TransactionStatus.TheVariants.{Idle, Open, Failed}
+use Rattle.repl_message.specs.declared.back.Field.{Field}
+use Rattle.repl_message.specs.declared.back.ErrorField.{ErrorField}
+use Rattle.repl_message.specs.declared.back.Back.{Back}
+use Rattle.repl_message.specs.declared.back.Back.TheVariants as back
+use Rattle.repl_message.specs.declared.front.Front.{Front}
+use Rattle.repl_message.specs.declared.front.Front.TheVariants as front
 use Rattle.repl_wire.specs.declared.fault.WireFault.{WireFault}
 use Rattle.repl_wire.specs.declared.fault.WireFault.TheVariants as fault
-use Rattle.repl_wire.specs.declared.message.Phase.{Phase}
-use Rattle.repl_wire.specs.declared.message.Phase.TheVariants as phase
-use Rattle.repl_wire.specs.declared.message.Message.{Message}
-use Rattle.repl_wire.specs.declared.message.Message.TheVariants as message
-use Rattle.repl_wire.specs.declared.message.TheConstants.{STARTUP_LEAST, STARTUP_LIMIT, MESSAGE_LIMIT, COPY_DATA_LIMIT}
+use Rattle.repl_message.specs.declared.message.Phase.{Phase}
+use Rattle.repl_message.specs.declared.message.Phase.TheVariants as phase
+use Rattle.repl_message.specs.declared.message.Message.{Message}
+use Rattle.repl_message.specs.declared.message.Message.TheVariants as message
+use Rattle.repl_message.specs.declared.message.TheConstants.{STARTUP_LEAST, STARTUP_LIMIT, MESSAGE_LIMIT, COPY_DATA_LIMIT}
 use Rattle.repl_wire.specs.declared.taking.Taken.{Taken}
 use Rattle.repl_wire.specs.declared.taking.Taken.TheVariants as taken
 use Rattle.repl_wire.specs.declared.fields.FieldFault.{FieldFault}
 use Rattle.repl_wire.specs.declared.fields.FieldFault.TheVariants as field_fault
 
 -- ---- fields: a value and the bytes after it, or a fault, as the number of bytes left in the body there
-
-infixl 10 ◌>>=◌
-abbrev pub ◌>>=◌ : {A B : Type 0} → Result A ℕ → (A → Result B ℕ) → Result B ℕ
-(Ok x) >>= f = f x
-(Err left) >>= f = Err left
-
--- the bytes up to the first zero byte, and those after it
-abbrev pub at_zero : List ℕ → Option (List ℕ × List ℕ)
-at_zero [] = None
-at_zero (zero ∷ rest) = Some ([], rest)
-at_zero (suc b ∷ rest) = option_map (λ (parts : List ℕ × List ℕ). (suc b ∷ parts.0, parts.1)) (at_zero rest)
-
-abbrev pub ok_or_left : {A : Type 0} → Option A → ℕ → Result A ℕ
-ok_or_left None left = Err left
-ok_or_left (Some x) left = Ok x
-
-unfoldable pub string_at : List ℕ → Result (List ℕ × List ℕ) ℕ
-string_at bytes = ok_or_left (at_zero bytes) (length bytes)
 
 -- pairs of strings up to a zero byte where a name would stand, in so many turns at most
 unfoldable pub pairs_at : ℕ → List ℕ → Result (List Pair × List ℕ) ℕ
@@ -51,10 +38,6 @@ pairs_at (suc turns) (suc b ∷ rest) = do
   value ← string_at name.1
   others ← pairs_at turns value.1
   Ok (record { name = name.0; value = value.0 } ∷ others.0, others.1)
-
--- nothing stands after the last field
-abbrev pub whole : {A : Type 0} → A × List ℕ → Result A ℕ
-whole (x, rest) = if length rest == 0 then Ok x else Err (length rest)
 
 -- ---- bodies
 
@@ -71,13 +54,128 @@ nothing_of body = whole (tt, body)
 unfoldable pub bytes_of : List ℕ → Result (List ℕ) ℕ
 bytes_of body = Ok body
 
--- the number in the first four bytes
-abbrev pub number : List ℕ → ℕ
-number bytes = from_be_bytes w32 (take 4 bytes)
-
 -- two numbers, judged by their length alone
 unfoldable pub two_numbers_of : List ℕ → Result (ℕ × ℕ) ℕ
 two_numbers_of body = if length body == 8 then Ok (number body, number (drop 4 body)) else Err (length body)
+
+-- ---- the fields and bodies of the server's messages
+
+abbrev pub byte_at : List ℕ → Result (ℕ × List ℕ) ℕ
+byte_at [] = Err 0
+byte_at (b ∷ rest) = Ok (b, rest)
+
+unfoldable pub int16_at : List ℕ → Result (ℕ × List ℕ) ℕ
+int16_at bytes = if nat_lt (length bytes) 2 then Err (length bytes) else Ok (from_be_bytes w16 (take 2 bytes), drop 2 bytes)
+
+unfoldable pub int32_at : List ℕ → Result (ℕ × List ℕ) ℕ
+int32_at bytes = if nat_lt (length bytes) 4 then Err (length bytes) else Ok (number bytes, drop 4 bytes)
+
+-- so many entries, one after another
+unfoldable pub entries_at : {A : Type 0} → (List ℕ → Result (A × List ℕ) ℕ) → ℕ → List ℕ → Result (List A × List ℕ) ℕ
+entries_at entry zero bytes = Ok ([], bytes)
+entries_at entry (suc count) bytes = do
+  first ← entry bytes
+  others ← entries_at entry count first.1
+  Ok (first.0 ∷ others.0, others.1)
+
+-- a list that its length in two bytes counts
+abbrev pub counted_at : {A : Type 0} → (List ℕ → Result (A × List ℕ) ℕ) → List ℕ → Result (List A × List ℕ) ℕ
+counted_at entry bytes = do
+  count ← int16_at bytes
+  entries_at entry count.0 count.1
+
+-- a column of RowDescription
+unfoldable pub field_at : List ℕ → Result (Field × List ℕ) ℕ
+field_at bytes = do
+  name ← string_at bytes
+  table ← int32_at name.1
+  attribute ← int16_at table.1
+  type_oid ← int32_at attribute.1
+  size ← int16_at type_oid.1
+  modifier ← int32_at size.1
+  format ← int16_at modifier.1
+  Ok (record { name = name.0; table = table.0; attribute = cast_signed w16 attribute.0; type_oid = type_oid.0; size = cast_signed w16 size.0; modifier = cast_signed w32 modifier.0; format = format.0 }, format.1)
+
+-- A value of DataRow. Its length and its bytes are one field: no body goes on with a length that is not that of
+-- a null and is more than what is left.
+unfoldable pub column_at : List ℕ → Result (Option (List ℕ) × List ℕ) ℕ
+column_at bytes = do
+  size ← int32_at bytes
+  if size.0 == 0xffff_ffff then Ok (None, size.1)
+      else if nat_lt (length size.1) size.0 then Err (length bytes)
+      else Ok (Some (take size.0 size.1), drop size.0 size.1)
+
+-- codes that are not 0, each with a string, up to a zero byte where a code would stand, in so many turns at most
+unfoldable pub coded_at : ℕ → List ℕ → Result (List ErrorField × List ℕ) ℕ
+coded_at zero bytes = Err (length bytes)
+coded_at (suc turns) [] = Err 0
+coded_at (suc turns) (zero ∷ rest) = Ok ([], rest)
+coded_at (suc turns) (suc code ∷ rest) = do
+  text ← string_at rest
+  others ← coded_at turns text.1
+  Ok (record { code = suc code; text = text.0 } ∷ others.0, others.1)
+
+-- a value that ends a body is this message
+abbrev pub made : {A B : Type 0} → (A → B) → Result A ℕ → Result B ℕ
+made make (Ok x) = Ok (make x)
+made make (Err left) = Err left
+
+unfoldable pub authentication_of : List ℕ → Result Back ℕ
+authentication_of body = do
+  code ← int32_at body
+  if code.0 == 0 then whole (back.AuthenticationOk, code.1) else Err (length body)
+
+unfoldable pub setting_of : List ℕ → Result Back ℕ
+setting_of body = do
+  name ← string_at body
+  value ← string_at name.1
+  whole (back.ParameterStatus name.0 value.0, value.1)
+
+unfoldable pub key_of : List ℕ → Result Back ℕ
+key_of body = do
+  pid ← int32_at body
+  key ← int32_at pid.1
+  whole (back.BackendKeyData pid.0 key.0, key.1)
+
+unfoldable pub status_of : List ℕ → Result Back ℕ
+status_of body = do
+  status ← byte_at body
+  if status.0 == 73 then whole (back.ReadyForQuery Idle, status.1)
+      else if status.0 == 84 then whole (back.ReadyForQuery Open, status.1)
+      else if status.0 == 69 then whole (back.ReadyForQuery Failed, status.1)
+      else Err (length body)
+
+unfoldable pub description_of : List ℕ → Result Back ℕ
+description_of body = do
+  fields ← counted_at field_at body
+  whole (back.RowDescription fields.0, fields.1)
+
+unfoldable pub data_row_of : List ℕ → Result Back ℕ
+data_row_of body = do
+  columns ← counted_at column_at body
+  whole (back.DataRow columns.0, columns.1)
+
+unfoldable pub tag_of : List ℕ → Result Back ℕ
+tag_of body = made (λ text. back.CommandComplete text) (text_of body)
+
+unfoldable pub error_of : List ℕ → Result Back ℕ
+error_of body = do
+  fields ← coded_at (length body) body
+  whole (back.ErrorResponse fields.0, fields.1)
+
+unfoldable pub notice_of : List ℕ → Result Back ℕ
+notice_of body = do
+  fields ← coded_at (length body) body
+  whole (back.NoticeResponse fields.0, fields.1)
+
+unfoldable pub copy_done_of : List ℕ → Result Back ℕ
+copy_done_of body = made (λ _. back.CopyDone) (nothing_of body)
+
+unfoldable pub copy_both_of : List ℕ → Result Back ℕ
+copy_both_of body = do
+  format ← byte_at body
+  formats ← counted_at int16_at format.1
+  whole (back.CopyBoth format.0 formats.0, formats.1)
 
 -- ---- frames
 
@@ -130,9 +228,53 @@ judge_front (kind ∷ bytes) =
     else if kind == 88 then judge_message (λ _. front.Terminate) 0 MESSAGE_LIMIT nothing_of bytes
     else taken.Wrong (fault.Kind 0)
 
+-- ---- the server's messages
+
+-- How the body of a message is read, the fewest bytes that it has, and the greatest length field.
+pub record Row : Type 0 where
+  pub least : ℕ
+  pub limit : ℕ
+  pub read : List ℕ → Result Back ℕ
+
+-- the greatest length field is that of most messages
+abbrev pub usual : ℕ → (List ℕ → Result Back ℕ) → Option Row
+usual least read = Some (record { least = least; limit = MESSAGE_LIMIT; read = read })
+
+-- the messages of the server by their type bytes
+abbrev pub back_row : ℕ → Option Row
+back_row kind =
+    if kind == 82 then usual 4 authentication_of
+    else if kind == 83 then usual 2 setting_of
+    else if kind == 75 then usual 8 key_of
+    else if kind == 90 then usual 1 status_of
+    else if kind == 84 then usual 2 description_of
+    else if kind == 68 then usual 2 data_row_of
+    else if kind == 67 then usual 1 tag_of
+    else if kind == 69 then usual 1 error_of
+    else if kind == 78 then usual 1 notice_of
+    else if kind == 100 then Some (record { least = 0; limit = COPY_DATA_LIMIT; read = λ body. Ok (back.CopyData body) })
+    else if kind == 99 then usual 0 copy_done_of
+    else if kind == 87 then usual 3 copy_both_of
+    else None
+
+abbrev pub judge_row : Option Row → List ℕ → Taken
+judge_row None bytes = taken.Wrong (fault.Kind 0)
+judge_row (Some r) bytes = on_frame (frame_of 1 (r.least + 4) r.limit bytes) (λ body. read_as (λ m. message.Back m) (length body + 5) (r.read body))
+
+unfoldable pub judge_back : List ℕ → Taken
+judge_back [] = taken.Short
+judge_back (kind ∷ bytes) = judge_row (back_row kind) bytes
+
+-- where the session is over, any byte is one too many
+abbrev pub judge_ended : List ℕ → Taken
+judge_ended [] = taken.Short
+judge_ended (kind ∷ bytes) = taken.Wrong (fault.Kind 0)
+
 abbrev pub judge : Phase → List ℕ → Taken
 judge phase.Startup bytes = judge_startup bytes
 judge phase.Front bytes = judge_front bytes
+judge phase.Back bytes = judge_back bytes
+judge phase.Ended bytes = judge_ended bytes
 
 -- ---- what the code gives
 

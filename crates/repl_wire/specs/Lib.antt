@@ -1,4 +1,3 @@
-pub mod Lists
-pub mod Message
 pub mod Judging
-pub mod Encoding
+pub mod Places
+pub mod Reader

@@ -1,7 +1,6 @@
 ghost use Rattle.std.specs.Prelude.{◌≡◌};
-ghost use Rattle.repl_wire.specs.declared.fault.EncodeFault.TheVariants.{Memory};
+ghost use Rattle.repl_wire.specs.Reader.{at_place};
 
-use std::alloc::{AllocError, AllocFailed};
 use thiserror::Error;
 
 /// The first fault of bytes that spell no message. Places count from the first of the bytes.
@@ -21,28 +20,22 @@ pub enum WireFault {
     Body(u64),
 }
 
-/// Why a message was not encoded. What the bytes were to be appended to is then as before.
-#[derive(Clone, Copy, Debug, PartialEq, Eq, Error)]
-pub enum EncodeFault {
-    /// The length field would be above its limit: it would be `length`, or at least 2^64 - 1.
-    #[error("a message of length {length} is too long")]
-    TooLong { length: u64 },
-    #[error("out of memory")]
-    Memory,
-}
-
-impl From<AllocError> for EncodeFault {
-    ghost from_gives = { λ _ e. e ≡ Memory };
-
-    fn from(_error: AllocError) -> EncodeFault {
-        EncodeFault::Memory
-    }
-}
-
-impl<T: Drop> From<AllocFailed<T>> for EncodeFault {
-    ghost from_gives = { λ _ e. e ≡ Memory };
-
-    fn from(_error: AllocFailed<T>) -> EncodeFault {
-        EncodeFault::Memory
+impl WireFault {
+    /// The fault of bytes that stand at this place, with its own place counted from there on.
+    pub(crate) fn moved(self, place: u64) -> WireFault
+        ensures { result ≡ at_place place self }
+    {
+        match self {
+            WireFault::Kind(at) => WireFault::Kind(place.saturating_add(at)),
+            WireFault::Length { place: at, said } => WireFault::Length {
+                place: place.saturating_add(at),
+                said,
+            },
+            WireFault::Code { place: at, said } => WireFault::Code {
+                place: place.saturating_add(at),
+                said,
+            },
+            WireFault::Body(at) => WireFault::Body(place.saturating_add(at)),
+        }
     }
 }

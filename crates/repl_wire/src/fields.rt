@@ -1,8 +1,9 @@
 ghost use Rattle.std.specs.Prelude.{◌≡◌, ◌≤◌, List, length, take, drop};
-ghost use Rattle.repl_wire.specs.Judging.{Gives, string_at, pairs_at, parameters_of, text_of, nothing_of, bytes_of, two_numbers_of};
+ghost use Rattle.repl_message.specs.Reading.{string_at};
+ghost use Rattle.repl_wire.specs.Judging.{Gives, pairs_at, parameters_of, text_of, nothing_of, bytes_of, two_numbers_of};
 
-use crate::startup::{Pair, Pairs};
 use bytes::Bytes;
+use repl_message::{Pair, Pairs};
 use repl_text::Text;
 use std::alloc::{AllocError, AllocFailed, Global};
 
@@ -35,8 +36,8 @@ impl<T: Drop> From<AllocFailed<T>> for FieldFault {
 }
 
 /// The string at the front of a body, and the bytes after its zero byte.
-#[tactic(auto, unfolding(crate::specs::Judging::string_at))]
-fn string_of(alloc: Global, bytes: &[u8]) -> Result<(Text, &[u8]), FieldFault>
+#[tactic(auto, unfolding(repl_message::specs::Reading::string_at))]
+pub(crate) fn string_of(alloc: Global, bytes: &[u8]) -> Result<(Text, &[u8]), FieldFault>
     ensures { Gives (λ x. (x.0, x.1.now)) result (string_at bytes.now) }
 {
     match bytes.iter().position(|b| *b == 0) {

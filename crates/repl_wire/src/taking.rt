@@ -1,17 +1,20 @@
 ghost use Rattle.std.specs.Prelude.{◌≡◌, ℕ, ◌+◌, ◌<◌, ◌≤◌, ◌⊎◌, List, ◌++◌, length, take, IfOk, IfErr, MatchOption};
-ghost use Rattle.std.specs.Option.{option_copied};
-ghost use Rattle.repl_wire.specs.Message.{Spells};
-ghost use Rattle.repl_wire.specs.Judging.{IsJudged, judge, judge_startup, judge_front, judge_packet, judge_message, read_as, parameters_of, text_of, nothing_of, bytes_of, two_numbers_of, frame_of, number, refusal};
+ghost use Rattle.std.specs.Option.{option_copied, option_map};
+ghost use Rattle.repl_message.specs.Message.{Spells};
+ghost use Rattle.repl_wire.specs.declared.fault.WireFault.{WireFault};
+ghost use Rattle.repl_wire.specs.Places.{IsFault};
+ghost use Rattle.repl_message.specs.Reading.{number};
+ghost use Rattle.repl_wire.specs.Judging.{IsJudged, judge, judge_startup, judge_front, judge_back, Row, back_row, judge_packet, judge_message, read_as, parameters_of, text_of, nothing_of, bytes_of, two_numbers_of, frame_of, refusal};
 
 use crate::fault::WireFault;
 use crate::fields::{
     FieldFault, read_bytes, read_nothing, read_parameters, read_text, read_two_numbers,
 };
-use crate::front::Front;
-use crate::message::{
-    COPY_DATA_LIMIT, MESSAGE_LIMIT, Message, Phase, STARTUP_LEAST, STARTUP_LIMIT,
+use crate::server_fields::read_back;
+use repl_message::{
+    CANCEL_REQUEST, COPY_DATA_LIMIT, Front, GSS_REQUEST, MESSAGE_LIMIT, Message, PROTOCOL_3_0,
+    Phase, SSL_REQUEST, STARTUP_LEAST, STARTUP_LIMIT, Startup,
 };
-use crate::startup::{CANCEL_REQUEST, GSS_REQUEST, PROTOCOL_3_0, SSL_REQUEST, Startup};
 use repl_text::Text;
 use std::alloc::Global;
 
@@ -30,8 +33,9 @@ pub enum Taken {
 
 /// Reads the message at the front of the bytes, whatever follows it.
 ///
-/// It reads every message that may be sent in the phase: every startup packet, or every message of the
-/// client. A packet of another code is refused at its code, another message at its type byte.
+/// It reads every message that may be sent in the phase: every startup packet, every message of the client,
+/// or every message of the server. A packet of another code is refused at its code, another message at its
+/// type byte, and where the session is over any byte.
 pub fn take(alloc: Global, phase: Phase, bytes: &[u8]) -> Taken
     // What is read is spelled so.
     ensures found { (m : Message) (used : ℕ) → result ≡ Taken.Whole m used →
@@ -39,12 +43,19 @@ pub fn take(alloc: Global, phase: Phase, bytes: &[u8]) -> Taken
     // What is spelled so is read, whatever follows it, unless memory runs out.
     ensures only { (m : Message) (text rest : List ℕ) → Spells phase m text → bytes.now ≡ text ++ rest →
         (result ≡ Taken.Whole m (length text)) ⊎ (result ≡ Taken.Memory) }
+    // A fault stands at the first field with which no message goes on.
+    ensures place { (fault : WireFault) → result ≡ Taken.Wrong fault → IsFault phase bytes.now fault }
     // Which answer it is, and which fault.
     ensures exact { IsJudged result (judge phase bytes.now) }
 {
     match phase {
         Phase::Startup => take_startup(alloc, bytes),
         Phase::Front => take_front(alloc, bytes),
+        Phase::Back => take_back(alloc, bytes),
+        Phase::Ended => match bytes {
+            [] => Taken::Short,
+            [_, ..] => Taken::Wrong(WireFault::Kind(0)),
+        },
     }
 }
 
@@ -220,5 +231,45 @@ fn take_nothing(message: Front, bytes: &[u8]) -> Taken
         },
         Ok(None) => Taken::Short,
         Err(fault) => Taken::Wrong(fault),
+    }
+}
+
+/// Reads a message of the server: its type byte says how long it may be, and how its body is read.
+#[tactic(auto, unfolding(crate::specs::Judging::judge_back))]
+fn take_back(alloc: Global, bytes: &[u8]) -> Taken
+    ensures { IsJudged result (judge_back bytes.now) }
+{
+    let Some((kind, rest)) = bytes.split_first() else {
+        return Taken::Short;
+    };
+    let Some((least, limit)) = back_lengths(*kind) else {
+        return Taken::Wrong(WireFault::Kind(0));
+    };
+    match frame_at(1, least, limit, rest) {
+        Ok(Some(body)) => match read_back(alloc, *kind, body) {
+            Ok(message) => Taken::Whole {
+                message: Message::Back(message),
+                used: body.len() + 5,
+            },
+            Err(fault) => not_read(fault, body.len() + 5),
+        },
+        Ok(None) => Taken::Short,
+        Err(fault) => Taken::Wrong(fault),
+    }
+}
+
+/// The least and the greatest length field of a message of the server, by its type byte.
+fn back_lengths(kind: u8) -> Option<(u32, u32)>
+    ensures { result ≡ option_map (λ (r : Row). (r.least + 4, r.limit)) (back_row kind) }
+{
+    match kind {
+        b'c' => Some((4, MESSAGE_LIMIT)),
+        b'd' => Some((4, COPY_DATA_LIMIT)),
+        b'C' | b'E' | b'N' | b'Z' => Some((5, MESSAGE_LIMIT)),
+        b'D' | b'S' | b'T' => Some((6, MESSAGE_LIMIT)),
+        b'W' => Some((7, MESSAGE_LIMIT)),
+        b'R' => Some((8, MESSAGE_LIMIT)),
+        b'K' => Some((12, MESSAGE_LIMIT)),
+        _ => None,
     }
 }

@@ -1,6 +1,6 @@
 use Rattle.std.proofs.Common.{◌≡◌, ◌++◌, take}
 use Rattle.std.specs.List.{flat_map}
-use Rattle.repl_wire.specs.Message.{back_spelling}
+use Rattle.repl_message.specs.Message.{back_spelling}
 use Rattle.repl_top.proofs.answer.encode_all.Given as goal
 
 abbrev pub invariant-loop-message : goal.invariant-loop-message

@@ -12,7 +12,7 @@ returns-in-Ok-true-clause-ends g c =
 
 pub returns-in-Ok-true-clause-has_read : goal.returns-in-Ok-true-clause-has_read
 returns-in-Ok-true-clause-has_read g c =
-    session_read (answer_bytes c.args.identity.now) c.reply.result (g.S.Source.left c.args.input.now) (g.S.Source.left c.gather.new.input) _ (of_gathered (λ bytes. Lost (g.S.Source.left c.args.input.now) (g.S.Source.left c.gather.new.input) bytes) (g.S.Source.left c.args.input.now) c.in-Ok.bytes.items c.in-Ok.ensures.bytes c.in-Ok.ensures.lost) c.reply.ensures.ends
+    session_read (answer_bytes c.args.identity.now) c.reply.result _ _ (of_gathered (λ bytes. Lost (g.S.Source.left c.args.input.now) (g.S.Source.left c.gather.new.input) bytes) (g.S.Source.left c.args.input.now) c.in-Ok.bytes.items c.in-Ok.ensures.bytes c.in-Ok.ensures.lost) c.reply.ensures.ends
 
 pub returns-in-Ok-false-clause-ends : goal.returns-in-Ok-false-clause-ends
 returns-in-Ok-false-clause-ends g c =

@@ -1,52 +1,23 @@
-use Rattle.std.proofs.Common.{rules, ◌≡◌, [], get_or, codes, sym, ◌∙◌, arith, string_bytes}
+use Rattle.std.proofs.Common.{[], get_or, sym, ◌∙◌, arith, string_bytes}
 use Rattle.std.proofs.lemmas.List.{length-map}
 use Rattle.repl_top.specs.Words.{texts}
-use Rattle.repl_top.proofs.CommandLine.{stops_at_command, stops_at_system, stops_at_timeline, stops_at_position, stops_after_position, is_identify}
+use Rattle.repl_top.proofs.CommandLine.{is_names, stops_at_text, stops_after_text, stops_at_command}
 use Rattle.repl_top.proofs.words.read_words.Goals as goal
 
-pub returns-then-ne-clause-wrong : goal.returns-then-ne-clause-wrong
-returns-then-ne-clause-wrong c =
-    let other : c.word_at.result.now ≡ codes "identify" → ⊥ = search rules in
-    stops_at_command (texts c.args.words.now) (λ e. other (c.word_at.ensures ∙ e))
+pub returns-in-names-clause-read : goal.returns-in-names-clause-read
+returns-in-names-clause-read c = (
+  get_or (texts c.args.words.now) 1 [],
+  is_names (texts c.args.words.now) (sym c.word_at.ensures ∙ c.in-names.is) (length-map c.args.words.now string_bytes ∙ c.if-words-eq2.true),
+)
+
+pub returns-in-names-2-clause-wrong : goal.returns-in-names-2-clause-wrong
+returns-in-names-2-clause-wrong c =
+    stops_at_text (texts c.args.words.now) (sym c.word_at.ensures ∙ c.in-names.is) (omega (arith, length-map c.args.words.now string_bytes, c.if-words-lt2.true))
+
+pub returns-in-names-3-clause-wrong : goal.returns-in-names-3-clause-wrong
+returns-in-names-3-clause-wrong c =
+    stops_after_text (texts c.args.words.now) (sym c.word_at.ensures ∙ c.in-names.is) (omega (arith, length-map c.args.words.now string_bytes, c.if-words-lt2.false, c.if-words-eq2.false))
 
 pub returns-in_default-clause-wrong : goal.returns-in_default-clause-wrong
 returns-in_default-clause-wrong c =
-    let same : c.word_at.result.now ≡ codes "identify" = search rules in
-    let command : get_or (texts c.args.words.now) 0 [] ≡ codes "identify" = sym c.word_at.ensures ∙ same in
-    let none = rw c.word_at-2.ensures at c.in_default.ensures.none in
-    stops_at_system (texts c.args.words.now) command none
-
-pub returns-in_default-read_timeline-clause-wrong : goal.returns-in_default-read_timeline-clause-wrong
-returns-in_default-read_timeline-clause-wrong c =
-    let same : c.word_at.result.now ≡ codes "identify" = search rules in
-    let command : get_or (texts c.args.words.now) 0 [] ≡ codes "identify" = sym c.word_at.ensures ∙ same in
-    let system = rw c.word_at-2.ensures at c.in-Some.ensures.some in
-    let none = rw c.word_at-3.ensures at c.in_default-read_timeline.ensures.none in
-    stops_at_timeline (texts c.args.words.now) c.in-Some.system command system none
-
-pub returns-in_default-read_position-clause-wrong : goal.returns-in_default-read_position-clause-wrong
-returns-in_default-read_position-clause-wrong c =
-    let same : c.word_at.result.now ≡ codes "identify" = search rules in
-    let command : get_or (texts c.args.words.now) 0 [] ≡ codes "identify" = sym c.word_at.ensures ∙ same in
-    let system = rw c.word_at-2.ensures at c.in-Some.ensures.some in
-    let timeline = rw c.word_at-3.ensures at c.in-Some-read_timeline.ensures.some in
-    let none = rw c.word_at-4.ensures at c.in_default-read_position.ensures.none in
-    stops_at_position (texts c.args.words.now) c.in-Some.system c.in-Some-read_timeline.timeline command system timeline none
-
-pub returns-then-words-gt4-clause-wrong : goal.returns-then-words-gt4-clause-wrong
-returns-then-words-gt4-clause-wrong c =
-    let same : c.word_at.result.now ≡ codes "identify" = search rules in
-    let command : get_or (texts c.args.words.now) 0 [] ≡ codes "identify" = sym c.word_at.ensures ∙ same in
-    let system = rw c.word_at-2.ensures at c.in-Some.ensures.some in
-    let timeline = rw c.word_at-3.ensures at c.in-Some-read_timeline.ensures.some in
-    let flushed = rw c.word_at-4.ensures at c.in-Some-read_position.ensures.some in
-    stops_after_position (texts c.args.words.now) c.in-Some.system c.in-Some-read_timeline.timeline c.in-Some-read_position.flushed command system timeline flushed (omega (arith, length-map c.args.words.now string_bytes))
-
-pub returns-clause-read : goal.returns-clause-read
-returns-clause-read c =
-    let same : c.word_at.result.now ≡ codes "identify" = search rules in
-    let command : get_or (texts c.args.words.now) 0 [] ≡ codes "identify" = sym c.word_at.ensures ∙ same in
-    let system = rw c.word_at-2.ensures at c.in-Some.ensures.some in
-    let timeline = rw c.word_at-3.ensures at c.in-Some-read_timeline.ensures.some in
-    let flushed = rw c.word_at-4.ensures at c.in-Some-read_position.ensures.some in
-    is_identify (texts c.args.words.now) c.in-Some.system c.in-Some-read_timeline.timeline c.in-Some-read_position.flushed command system timeline flushed (omega (arith, length-map c.args.words.now string_bytes))
+    stops_at_command (texts c.args.words.now) (λ e. c.in_default.not-identify (c.word_at.ensures ∙ e)) (λ e. c.in_default.not-frames (c.word_at.ensures ∙ e)) (λ e. c.in_default.not-names (c.word_at.ensures ∙ e))

@@ -1,7 +1,7 @@
 use Rattle.std.proofs.Common.{◌≡◌, ◌<◌, refl, rules, tests}
 use Rattle.std.proofs.lemmas.Iterator.{IsFirst-from_position, YieldsList-from_slice}
 use Rattle.std.proofs.lemmas.List.{take_rest}
-use Rattle.repl_wire.proofs.FieldLaws.{string_at_none, string_at_first}
+use Rattle.repl_message.proofs.FieldLaws.{string_at_none, string_at_first}
 use Rattle.repl_wire.proofs.fields.string_of.Goals as goal
 
 pub returns-in-None : goal.returns-in-None

@@ -1,0 +1,6 @@
+pub mod FieldLaws
+pub mod Extending
+pub mod Counting
+pub mod Spellings
+pub mod EntrySpellings
+pub mod OneSpelling

@@ -1,0 +1,7 @@
+use Rattle.std.proofs.Common.{◌≡◌, ◌++◌, take}
+use Rattle.std.specs.List.{flat_map}
+use Rattle.repl_message.specs.Message.{error_field}
+use Rattle.repl_message.proofs.encode_server.put_error_fields.Given as goal
+
+abbrev pub invariant-loop-entry : goal.invariant-loop-entry
+invariant-loop-entry l = l.out.items ≡ l.fn.out.items ++ flat_map error_field (take l.entry-index l.entry-items)

@@ -1,0 +1,8 @@
+use Rattle.std.proofs.Common.{◌≡◌, ◌+◌, length, take}
+use Rattle.std.specs.List.{flat_map}
+use Rattle.repl_message.specs.Message.{field}
+use Rattle.repl_message.specs.Encoding.{capped}
+use Rattle.repl_message.proofs.lengths.of_fields.Given as goal
+
+abbrev pub invariant-loop-entry : goal.invariant-loop-entry
+invariant-loop-entry l = l.sum ≡ capped (2 + length (flat_map field (take l.entry-index l.fields)))

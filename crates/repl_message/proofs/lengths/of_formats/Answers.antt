@@ -1,0 +1,6 @@
+use Rattle.std.proofs.Common.{arith}
+use Rattle.repl_message.proofs.Counting.{length-formats}
+use Rattle.repl_message.proofs.lengths.of_formats.Goals as goal
+
+pub returns : goal.returns
+returns c = omega (arith, length-formats c.args.formats.now)

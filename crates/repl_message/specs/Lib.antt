@@ -1,0 +1,4 @@
+pub mod Lists
+pub mod Message
+pub mod Reading
+pub mod Encoding

@@ -1,5 +1,0 @@
-use Rattle.repl_wire.proofs.OneSpelling.{backs_one}
-use Rattle.repl_wire.proofs.laws.one_back.Goals as goal
-
-pub returns : goal.returns
-returns c = backs_one

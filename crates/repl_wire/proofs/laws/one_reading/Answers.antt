@@ -1,5 +1,0 @@
-use Rattle.repl_wire.proofs.OneSpelling.{reading_one}
-use Rattle.repl_wire.proofs.laws.one_reading.Goals as goal
-
-pub returns : goal.returns
-returns c = reading_one

@@ -1,8 +1,0 @@
-use Rattle.std.proofs.Common.{◌≡◌, ◌+◌, length, take}
-use Rattle.std.specs.List.{flat_map}
-use Rattle.repl_wire.specs.Message.{pair}
-use Rattle.repl_wire.specs.Encoding.{capped}
-use Rattle.repl_wire.proofs.lengths.of_pairs.Given as goal
-
-abbrev pub invariant-loop-entry : goal.invariant-loop-entry
-invariant-loop-entry l = l.sum ≡ capped (1 + length (flat_map pair (take l.entry-index l.pairs)))
