@@ -28,6 +28,8 @@ pub use words::Identity;
 #[cfg(test)]
 mod frames_tests;
 #[cfg(test)]
+mod names_tests;
+#[cfg(test)]
 mod stream_tests;
 #[cfg(test)]
 mod tests;

@@ -29,4 +29,6 @@ pub use taking::{Taken, take};
 #[cfg(test)]
 mod reader_tests;
 #[cfg(test)]
+mod server_tests;
+#[cfg(test)]
 mod tests;
