@@ -1,0 +1,4 @@
+pub mod Appending
+pub mod Causes
+pub mod Numbers
+pub mod OneValue

@@ -1,0 +1,24 @@
+//! Payloads of CopyData in streaming replication (PostgreSQL 17 manual, section "Streaming Replication
+//! Protocol"), as values and as the bytes that spell them.
+//!
+//! A server sends pieces of its log and keepalives (`Stream`), and a standby answers with its positions and with
+//! feedback (`Reply`). Each value has one spelling, which `specs/Payload.antt` gives by cases. `encode_stream`
+//! and `encode_reply` append it; `decode_stream` and `decode_reply` read exactly the spellings, take no memory,
+//! and say of any other payload what is wrong with it. Stands on `repl_lsn` and on the kit's `bytes`,
+//! `byteorder` and `thiserror`.
+#![tactic(auto)]
+
+mod decode;
+mod encode;
+mod fault;
+mod laws;
+mod payload;
+
+pub use decode::{decode_reply, decode_stream};
+pub use encode::{encode_reply, encode_stream};
+pub use fault::CopyFault;
+pub use laws::{one_reply, one_stream};
+pub use payload::{Reply, Stream, WAL_LIMIT};
+
+#[cfg(test)]
+mod tests;
