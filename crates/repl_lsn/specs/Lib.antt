@@ -1,1 +1,5 @@
 pub mod Position
+pub mod Segment
+pub mod Line
+pub mod History
+pub mod Path

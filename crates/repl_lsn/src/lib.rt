@@ -1,19 +1,49 @@
-//! Positions of the write-ahead log and numbers of timelines.
+//! Positions of the write-ahead log, its segments, its timelines and their histories.
 //!
 //! A position (PostgreSQL's `pg_lsn`) is a byte's place in the log. Its text is two hexadecimal numbers
 //! with a slash between them: `Lsn::text` prints the one canonical text of a position, and `Lsn::parse`
-//! reads exactly the texts that spell one and says of any other where it goes wrong. Contracts see a
-//! position and a timeline as numbers. `specs/Position.antt` says what spells a position. Stands on
+//! reads exactly the texts that spell one and says of any other where it goes wrong. A segment is a file's worth of
+//! the log, whose name says its timeline and number: `seg_name` and `parse_seg_name`. A history is a path through
+//! the log, from timeline to timeline: `parse_history` and `history_text` read and print it, `timeline_at` and
+//! `end_of` say which timeline holds which positions, and `relation_to` how two histories stand to each other.
+//! Contracts see positions, segments and timelines as numbers. What spells what stands in `specs/Position.antt`,
+//! `specs/Segment.antt` and `specs/History.antt`, and what is said of paths in `specs/Path.antt`. Stands on
 //! `repl_text`, whose `Text` it passes on.
 #![tactic(auto)]
 
+mod fault;
+mod history;
+mod history_laws;
+mod history_line;
+mod history_lines;
 mod laws;
+mod path;
+mod path_laws;
 mod position;
+mod relation;
+mod segment;
+mod segment_laws;
+mod timeline;
+mod words;
+
+pub use fault::HistoryFault;
+pub use history::{HISTORY_LIMIT, History, Line, Part, Parts};
+pub use history_laws::one_history;
+pub use history_lines::{history_text, parse_history};
+pub use laws::{one_canonical_text, one_value, text_spells};
+pub use path_laws::{child_is_child, one_relation, one_timeline, same_before_switch};
+pub use position::{Lsn, PlaceFault};
+pub use relation::Relation;
+pub use repl_text::Text;
+pub use segment::{SegNo, SegSize, history_name, parse_seg_name, seg_name, seg_of, seg_start};
+pub use segment_laws::one_segment;
+pub use timeline::Tli;
+
+#[cfg(test)]
+mod history_tests;
+#[cfg(test)]
+mod path_tests;
+#[cfg(test)]
+mod segment_tests;
 #[cfg(test)]
 mod tests;
-mod timeline;
-
-pub use laws::{one_canonical_text, one_value, text_spells};
-pub use position::{Lsn, PlaceFault};
-pub use repl_text::Text;
-pub use timeline::Tli;

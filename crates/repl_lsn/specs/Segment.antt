@@ -1,0 +1,84 @@
+-- Segments of the log and the names of its files (PostgreSQL 17 manual, section "WAL Internals").
+use Rattle.std.specs.Prelude.{◌≡◌, ℕ, ◌+◌, ◌*◌, ◌/◌, ◌%◌, ◌^◌, ◌<◌, ◌≤◌, ◌⊎◌, true, List, ◌++◌, length, take, drop, replicate, ◌-◌, codes, All}
+use Rattle.std.specs.Char.{digit_value}
+use Rattle.std.specs.Fmt.{digits}
+use Rattle.std.specs.Str.Parse.{digits_value}
+
+-- a power of two from 1 MiB to 1 GiB
+pub record IsSegSize (size : ℕ) : Type 0 where
+  pub exponent : ℕ
+  pub power : size ≡ 2 ^ exponent
+  pub least : 2 ^ 20 ≤ size
+  pub most : size ≤ 2 ^ 30
+
+-- the segment starts below 2^64
+abbrev pub Fits : ℕ → ℕ → Type 0
+Fits size seg = seg * size < 2 ^ 64
+
+-- how many segments 2^32 bytes of the log have
+abbrev pub in_four_gib : ℕ → ℕ
+in_four_gib size = 2 ^ 32 / size
+
+-- eight hexadecimal digits in upper case
+abbrev pub eight : ℕ → List ℕ
+eight n = replicate (8 - length (digits 16 true n)) 48 ++ digits 16 true n
+
+-- a segment's name: its timeline, and its number by the 2^32 bytes in which it is and its place among them
+abbrev pub segment_name : ℕ → ℕ → ℕ → List ℕ
+segment_name size tli seg = eight tli ++ eight (seg / in_four_gib size) ++ eight (seg % in_four_gib size)
+
+-- the name of a timeline's history
+abbrev pub history_name : ℕ → List ℕ
+history_name tli = eight tli ++ codes ".history"
+
+-- the text is the name of this segment
+pub record Names (size : ℕ) (text : List ℕ) (tli seg : ℕ) : Type 0 where
+  pub timeline : (0 < tli) × (tli < 2 ^ 32)
+  pub fits : Fits size seg
+  pub named : text ≡ segment_name size tli seg
+
+-- ---- refusals
+
+-- a digit, 0 to 9 or A to F
+abbrev pub IsDigit : ℕ → Type 0
+IsDigit c = (digit_value c < 16) × (c < 97)
+
+-- the bytes are such digits
+abbrev pub AreDigits : List ℕ → Type 0
+AreDigits text = All IsDigit text
+
+-- the number that eight digits from this place on write
+abbrev pub number_at : List ℕ → ℕ → ℕ
+number_at text place = digits_value 16 (take 8 (drop place text))
+
+-- up to this place, and no further than 24, the text has digits, and there it has none
+pub record LacksDigit (text : List ℕ) (place : ℕ) : Type 0 where
+  pub inside : place < 24
+  pub before : AreDigits (take place text)
+  pub enough : place ≤ length text
+  pub none : ¬ AreDigits (take 1 (drop place text)) ⊎ (length text ≡ place)
+
+-- What is wrong with a name, judged number by number: a digit that is wrong or missing, a timeline 0, a third number
+-- that is too large, and bytes behind it.
+abbrev pub IsNameFault : ℕ → List ℕ → ℕ → Type 0
+IsNameFault size text place =
+    (LacksDigit text place × (8 ≤ place → 0 < number_at text 0))
+    ⊎ ((place ≡ 0) × (8 ≤ length text) × AreDigits (take 8 text) × (number_at text 0 ≡ 0))
+    ⊎ ((place ≡ 16) × (24 ≤ length text) × AreDigits (take 24 text) × (0 < number_at text 0) × (in_four_gib size ≤ number_at text 16))
+    ⊎ ((place ≡ 24) × (24 < length text) × AreDigits (take 24 text) × (0 < number_at text 0) × (number_at text 16 < in_four_gib size))
+
+-- ---- one number of a name
+
+-- eight digits stand from this place on, and write the number
+pub record IsNumberAt (text : List ℕ) (start number : ℕ) : Type 0 where
+  pub within : start + 8 ≤ length text
+  pub digits : AreDigits (take 8 (drop start text))
+  pub value : number ≡ number_at text start
+
+-- digits stand from the start up to this place, fewer than eight, and there none does
+pub record LacksDigitFrom (text : List ℕ) (start place : ℕ) : Type 0 where
+  pub above : start ≤ place
+  pub few : place < start + 8
+  pub within : place ≤ length text
+  pub before : AreDigits (take (place - start) (drop start text))
+  pub none : ¬ AreDigits (take 1 (drop place text)) ⊎ (length text ≡ place)

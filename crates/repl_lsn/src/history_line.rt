@@ -1,0 +1,113 @@
+//! One line of a history's text.
+ghost use Rattle.std.specs.Prelude.{◌≡◌, ◌≢◌, ℕ, ◌-◌, ◌^◌, ◌⊎◌, ◌↔◌, true, List, min, IsTrue, IfOk, IfErr, MatchOption, All};
+ghost use Rattle.std.specs.Char.{is_ascii_digit};
+ghost use Rattle.std.specs.Str.Parse.{digits_value};
+ghost use Rattle.repl_lsn.specs.declared.fault.HistoryFault.TheVariants as HistoryFault;
+ghost use Rattle.repl_lsn.specs.declared.history.Part.{Part};
+ghost use Rattle.repl_lsn.specs.History.{IsIgnored, IsApart, HasNumber, HasSwitch, IsReason, SaysPart, IsLineFault};
+
+use crate::fault::HistoryFault;
+use crate::history::{Line, Part};
+use crate::position::Lsn;
+use crate::timeline::Tli;
+use crate::words::{after_blanks, before_blanks, split_word};
+use std::alloc::{AllocError, Global};
+
+/// The part that the line says, or `None` where it is blank or a comment. `place` is its number, from 1. Takes
+/// memory for the reason.
+pub(crate) fn parse_line(
+    alloc: Global,
+    line: &[u8],
+    place: u64,
+) -> Result<Option<Part>, HistoryFault>
+    requires { All (λ c. c ≢ 10) line.now }
+    ensures read { IfOk result (λ said. MatchOption said (IsIgnored line.now) (λ part. SaysPart line.now part)) }
+    // What is wrong with the line by itself is so whatever was before it.
+    ensures refused { IfErr result (λ fault. (fault ≡ HistoryFault.Memory) ⊎ ((own : ℕ) (before : List Part) → IsLineFault own before line.now place fault)) }
+{
+    if is_ignored(line) {
+        return Ok(None);
+    }
+    let Some(number) = number_of(line) else {
+        return Err(HistoryFault::NotNumber(place));
+    };
+    let (tli, behind) = number;
+    let Some(found) = switch_of(behind) else {
+        return Err(HistoryFault::NotSwitch(place));
+    };
+    let (switch, rest) = found;
+    let reason = reason_of(alloc, rest)?;
+    Ok(Some(Part {
+        tli,
+        switch,
+        reason,
+    }))
+}
+
+/// Whether the line is blank or a comment.
+fn is_ignored(line: &[u8]) -> bool
+    ensures { IsTrue result ↔ IsIgnored line.now }
+{
+    match after_blanks(line).first() {
+        None => true,
+        Some(first) => *first == b'#',
+    }
+}
+
+/// The number of a timeline with which the line begins, and what is behind it.
+fn number_of(line: &[u8]) -> Option<(Tli, &[u8])>
+    ensures { MatchOption result ((n : ℕ) (behind : List ℕ) → ¬ HasNumber line.now n behind) (λ found. HasNumber line.now found.0 found.1.now) }
+{
+    let (word, behind) = split_word(after_blanks(line));
+    if word.is_empty() || !all_digits(word) {
+        return None;
+    }
+    let Ok(number) = u32::try_from(saturating_value(word)) else {
+        return None;
+    };
+    let Some(tli) = Tli::new(number) else {
+        return None;
+    };
+    Some((tli, behind))
+}
+
+/// The position with which the bytes go on after blanks, and what is behind it.
+fn switch_of(bytes: &[u8]) -> Option<(Lsn, &[u8])>
+    requires { IsApart bytes.now }
+    ensures { MatchOption result ((switch : ℕ) (behind : List ℕ) → ¬ HasSwitch bytes.now switch behind) (λ found. HasSwitch bytes.now found.0 found.1.now) }
+{
+    let (word, behind) = split_word(after_blanks(bytes));
+    match Lsn::parse(word) {
+        Ok(switch) => Some((switch, behind)),
+        Err(_) => None,
+    }
+}
+
+/// A copy of the bytes without the blanks at their ends.
+fn reason_of(alloc: Global, bytes: &[u8]) -> Result<Line, AllocError>
+    requires { All (λ c. c ≢ 10) bytes.now }
+    ensures { IfOk result (λ reason. IsReason bytes.now reason) }
+{
+    Line::copied(alloc, before_blanks(after_blanks(bytes)))
+}
+
+/// Whether all the bytes are digits.
+fn all_digits(text: &[u8]) -> bool
+    ensures { IsTrue result ↔ All (λ c. is_ascii_digit c ≡ true) text.now }
+{
+    text.iter().all(|c| c.is_ascii_digit())
+}
+
+/// The number that the digits write, or 2^64 - 1 where it is larger.
+fn saturating_value(digits: &[u8]) -> u64
+    requires { All (λ c. is_ascii_digit c ≡ true) digits.now }
+    ensures { result ≡ min (digits_value 10 digits.now) (2 ^ 64 - 1) }
+{
+    let mut value: u64 = 0;
+    for digit in digits {
+        value = value
+            .saturating_mul(10)
+            .saturating_add(u64::from(*digit - b'0'));
+    }
+    value
+}

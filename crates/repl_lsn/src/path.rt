@@ -1,0 +1,87 @@
+//! Which timeline of a path holds which positions.
+ghost use Rattle.std.specs.Prelude.{◌≡◌, ◌<◌, ◌≤◌, ◌++◌, ◌∷◌, [], IfOk, codes};
+ghost use Rattle.repl_lsn.specs.History.{last_switch};
+ghost use Rattle.repl_lsn.specs.Path.{IsOn, IsEndOf};
+
+use crate::history::{History, Line, Part, Parts};
+use crate::position::Lsn;
+use crate::timeline::Tli;
+use std::alloc::{AllocError, Global};
+
+impl History {
+    /// The position at which the timeline was left, or `None` where it is none of those before this one's own.
+    pub fn end_of(&self, tli: Tli) -> Option<Lsn>
+        ensures { IsEndOf self.now tli result }
+    {
+        for part in self.parents().as_slice() {
+            if part.tli == tli {
+                return Some(part.switch);
+            }
+        }
+        None
+    }
+
+    /// The timeline that holds the position: the first before its switch point, or the own one behind the last.
+    pub fn timeline_at(&self, at: Lsn) -> Tli
+        ensures { IsOn self.now result at }
+    {
+        for part in self.parents().as_slice() {
+            if at < part.switch {
+                return part.tli;
+            }
+        }
+        self.own()
+    }
+
+    /// The history of a timeline that leaves this one at a position, for a promotion. Takes memory.
+    pub fn child(&self, alloc: Global, tli: Tli, switch: Lsn) -> Result<History, AllocError>
+        requires above { self.now.own < tli }
+        requires behind { last_switch self.now.parents ≤ switch }
+        ensures { IfOk result (λ child. child ≡ record { own = tli; parents = self.now.parents ++ record { tli = self.now.own; switch = switch; reason = codes "promoted" } ∷ [] }) }
+    {
+        let mut parents = copy_parts(self.parents().as_slice(), alloc)?;
+        parents.push(Part {
+            tli: self.own(),
+            switch,
+            reason: promoted(alloc)?,
+        })?;
+        match History::new(tli, Parts::new(parents)) {
+            Some(child) => Ok(child),
+            None => unreachable!(),
+        }
+    }
+}
+
+impl Part {
+    /// A copy of the part. Takes memory for its reason.
+    fn copy(&self, alloc: Global) -> Result<Part, AllocError>
+        ensures { IfOk result (λ part. part ≡ self.now) }
+    {
+        Ok(Part {
+            tli: self.tli,
+            switch: self.switch,
+            reason: self.reason.copy(alloc)?,
+        })
+    }
+}
+
+/// Copies of the parts, with room for one more. Takes memory.
+fn copy_parts(parts: &[Part], alloc: Global) -> Result<Vec<Part>, AllocError>
+    ensures { IfOk result (λ copies. copies.items ≡ parts.now) }
+{
+    let mut copies = Vec::with_capacity(alloc, parts.len() + 1)?;
+    for part in parts {
+        copies.push(part.copy(alloc)?)?;
+    }
+    Ok(copies)
+}
+
+/// The reason of a promotion. Takes memory.
+fn promoted(alloc: Global) -> Result<Line, AllocError>
+    ensures { IfOk result (λ reason. reason ≡ codes "promoted") }
+{
+    match Line::new(Vec::from_slice(alloc, b"promoted")?) {
+        Some(reason) => Ok(reason),
+        None => unreachable!(),
+    }
+}

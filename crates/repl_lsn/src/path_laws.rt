@@ -1,0 +1,30 @@
+ghost use Rattle.std.specs.Prelude.{◌≡◌, ℕ, ◌<◌, ◌≤◌, List, ◌++◌, ◌∷◌, [], Some, codes, length};
+ghost use Rattle.repl_lsn.specs.declared.history.Part.{Part};
+ghost use Rattle.repl_lsn.specs.declared.relation.Relation.{Relation};
+ghost use Rattle.repl_lsn.specs.declared.relation.Relation.TheVariants as Relation;
+ghost use Rattle.repl_lsn.specs.History.{Path, IsPath, last_switch};
+ghost use Rattle.repl_lsn.specs.Path.{IsOn, IsEndOf, IsChild, IsRelation};
+
+/// A position is on one timeline of a path, and not behind where that ends.
+pub fn one_timeline()
+    ensures one { (path : Path) (at a b : ℕ) → IsPath path → IsOn path a at → IsOn path b at → a ≡ b }
+    ensures end { (path : Path) (at tli end : ℕ) → IsPath path → IsOn path tli at → IsEndOf path tli (Some end) → at < end }
+{}
+
+/// Two histories stand to each other in one way, and the other way round if they are looked at from the other side.
+pub fn one_relation()
+    ensures one { (a b : Path) (r s : Relation) → IsPath a → IsPath b → IsRelation a b r → IsRelation a b s → r ≡ s }
+    ensures child { (a b : Path) (switch : ℕ) → IsRelation a b (Relation.Child switch) → IsRelation b a (Relation.Parent switch) }
+    ensures parent { (a b : Path) (switch : ℕ) → IsRelation a b (Relation.Parent switch) → IsRelation b a (Relation.Child switch) }
+{}
+
+/// A history that goes on from another has its timelines at every position before that was left.
+pub fn same_before_switch()
+    ensures { (a b : Path) (switch at tli : ℕ) → IsPath a → IsPath b → IsChild a b switch → at < switch → IsOn a tli at → IsOn b tli at }
+{}
+
+/// A history and the one that a promotion makes of it are parent and child.
+pub fn child_is_child()
+    ensures { (path : Path) (tli switch : ℕ) → path.own < tli → last_switch path.parents ≤ switch →
+        IsRelation path (record { own = tli; parents = path.parents ++ record { tli = path.own; switch = switch; reason = codes "promoted" } ∷ [] }) (Relation.Child switch) }
+{}
