@@ -8,17 +8,14 @@ use Rattle.repl_message.specs.declared.message.Message.TheVariants as message
 use Rattle.repl_message.specs.declared.message.Phase.{Phase}
 use Rattle.repl_message.specs.declared.message.Phase.TheVariants as phase
 use Rattle.repl_message.specs.declared.message.Side.{Side}
-use Rattle.repl_message.specs.declared.message.Side.TheVariants as side
 use Rattle.repl_message.specs.declared.message.TheConstants.{MESSAGE_LIMIT}
 use Rattle.repl_message.specs.declared.back.Back.{Back}
 use Rattle.repl_message.specs.declared.back.Back.TheVariants as back
 use Rattle.repl_message.specs.declared.front.Front.{Front}
 use Rattle.repl_message.specs.declared.front.Front.TheVariants as front
-use Rattle.repl_message.specs.Message.{Belongs, after, spelling, length_field, int32, startup_body, back_limit, front_limit}
+use Rattle.repl_message.specs.Message.{Belongs, after, spelling, length_field, back_limit, front_limit}
 use Rattle.repl_message.specs.Encoding.{capped}
 use Rattle.repl_io.specs.Sink.{WritesFront}
-use Rattle.repl_wire.specs.declared.taking.Taken.TheVariants as taken
-use Rattle.repl_wire.specs.Judging.{judge, judge_startup, judge_back, frame_of}
 use Rattle.repl_wire.specs.Reader.{Reading, Waits, AreRead, first_phase, fed}
 use Rattle.repl_top.specs.declared.status.Status.{Status}
 use Rattle.repl_top.specs.declared.status.Status.TheVariants as status
@@ -27,30 +24,7 @@ use Rattle.repl_top.specs.Outcome as outcome
 use Rattle.repl_top.specs.Outcome.{Writing, WroteSome}
 use Rattle.repl_top.specs.Printing.{Printed, PieceEnds}
 use Rattle.repl_top.proofs.Moves.{Lost-none, Lost-then}
-
--- ---- streams
-
--- the messages of a stream, and then those of what was left
-pub read_then : (p q r : Phase) (bytes rest last : List ℕ) (ms ns : List Message) → AreRead p bytes ms q rest → AreRead q rest ns r last → AreRead p bytes (ms ++ ns) r last
-read_then p q r bytes rest last [] ns read more =
-    subst (λ (b : List ℕ). AreRead p b ns r last) read.1 (subst (λ (f : Phase). AreRead f rest ns r last) read.0 more)
-read_then p q r bytes rest last (m ∷ ms) ns read more =
-    (read.0, (read.1.0, read.1.1, read_then (after p m) q r read.1.0 rest last ms ns read.1.2 more))
-
--- more bytes at the end are left
-pub read_more : (p q : Phase) (bytes rest more : List ℕ) (ms : List Message) → AreRead p bytes ms q rest → AreRead p (bytes ++ more) ms q (rest ++ more)
-read_more p q bytes rest more [] read = (read.0, ap (λ (b : List ℕ). b ++ more) read.1)
-read_more p q bytes rest more (m ∷ ms) read =
-    (read.0, (read.1.0 ++ more, ap (λ (b : List ℕ). b ++ more) read.1.1 ∙ append_assoc (spelling m) read.1.0 more, read_more (after p m) q read.1.0 rest more ms read.1.2))
-
-pub read_within : (p q : Phase) (bytes rest : List ℕ) (ms : List Message) → AreRead p bytes ms q rest → length rest ≤ length bytes
-read_within p q bytes rest [] read = omega (arith, ap length read.1)
-read_within p q bytes rest (m ∷ ms) read =
-    omega (arith, ap length read.1.1, length-append (spelling m) read.1.0, read_within (after p m) q read.1.0 rest ms read.1.2)
-
--- a message at the front
-pub read_one : (p : Phase) (bytes behind : List ℕ) (m : Message) → Belongs p m → bytes ≡ spelling m ++ behind → AreRead p bytes (m ∷ []) (after p m) behind
-read_one p bytes behind m belongs parts = (belongs, (behind, parts, (refl, refl)))
+use Rattle.repl_top.proofs.Streams.{read_then, read_more, read_within, read_one, judge_empty}
 
 -- ---- lines
 
@@ -131,18 +105,6 @@ belongs_short phase.Back (message.Front m) b = absurd b
 belongs_short phase.Back (message.Back m) b = omega (arith, b.within, back_least m)
 belongs_short phase.Ended m b = absurd b
 
--- and takes a byte at least
-pub spelling_some : (m : Message) → 0 < length (spelling m)
-spelling_some (message.Startup m) = omega (arith, length-append (int32 (length (startup_body m) + 4)) (startup_body m))
-spelling_some (message.Front m) = omega arith
-spelling_some (message.Back m) = omega arith
-
--- a reader that was fed nothing waits
-pub waits_first : (s : Side) → judge (first_phase s) [] ≡ taken.Short
-unfolding judge_startup judge_back frame_of
-waits_first side.Front = refl
-waits_first side.Back = refl
-
 -- ---- a reader that is emptied
 
 -- it gave nothing yet
@@ -171,11 +133,6 @@ printed_more old now new text after_line place m behind printed fits at belongs 
       wrote = added ∙ ap (λ (s : List ℕ). text ++ s) this ∙ ap (λ (s : List ℕ). s ++ lines (capped (old.place + (length old.rest - length now.rest))) (m ∷ [])) printed.wrote ∙ sym one;
     })
 
--- and less is left
-pub rest_less : (now new : Reading) (m : Message) (behind : List ℕ) → now.rest ≡ spelling m ++ behind → new ≡ record { phase = after now.phase m; place = capped (now.place + length (spelling m)); rest = behind } → length new.rest < length now.rest
-rest_less now new m behind parts next =
-    omega (arith, spelling_some m, ap (λ (r : Reading). length r.rest) next, ap length parts, length-append (spelling m) behind)
-
 -- ---- the whole input
 
 -- what has been read and printed before a turn
@@ -199,7 +156,7 @@ progress_none s reader left quiets written new = rw new (record {
   lost = Lost-none left;
   read = (refl, refl);
   place = refl;
-  waits = waits_first s;
+  waits = judge_empty (first_phase s);
   quiet_turns = omega arith;
   spent = omega arith;
   gained = Gained-none written;

@@ -3,6 +3,7 @@ pub mod Lengths
 pub mod Decimal
 pub mod CommandLine
 pub mod Parameters
+pub mod Stages
 pub mod Sessions
 pub mod Messages
 pub mod Ends

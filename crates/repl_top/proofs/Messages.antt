@@ -1,7 +1,7 @@
 -- An answer's bytes are its messages: each has values of its types and is short enough.
-use Rattle.std.proofs.Common.{◌≡◌, ℕ, ◌+◌, ◌^◌, ◌<◌, ◌≤◌, List, [], ◌∷◌, ◌++◌, length, true, refl, sym, subst, arith, codes, length-append}
+use Rattle.std.proofs.Common.{◌≡◌, ℕ, zero, suc, ◌+◌, ◌^◌, ◌<◌, ◌≤◌, List, [], ◌∷◌, ◌++◌, length, true, refl, sym, subst, arith, codes, length-append}
 use Rattle.std.specs.Fmt.{decimal}
-use Rattle.std.specs.List.{All, AllByRecursion}
+use Rattle.std.specs.List.{All, AllByRecursion, flat_map, repeat}
 use Rattle.std.proofs.lemmas.Fmt.{IsAscii-decimal, length-decimal-le}
 use Rattle.std.proofs.lemmas.Str.Ascii.{All-from_ascii}
 use Rattle.std.proofs.lemmas.List.Elements.{All-append, All-cons, All-weaker, recursion_from_All}
@@ -11,10 +11,10 @@ use Rattle.repl_lsn.proofs.Halves.{half_fits}
 use Rattle.repl_lsn.proofs.Canonical.{position_text_canonical}
 use Rattle.repl_message.specs.declared.back.TransactionStatus.TheVariants.{Idle}
 use Rattle.repl_message.specs.declared.back.Back.TheVariants as back
-use Rattle.repl_message.specs.Message.{counted, column, AreBytes, FitsField, IsBack, AreMessages}
+use Rattle.repl_message.specs.Message.{counted, column, AreBytes, FitsField, IsBack, AreMessages, back_spelling}
 use Rattle.repl_top.specs.declared.words.Identity.{Identity}
 use Rattle.repl_top.specs.Words.{IsIdentify}
-use Rattle.repl_top.specs.Answer.{greeting, identification, answer, answer_bytes, answer_fields, answer_row, text_field, int8_field}
+use Rattle.repl_top.specs.Answer.{greeting, identification, answer, answer_fields, answer_row, text_field, int8_field}
 use Rattle.repl_top.proofs.Lengths.{length-canonical, length-answer_row}
 
 -- digits are bytes
@@ -106,8 +106,15 @@ all_both : {A : Type 0} (P : A → Type 0) (xs ys : List A) → AllByRecursion P
 all_both P [] ys front back = back
 all_both P (x ∷ xs) ys front back = (front.0, all_both P xs ys front.1 back)
 
-pub answer_messages : (identity : Identity) → IsInRange identity → AreMessages (answer_bytes identity) (answer identity)
-answer_messages identity h = record { each = all_both IsBack (greeting 1) (identification identity) greeting_messages (identification_messages identity h); spelled = refl }
+all_repeated : {A : Type 0} (P : A → Type 0) (n : ℕ) (xs : List A) → AllByRecursion P xs → AllByRecursion P (repeat n xs)
+all_repeated P zero xs all = tt
+all_repeated P (suc n) xs all = all_both P xs (repeat n xs) all (all_repeated P n xs all)
+
+pub answer_messages : (identity : Identity) (questions : ℕ) → IsInRange identity → AreMessages (flat_map back_spelling (answer identity questions)) (answer identity questions)
+answer_messages identity questions h = record {
+  each = all_both IsBack (greeting 1) (repeat questions (identification identity)) greeting_messages (all_repeated IsBack questions (identification identity) (identification_messages identity h));
+  spelled = refl;
+}
 
 -- the words of a command say such an identity
 pub identify_in_range : (words : List (List ℕ)) (identity : Identity) → IsIdentify words identity → IsInRange identity

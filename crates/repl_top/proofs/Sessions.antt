@@ -1,72 +1,245 @@
--- An input is a session if and only if the messages that it is are those of a session.
-use Rattle.std.proofs.Common.{◌≡◌, ℕ, ◌↔◌, Bool, false, IsTrue, List, [], ◌∷◌, ◌++◌, codes, refl, sym, ap, ◌∙◌}
+-- An input that is read piece by piece: how far the session has come in it, and where it is refused.
+use Rattle.std.proofs.Common.{◌≡◌, ℕ, ◌+◌, ◌-◌, ◌^◌, ◌<◌, ◌≤◌, List, [], ◌∷◌, ◌++◌, length, refl, sym, ap, subst, ◌∙◌, append_assoc, length-append, inl, inr, arith}
 use Rattle.std.proofs.lemmas.List.{append-nil}
-use Rattle.repl_message.specs.declared.startup.Pair.{Pair}
-use Rattle.repl_message.specs.declared.startup.Startup.TheVariants as startup
-use Rattle.repl_message.specs.declared.front.Front.TheVariants as front
+use Rattle.repl_text.specs.Language.{Begins}
+use Rattle.repl_message.specs.declared.message.Phase.{Phase}
 use Rattle.repl_message.specs.declared.message.Phase.TheVariants as phase
 use Rattle.repl_message.specs.declared.message.Message.{Message}
-use Rattle.repl_message.specs.declared.message.Message.TheVariants as message
-use Rattle.repl_message.specs.declared.message.Side.TheVariants as side
-use Rattle.repl_message.specs.Message.{spelling}
-use Rattle.repl_top.specs.Session.{IsReplication, IsSession}
-use Rattle.repl_top.specs.Stream.{AreAll, AreSession}
-use Rattle.repl_top.proofs.Streams.{stuck_empty, reads_all}
+use Rattle.repl_message.specs.Message.{Belongs, after, spelling}
+use Rattle.repl_message.specs.Encoding.{capped}
+use Rattle.repl_wire.specs.declared.fault.WireFault.{WireFault}
+use Rattle.repl_wire.specs.declared.taking.Taken.TheVariants as taken
+use Rattle.repl_wire.specs.Judging.{judge}
+use Rattle.repl_wire.specs.Reader.{Reading, Waits, AreRead, fed}
+use Rattle.repl_top.specs.declared.session.Session.{Session}
+use Rattle.repl_top.specs.declared.stage.Stage.{Stage}
+use Rattle.repl_top.specs.declared.stage.Stage.TheVariants as stage
+use Rattle.repl_top.specs.Session.{AreSomeSession, IsSession, IsRefusedAt}
+use Rattle.repl_top.specs.Stages.{counted, Goes, Lead, Halts, Walked, Stuck}
+use Rattle.repl_top.proofs.Stages.{lead_then, lead_one, lead_to_one, goes_few, session_from, session_leads, stage_begins, begins_goes, session_over, over}
+use Rattle.repl_top.proofs.Streams.{read_then, read_more, read_one, spelling_some, stuck_short, stuck_wrong, judge_empty, refused_some, front_one, Further, readings, none_further, all_one}
 
--- ---- the messages
+-- ---- a reader gives messages
 
-abbrev pub start : List Pair → Message
-start pairs = message.Startup (startup.Params pairs)
+pub walked_none : (r : Reading) (a : Stage) → counted a ≤ r.place → Walked r a r a
+walked_none r a few = record { messages = []; read = (refl, refl); place = refl; lead = refl; few = few }
 
-abbrev pub identify : Message
-identify = message.Front (front.Query (codes "IDENTIFY_SYSTEM"))
+pub walked_more : (old r new : Reading) (from a b : Stage) (m : Message) (behind : List ℕ) → Walked old from r a → old.place + length old.rest < 2 ^ 64 → Belongs r.phase m → r.rest ≡ spelling m ++ behind
+    → new ≡ record { phase = after r.phase m; place = capped (r.place + length (spelling m)); rest = behind } → Goes a m b → Walked old from new b
+walked_more old r new from a b m behind w fits belongs parts next goes =
+    let used : length r.rest ≡ length (spelling m) + length behind = ap length parts ∙ length-append (spelling m) behind in
+    let place : capped (r.place + length (spelling m)) ≡ r.place + length (spelling m) = omega (arith, used, w.place, fits) in
+    let few = goes_few a b m goes in
+    let some = spelling_some m in
+    rw next (record {
+      messages = w.messages ++ m ∷ [];
+      read = read_then old.phase r.phase (after r.phase m) old.rest r.rest behind w.messages (m ∷ []) w.read (read_one r.phase r.rest behind m belongs parts);
+      place = omega (arith, place, used, w.place);
+      lead = lead_then from a b w.messages (m ∷ []) w.lead (lead_one a b m goes);
+      few = omega (arith, place, few, some, w.few);
+    })
 
-abbrev pub terminate : Message
-terminate = message.Front front.Terminate
+-- where a message is left, there are fewer than 2^64 - 1
+pub counted_less : (old r : Reading) (from a : Stage) (m : Message) (behind : List ℕ) → Walked old from r a → old.place + length old.rest < 2 ^ 64 → r.rest ≡ spelling m ++ behind → counted a < 2 ^ 64 - 1
+counted_less old r from a m behind w fits parts =
+    omega (arith, w.few, w.place, fits, ap length parts, length-append (spelling m) behind, spelling_some m)
 
--- a startup packet for physical replication
-abbrev pub IsStart : Message → Type 0
-IsStart m = (pairs : List Pair) × (m ≡ start pairs) × IsReplication pairs
+-- ---- where it stops
 
--- ---- a session, and the messages that it is
+-- the reader refuses what is next
+pub stuck_refused : (old r : Reading) (from a : Stage) (place : ℕ) (f : WireFault) → Walked old from r a → place ≡ r.place → judge r.phase r.rest ≡ taken.Wrong f → Stuck old from place
+stuck_refused old r from a place f w at wrong = record {
+  new = r;
+  to = a;
+  walked = w;
+  at = at;
+  some = refused_some r.phase r.rest f wrong;
+  halts = λ more m behind next belongs parts goes. stuck_wrong r.phase r.rest more f wrong m behind belongs parts;
+}
 
-session_read : (input : List ℕ) → (s : IsSession input) → AreAll side.Front input (start s.pairs ∷ identify ∷ terminate ∷ [])
-session_read input s =
-    let ending = s.goes_on in
-    let packet_parts = s.parts ∙ ap (λ (u : List ℕ). u ++ s.rest) s.starts.spelled in
-    let query_parts = ending.parts ∙ ap (λ (u : List ℕ). u ++ ending.rest) ending.identifies.spelled in
-    let end_parts = ending.ends.spelled ∙ sym (append-nil (spelling terminate)) in
-    (phase.Front, (s.starts.belongs, (s.rest, packet_parts, (ending.identifies.belongs, (ending.rest, query_parts, (ending.ends.belongs, ([], end_parts, (refl, refl))))))))
-
-session_from : (input : List ℕ) (ms : List Message) → AreAll side.Front input ms → AreSession ms → IsSession input
-session_from input ms all s =
-    let packet = rw s.are at all.1 in
-    let query = packet.1.2 in
-    let end = query.1.2 in
+-- the next message leads nowhere
+pub stuck_message : (old r : Reading) (from a : Stage) (place : ℕ) (m : Message) (behind : List ℕ) → Walked old from r a → place ≡ r.place → Belongs r.phase m → r.rest ≡ spelling m ++ behind
+    → ((next : Stage) → Goes a m next → ⊥) → Stuck old from place
+stuck_message old r from a place m behind w at belongs parts none =
+    let used : length r.rest ≡ length (spelling m) + length behind = ap length parts ∙ length-append (spelling m) behind in
+    let some = spelling_some m in
     record {
-      packet = spelling (start s.pairs);
-      rest = packet.1.0;
-      pairs = s.pairs;
-      parts = packet.1.1;
-      starts = record { belongs = packet.0; spelled = refl };
-      asks = s.asks;
-      goes_on = record {
-        query = spelling identify;
-        rest = query.1.0;
-        parts = query.1.1;
-        identifies = record { belongs = query.0; spelled = refl };
-        ends = record { belongs = end.0; spelled = end.1.1 ∙ ap (λ (u : List ℕ). spelling terminate ++ u) (sym end.1.2.1) ∙ append-nil (spelling terminate) };
-      };
+      new = r;
+      to = a;
+      walked = w;
+      at = at;
+      some = λ empty. omega (arith, used, some, ap length empty);
+      halts = λ more n other next belongs_n parts_n goes.
+          let longer : r.rest ++ more ≡ spelling m ++ (behind ++ more) = ap (λ (x : List ℕ). x ++ more) parts ∙ append_assoc (spelling m) behind more in
+          let one = front_one r.phase m n (r.rest ++ more) (behind ++ more) other belongs belongs_n longer parts_n in
+          none next (subst (λ (x : Message). Goes a x next) (sym one.0) goes);
     }
 
-session_are : (input : List ℕ) (ms : List Message) → AreAll side.Front input ms → IsSession input → AreSession ms
-session_are input ms all s =
-    let others = session_read input s in
-    let one = reads_all phase.Startup all.0 others.0 input [] ms (start s.pairs ∷ identify ∷ terminate ∷ []) all.1 (stuck_empty all.0) others.1 in
-    record { pairs = s.pairs; are = one.0; asks = s.asks }
+-- ---- the input so far
 
-pub session_then : (input : List ℕ) (ms : List Message) (b : Bool) → AreAll side.Front input ms → IsTrue b ↔ AreSession ms → IsTrue b ↔ IsSession input
-session_then input ms b all test = (λ e. session_from input ms all (test.0 e), λ s. test.1 (session_are input ms all s))
+-- the messages of what was fed so far, of which the reader has what is not whole, and the stage behind them
+pub record SoFar (input left : List ℕ) (r : Reading) (a : Stage) : Type 0 where
+  pub done : List ℕ
+  pub messages : List Message
+  pub parts : input ≡ done ++ left
+  pub read : AreRead phase.Startup done messages r.phase r.rest
+  pub lead : Lead (stage.Starting 0) messages a
+  pub place : r.place + length r.rest ≡ length done
+  pub few : counted a ≤ r.place
+  pub waits : Waits r
 
-pub session_else : (input : List ℕ) → ((ms : List Message) → AreAll side.Front input ms → ⊥) → IsTrue false ↔ IsSession input
-session_else input none = (λ e. absurd cc, λ s. absurd (none (start s.pairs ∷ identify ∷ terminate ∷ []) (session_read input s)))
+pub so_far_none : (input : List ℕ) (r : Reading) → r ≡ record { phase = phase.Startup; place = 0; rest = [] } → SoFar input input r (stage.Starting 0)
+so_far_none input r is = rw is (record {
+  done = [];
+  messages = [];
+  parts = refl;
+  read = (refl, refl);
+  lead = refl;
+  place = refl;
+  few = omega arith;
+  waits = judge_empty phase.Startup;
+})
+
+-- a piece more is fed
+pub record Fed (input rest : List ℕ) (s : Reading) (a : Stage) : Type 0 where
+  pub done : List ℕ
+  pub messages : List Message
+  pub parts : input ≡ done ++ rest
+  pub read : AreRead phase.Startup done messages s.phase s.rest
+  pub lead : Lead (stage.Starting 0) messages a
+  pub place : s.place + length s.rest ≡ length done
+  pub few : counted a ≤ s.place
+
+pub fed_more : (input left piece rest : List ℕ) (r s : Reading) (a : Stage) → SoFar input left r a → left ≡ piece ++ rest → s ≡ fed r piece → Fed input rest s a
+fed_more input left piece rest r s a f parts is = rw is (record {
+  done = f.done ++ piece;
+  messages = f.messages;
+  parts = f.parts ∙ ap (λ (u : List ℕ). f.done ++ u) parts ∙ sym (append_assoc f.done piece rest);
+  read = read_more phase.Startup r.phase f.done r.rest piece f.messages f.read;
+  lead = f.lead;
+  place = omega (arith, f.place, length-append r.rest piece, length-append f.done piece);
+  few = f.few;
+})
+
+pub fed_fits : (input rest : List ℕ) (s : Reading) (a : Stage) → Fed input rest s a → length input < 2 ^ 64 → s.place + length s.rest < 2 ^ 64
+fed_fits input rest s a f small = omega (arith, f.place, small, ap length f.parts, length-append f.done rest)
+
+-- and its messages are given
+walked_all : (input rest : List ℕ) (s t : Reading) (a b : Stage) (f : Fed input rest s a) (w : Walked s a t b)
+    → AreRead phase.Startup f.done (f.messages ++ w.messages) t.phase t.rest × Lead (stage.Starting 0) (f.messages ++ w.messages) b
+walked_all input rest s t a b f w = (
+  read_then phase.Startup s.phase t.phase f.done s.rest t.rest f.messages w.messages f.read w.read,
+  lead_then (stage.Starting 0) a b f.messages w.messages f.lead w.lead,
+)
+
+pub so_far_more : (input rest : List ℕ) (s t : Reading) (a b : Stage) → Fed input rest s a → Walked s a t b → Waits t → SoFar input rest t b
+so_far_more input rest s t a b f w waits =
+    let all = walked_all input rest s t a b f w in
+    record {
+      done = f.done;
+      messages = f.messages ++ w.messages;
+      parts = f.parts;
+      read = all.0;
+      lead = all.1;
+      place = w.place ∙ f.place;
+      few = w.few;
+      waits = waits;
+    }
+
+-- ---- the place where an input is refused
+
+refused_from : (input : List ℕ) (place : ℕ) (ms : List Message) (q : Phase) (rest : List ℕ) (a : Stage) → AreRead phase.Startup input ms q rest → place + length rest ≡ length input → Lead (stage.Starting 0) ms a
+    → Halts q rest a → (rest ≡ [] → (s : Session) → a ≡ stage.Over s → ⊥) → IsRefusedAt input place
+refused_from input place ms q rest a read at lead halts unended = record {
+  messages = ms;
+  last = q;
+  rest = rest;
+  read = read;
+  at = at;
+  goes_on = stage_begins ms a lead;
+  stops = λ m text behind parts spells begins.
+      let goes = begins_goes ms m a lead begins in
+      let whole : rest ≡ spelling m ++ behind = parts ∙ ap (λ (x : List ℕ). x ++ behind) spells.spelled in
+      halts m behind goes.0 spells.belongs whole goes.1;
+  unended = λ empty some. let o = session_over ms a lead some in unended empty o.0 o.1;
+}
+
+empty_front : (front more : List ℕ) → front ++ more ≡ [] → front ≡ []
+empty_front [] more e = refl
+empty_front (b ∷ front) more e = absurd cc
+
+pub refused_stuck : (input rest : List ℕ) (s : Reading) (a : Stage) (place : ℕ) → Fed input rest s a → Stuck s a place → IsRefusedAt input place
+refused_stuck input rest s a place f k =
+    let all = walked_all input rest s k.new a k.to f k.walked in
+    let read = read_more phase.Startup k.new.phase f.done k.new.rest rest (f.messages ++ k.walked.messages) all.0 in
+    let whole = subst (λ (x : List ℕ). AreRead phase.Startup x (f.messages ++ k.walked.messages) k.new.phase (k.new.rest ++ rest)) (sym f.parts) read in
+    let at : place + length (k.new.rest ++ rest) ≡ length input = omega (arith, k.at, k.walked.place, f.place, length-append k.new.rest rest, ap length f.parts, length-append f.done rest) in
+    refused_from input place (f.messages ++ k.walked.messages) k.new.phase (k.new.rest ++ rest) k.to whole at all.1 (k.halts rest) (λ empty over is. k.some (empty_front k.new.rest rest empty))
+
+-- ---- all was fed
+
+done_all : (input left : List ℕ) (r : Reading) (a : Stage) → (f : SoFar input left r a) → left ≡ [] → f.done ≡ input
+done_all input left r a f none = sym (f.parts ∙ ap (λ (u : List ℕ). f.done ++ u) none ∙ append-nil f.done)
+
+pub read_whole : (input left : List ℕ) (r : Reading) (s : Session) → SoFar input left r (stage.Over s) → left ≡ [] → r.rest ≡ [] → IsSession input s.requests s.questions
+read_whole input left r s f none empty = record {
+  messages = f.messages;
+  are_all = (r.phase, rw (done_all input left r (stage.Over s) f none, empty) at f.read);
+  are_session = session_from f.messages s f.lead;
+}
+
+pub refused_end : (input left : List ℕ) (r : Reading) (a : Stage) (place : ℕ) → SoFar input left r a → left ≡ [] → place ≡ r.place → (r.rest ≡ [] → (s : Session) → a ≡ stage.Over s → ⊥) → IsRefusedAt input place
+refused_end input left r a place f none at unended =
+    let all = done_all input left r a f none in
+    refused_from input place f.messages r.phase r.rest a (rw all at f.read) (omega (arith, at, f.place, ap length all)) f.lead
+    (λ m behind next belongs parts goes. stuck_short r.phase r.rest f.waits m behind belongs parts) unended
+
+-- ---- one answer
+
+abbrev session : ℕ → ℕ → Session
+session requests questions = record { requests = requests; questions = questions }
+
+pub one_counts : (input : List ℕ) (a b c d : ℕ) → IsSession input a b → IsSession input c d → (a ≡ c) × (b ≡ d)
+one_counts input a b c d x y =
+    let same = all_one phase.Startup x.are_all.0 y.are_all.0 input x.messages y.messages x.are_all.1 y.are_all.1 in
+    let first = session_leads x.messages a b x.are_session in
+    let second = subst (λ (m : List Message). Lead (stage.Starting 0) m (over c d)) (sym same) (session_leads y.messages c d y.are_session) in
+    let one : over a b ≡ over c d = lead_to_one (stage.Starting 0) (over a b) (over c d) x.messages first second in
+    let whole : session a b ≡ session c d = cc in
+    (ap (λ (x : Session). x.requests) whole, ap (λ (x : Session). x.questions) whole)
+
+-- what goes on with a message of a session, goes on with that message
+begins_one : (ms ns : List Message) (m : Message) (more : List Message) → ns ≡ ms ++ m ∷ more → Begins AreSomeSession ns → Begins AreSomeSession (ms ++ m ∷ [])
+begins_one ms ns m more longer b =
+    let parts : ns ++ b.0 ≡ (ms ++ m ∷ []) ++ (more ++ b.0) =
+    ap (λ (x : List Message). x ++ b.0) longer ∙ append_assoc ms (m ∷ more) b.0 ∙ sym (append_assoc ms (m ∷ []) (more ++ b.0)) in
+    (more ++ b.0, subst AreSomeSession parts b.1)
+
+-- messages that go on past the place do not begin a session
+not_further : (input : List ℕ) (place : ℕ) (r : IsRefusedAt input place) (ns : List Message) → Further r.last r.rest r.messages ns → Begins AreSomeSession ns → ⊥
+not_further input place r ns f b =
+    r.stops f.message (spelling f.message) f.behind f.parts (record { belongs = f.belongs; spelled = refl }) (begins_one r.messages ns f.message f.more f.longer b)
+
+session_begins : (ms : List Message) → AreSomeSession ms → Begins AreSomeSession ms
+session_begins ms s = ([], subst AreSomeSession (sym (append-nil ms)) s)
+
+pub not_both : (input : List ℕ) (requests questions place : ℕ) → IsSession input requests questions → IsRefusedAt input place → ⊥
+not_both input requests questions place s r =
+    let some : AreSomeSession s.messages = (requests, questions, s.are_session) in
+    elim (readings phase.Startup r.last s.are_all.0 input r.rest [] r.messages s.messages r.read s.are_all.1) [
+      | inl a ↦ r.unended a.left_over (subst AreSomeSession (sym a.messages) some)
+      | inr e ↦ elim e [
+        | inl f ↦ not_further input place r s.messages f (session_begins s.messages some)
+        | inr f ↦ none_further s.are_all.0 s.messages r.messages f
+      ]
+    ]
+
+pub one_place : (input : List ℕ) (a b : ℕ) → IsRefusedAt input a → IsRefusedAt input b → a ≡ b
+one_place input a b x y =
+    elim (readings phase.Startup x.last y.last input x.rest y.rest x.messages y.messages x.read y.read) [
+      | inl s ↦ omega (arith, x.at, y.at, ap length s.left_over)
+      | inr e ↦ elim e [
+        | inl f ↦ absurd (not_further input a x y.messages f y.goes_on)
+        | inr f ↦ absurd (not_further input b y x.messages f x.goes_on)
+      ]
+    ]

@@ -1,31 +1,54 @@
--- Streams: what was read of the bytes so far, what is read where a reader stops, and that nothing else is.
-use Rattle.std.proofs.Common.{◌≡◌, ℕ, ◌<◌, List, [], ◌∷◌, ◌++◌, length, refl, sym, ap, ◌∙◌, append_assoc, length-append, inl, inr, arith}
-use Rattle.std.proofs.lemmas.List.{append-nil}
+-- Streams of bytes and the messages that are read of them: there is one reading, which stops where no message is in
+-- front.
+use Rattle.std.proofs.Common.{◌≡◌, ℕ, ◌+◌, ◌<◌, ◌≤◌, List, [], ◌∷◌, ◌++◌, length, refl, sym, ap, subst, ◌∙◌, append_assoc, length-append, inl, inr, ◌⊎◌, arith}
 use Rattle.repl_message.specs.declared.message.Phase.{Phase}
 use Rattle.repl_message.specs.declared.message.Phase.TheVariants as phase
 use Rattle.repl_message.specs.declared.message.Message.{Message}
 use Rattle.repl_message.specs.declared.message.Message.TheVariants as message
-use Rattle.repl_message.specs.declared.message.Side.{Side}
-use Rattle.repl_message.specs.Message.{Belongs, after, spelling, startup_body}
+use Rattle.repl_message.specs.Message.{Belongs, after, spelling, int32, startup_body}
+use Rattle.repl_message.specs.Encoding.{capped}
 use Rattle.repl_wire.specs.declared.fault.WireFault.{WireFault}
 use Rattle.repl_wire.specs.declared.taking.Taken.TheVariants as taken
 use Rattle.repl_wire.specs.Judging.{judge, judge_startup, judge_front, judge_back, frame_of}
-use Rattle.repl_wire.specs.Reader.{Reading, Waits, AreRead, first_phase, fed}
-use Rattle.repl_wire.proofs.Frames.{length-framed}
+use Rattle.repl_wire.specs.Reader.{Reading, AreRead}
 use Rattle.repl_wire.proofs.Messages.{is_only}
 use Rattle.repl_wire.proofs.Settled.{judge_more}
 use Rattle.repl_wire.proofs.FieldSpellings.{messages_one}
-use Rattle.repl_top.specs.Stream.{AreAll, Drained, IsRefused}
 
--- ---- no message is without bytes
+-- ---- what is read
 
-spelled_some : (m : Message) → 0 < length (spelling m)
-spelled_some (message.Startup m) = omega (arith, length-framed (startup_body m))
-spelled_some (message.Front m) = omega arith
-spelled_some (message.Back m) = omega arith
+-- the messages of a stream, and then those of what was left
+pub read_then : (p q r : Phase) (bytes rest last : List ℕ) (ms ns : List Message) → AreRead p bytes ms q rest → AreRead q rest ns r last → AreRead p bytes (ms ++ ns) r last
+read_then p q r bytes rest last [] ns read more =
+    subst (λ (b : List ℕ). AreRead p b ns r last) read.1 (subst (λ (f : Phase). AreRead f rest ns r last) read.0 more)
+read_then p q r bytes rest last (m ∷ ms) ns read more =
+    (read.0, (read.1.0, read.1.1, read_then (after p m) q r read.1.0 rest last ms ns read.1.2 more))
 
-pub behind_less : (m : Message) (rest behind : List ℕ) → rest ≡ spelling m ++ behind → length behind < length rest
-behind_less m rest behind is = omega (arith, spelled_some m, ap length is, length-append (spelling m) behind)
+-- more bytes at the end are left
+pub read_more : (p q : Phase) (bytes rest more : List ℕ) (ms : List Message) → AreRead p bytes ms q rest → AreRead p (bytes ++ more) ms q (rest ++ more)
+read_more p q bytes rest more [] read = (read.0, ap (λ (b : List ℕ). b ++ more) read.1)
+read_more p q bytes rest more (m ∷ ms) read =
+    (read.0, (read.1.0 ++ more, ap (λ (b : List ℕ). b ++ more) read.1.1 ∙ append_assoc (spelling m) read.1.0 more, read_more (after p m) q read.1.0 rest more ms read.1.2))
+
+pub read_within : (p q : Phase) (bytes rest : List ℕ) (ms : List Message) → AreRead p bytes ms q rest → length rest ≤ length bytes
+read_within p q bytes rest [] read = omega (arith, ap length read.1)
+read_within p q bytes rest (m ∷ ms) read =
+    omega (arith, ap length read.1.1, length-append (spelling m) read.1.0, read_within (after p m) q read.1.0 rest ms read.1.2)
+
+-- a message at the front
+pub read_one : (p : Phase) (bytes behind : List ℕ) (m : Message) → Belongs p m → bytes ≡ spelling m ++ behind → AreRead p bytes (m ∷ []) (after p m) behind
+read_one p bytes behind m belongs parts = (belongs, (behind, parts, (refl, refl)))
+
+-- no message is without bytes
+pub spelling_some : (m : Message) → 0 < length (spelling m)
+spelling_some (message.Startup m) = omega (arith, length-append (int32 (length (startup_body m) + 4)) (startup_body m))
+spelling_some (message.Front m) = omega arith
+spelling_some (message.Back m) = omega arith
+
+-- where a reader gives a message, less is left
+pub rest_less : (now new : Reading) (m : Message) (behind : List ℕ) → now.rest ≡ spelling m ++ behind → new ≡ record { phase = after now.phase m; place = capped (now.place + length (spelling m)); rest = behind } → length new.rest < length now.rest
+rest_less now new m behind parts next =
+    omega (arith, spelling_some m, ap (λ (r : Reading). length r.rest) next, ap length parts, length-append (spelling m) behind)
 
 -- ---- no message is in front
 
@@ -39,9 +62,11 @@ stuck_short p bytes short m behind belongs is =
       | inr e ↦ absurd cc
     ]
 
-pub stuck_wrong : (p : Phase) (bytes : List ℕ) (f : WireFault) → judge p bytes ≡ taken.Wrong f → IsStuck p bytes
-stuck_wrong p bytes f wrong m behind belongs is =
-    elim (is_only p bytes (taken.Wrong f) wrong m (spelling m) behind (record { belongs = belongs; spelled = refl }) is) [
+-- what is refused is refused whatever follows it, and is not nothing
+pub stuck_wrong : (p : Phase) (bytes more : List ℕ) (f : WireFault) → judge p bytes ≡ taken.Wrong f → IsStuck p (bytes ++ more)
+stuck_wrong p bytes more f wrong m behind belongs is =
+    let still : judge p (bytes ++ more) ≡ taken.Wrong f = judge_more p bytes more (rw wrong tt) ∙ wrong in
+    elim (is_only p (bytes ++ more) (taken.Wrong f) still m (spelling m) behind (record { belongs = belongs; spelled = refl }) is) [
       | inl e ↦ absurd cc
       | inr e ↦ absurd cc
     ]
@@ -54,110 +79,60 @@ judge_empty phase.Front = refl
 judge_empty phase.Back = refl
 judge_empty phase.Ended = refl
 
-pub stuck_empty : (p : Phase) → IsStuck p []
-stuck_empty p = stuck_short p [] (judge_empty p)
-
--- ---- what is read
-
--- what was read, and what is read of the rest
-read_both : (p q s : Phase) (bytes rest left : List ℕ) (ms ns : List Message) → AreRead p bytes ms q rest → AreRead q rest ns s left → AreRead p bytes (ms ++ ns) s left
-read_both p q s bytes rest left [] ns x y = rw (x.0, x.1) at y
-read_both p q s bytes rest left (m ∷ ms) ns x y = (x.0, (x.1.0, x.1.1, read_both (after p m) q s x.1.0 rest left ms ns x.1.2 y))
-
--- more bytes at the end are more of the rest
-read_more : (p q : Phase) (bytes rest more : List ℕ) (ms : List Message) → AreRead p bytes ms q rest → AreRead p (bytes ++ more) ms q (rest ++ more)
-read_more p q bytes rest more [] x = (x.0, ap (λ (u : List ℕ). u ++ more) x.1)
-read_more p q bytes rest more (m ∷ ms) x =
-    (x.0, (x.1.0 ++ more, ap (λ (u : List ℕ). u ++ more) x.1.1 ∙ append_assoc (spelling m) x.1.0 more, read_more (after p m) q x.1.0 rest more ms x.1.2))
-
--- what is read up to where no message is in front is one thing
-reads_one : (p q s : Phase) (bytes rest left : List ℕ) (ms ns : List Message) → AreRead p bytes ms q rest → AreRead p bytes ns s left
-    → IsStuck q rest → IsStuck s left → (ms ≡ ns) × (rest ≡ left)
-reads_one p q s bytes rest left [] [] x y u v = (refl, x.1 ∙ sym y.1)
-reads_one p q s bytes rest left [] (n ∷ ns) x y u v = absurd (u n y.1.0 (rw x.0 y.0) (x.1 ∙ y.1.1))
-reads_one p q s bytes rest left (m ∷ ms) [] x y u v = absurd (v m x.1.0 (rw y.0 x.0) (y.1 ∙ x.1.1))
-reads_one p q s bytes rest left (m ∷ ms) (n ∷ ns) x y u v =
-    let one = messages_one p m n (spelling m) (spelling n) x.1.0 y.1.0 (record { belongs = x.0; spelled = refl }) (record { belongs = y.0; spelled = refl }) (sym x.1.1 ∙ y.1.1) in
-    let others = reads_one (after p m) q s x.1.0 rest left ms ns x.1.2 (rw (one.0, one.1) y.1.2) u v in
-    (rw (one.0, others.0) refl, others.1)
-
-pub reads_all : (p q s : Phase) (bytes rest : List ℕ) (ms ns : List Message) → AreRead p bytes ms q rest → IsStuck q rest → AreRead p bytes ns s [] → (ms ≡ ns) × (rest ≡ [])
-reads_all p q s bytes rest ms ns x stuck y = reads_one p q s bytes rest [] ms ns x y stuck (stuck_empty s)
-
--- ---- a reader is emptied
-
-pub Drained-none : (r : Reading) (ms : List Message) → Drained r r ms ms
-Drained-none r ms = record { given = []; parts = sym (append-nil ms); read = (refl, refl) }
-
-pub Drained-more : (old r new : Reading) (m : Message) (before ms after_push : List Message) (rest : List ℕ) (place : ℕ) → Drained old r before ms
-    → Belongs r.phase m → r.rest ≡ spelling m ++ rest → new ≡ record { phase = after r.phase m; place = place; rest = rest } → after_push ≡ ms ++ m ∷ []
-    → Drained old new before after_push
-Drained-more old r new m before ms after_push rest place d belongs is new_is pushed = record {
-  given = d.given ++ m ∷ [];
-  parts = pushed ∙ ap (λ (u : List Message). u ++ m ∷ []) d.parts ∙ append_assoc before d.given (m ∷ []);
-  read = rw new_is (read_both old.phase r.phase (after r.phase m) old.rest r.rest rest d.given (m ∷ []) d.read (belongs, (rest, is, (refl, refl))));
-}
-
--- ---- what was fed so far
-
--- these messages were read of the bytes that are not left, and the reader waits for more
-pub record SoFar (side : Side) (bytes left : List ℕ) (r : Reading) (ms : List Message) : Type 0 where
-  pub done : List ℕ
-  pub parts : bytes ≡ done ++ left
-  pub read : AreRead (first_phase side) done ms r.phase r.rest
-  pub waits : Waits r
-
-pub SoFar-first : (side : Side) (bytes : List ℕ) (r : Reading) → r ≡ record { phase = first_phase side; place = 0; rest = [] } → SoFar side bytes bytes r []
-SoFar-first side bytes r is = record {
-  done = [];
-  parts = refl;
-  read = rw is (refl, refl);
-  waits = rw is (judge_empty (first_phase side));
-}
-
--- what was read once a piece is fed
-read_fed : (side : Side) (bytes left piece rest : List ℕ) (r s t : Reading) (ms ns : List Message) → (f : SoFar side bytes left r ms) → left ≡ piece ++ rest → s ≡ fed r piece
-    → Drained s t ms ns → AreRead (first_phase side) (f.done ++ piece) ns t.phase t.rest
-read_fed side bytes left piece rest r s t ms ns f parts is d =
-    rw d.parts (read_both (first_phase side) s.phase t.phase (f.done ++ piece) s.rest t.rest ms d.given (rw is (read_more (first_phase side) r.phase f.done r.rest piece ms f.read)) d.read)
-
-parts_fed : (bytes done left piece rest : List ℕ) → bytes ≡ done ++ left → left ≡ piece ++ rest → bytes ≡ (done ++ piece) ++ rest
-parts_fed bytes done left piece rest parts more = parts ∙ ap (λ (u : List ℕ). done ++ u) more ∙ sym (append_assoc done piece rest)
-
-pub SoFar-more : (side : Side) (bytes left piece rest : List ℕ) (r s t : Reading) (ms ns : List Message) → SoFar side bytes left r ms → left ≡ piece ++ rest → s ≡ fed r piece
-    → Drained s t ms ns → Waits t → SoFar side bytes rest t ns
-SoFar-more side bytes left piece rest r s t ms ns f parts is d waits = record {
-  done = f.done ++ piece;
-  parts = parts_fed bytes f.done left piece rest f.parts parts;
-  read = read_fed side bytes left piece rest r s t ms ns f parts is d;
-  waits = waits;
-}
-
--- what is refused is refused whatever follows it, and is not nothing
-refused_more : (p : Phase) (bytes more : List ℕ) (f : WireFault) → judge p bytes ≡ taken.Wrong f → judge p (bytes ++ more) ≡ taken.Wrong f
-refused_more p bytes more f wrong = judge_more p bytes more (rw wrong tt) ∙ wrong
-
-refused_some : (p : Phase) (bytes : List ℕ) (f : WireFault) → judge p bytes ≡ taken.Wrong f → bytes ≡ [] → ⊥
+pub refused_some : (p : Phase) (bytes : List ℕ) (f : WireFault) → judge p bytes ≡ taken.Wrong f → bytes ≡ [] → ⊥
 refused_some p bytes f wrong none = let bad = sym (judge_empty p) ∙ ap (judge p) (sym none) ∙ wrong in absurd cc
 
-pub refused_none : (side : Side) (bytes left piece rest : List ℕ) (r s t : Reading) (ms ns : List Message) → SoFar side bytes left r ms → left ≡ piece ++ rest → s ≡ fed r piece
-    → Drained s t ms ns → IsRefused t → (others : List Message) → AreAll side bytes others → ⊥
-refused_none side bytes left piece rest r s t ms ns f parts is d refused others all =
-    let wrong = refused_more t.phase t.rest rest refused.0 refused.1 in
-    let read = read_more (first_phase side) t.phase (f.done ++ piece) t.rest rest ns (read_fed side bytes left piece rest r s t ms ns f parts is d) in
-    let one = reads_all (first_phase side) t.phase all.0 bytes (t.rest ++ rest) ns others (rw (parts_fed bytes f.done left piece rest f.parts parts) read)
-    (stuck_wrong t.phase (t.rest ++ rest) refused.0 wrong) all.1 in
-    refused_some t.phase (t.rest ++ rest) refused.0 wrong one.1
+-- ---- two readings
 
--- ---- all was fed
+-- one message stands in front
+pub front_one : (p : Phase) (m n : Message) (bytes x y : List ℕ) → Belongs p m → Belongs p n → bytes ≡ spelling m ++ x → bytes ≡ spelling n ++ y → (m ≡ n) × (x ≡ y)
+front_one p m n bytes x y a b e f =
+    messages_one p m n (spelling m) (spelling n) x y (record { belongs = a; spelled = refl }) (record { belongs = b; spelled = refl }) (sym e ∙ f)
 
-done_all : (bytes done left : List ℕ) → bytes ≡ done ++ left → left ≡ [] → done ≡ bytes
-done_all bytes done left parts none = sym (parts ∙ ap (λ (u : List ℕ). done ++ u) none ∙ append-nil done)
+-- the second messages go on where the first stop, with a message that stands there
+pub record Further (q : Phase) (rest : List ℕ) (ms ns : List Message) : Type 0 where
+  pub message : Message
+  pub more : List Message
+  pub behind : List ℕ
+  pub longer : ns ≡ ms ++ message ∷ more
+  pub belongs : Belongs q message
+  pub parts : rest ≡ spelling message ++ behind
 
-pub all_read : (side : Side) (bytes left : List ℕ) (r : Reading) (ms : List Message) → SoFar side bytes left r ms → left ≡ [] → r.rest ≡ [] → AreAll side bytes ms
-all_read side bytes left r ms f none empty = (r.phase, rw (done_all bytes f.done left f.parts none, empty) at f.read)
+-- both are the same, and leave the same
+pub record Alike (rest left : List ℕ) (ms ns : List Message) : Type 0 where
+  pub messages : ms ≡ ns
+  pub left_over : rest ≡ left
 
-pub not_all : (side : Side) (bytes left : List ℕ) (r : Reading) (ms : List Message) → SoFar side bytes left r ms → left ≡ [] → (r.rest ≡ [] → ⊥)
-    → (others : List Message) → AreAll side bytes others → ⊥
-not_all side bytes left r ms f none some others all =
-    some (reads_all (first_phase side) r.phase all.0 bytes r.rest ms others (rw (done_all bytes f.done left f.parts none) at f.read) (stuck_short r.phase r.rest f.waits) all.1).1
+further_more : (q : Phase) (rest : List ℕ) (m : Message) (ms ns : List Message) → Further q rest ms ns → Further q rest (m ∷ ms) (m ∷ ns)
+further_more q rest m ms ns f = record { message = f.message; more = f.more; behind = f.behind; longer = ap (λ (l : List Message). m ∷ l) f.longer; belongs = f.belongs; parts = f.parts }
+
+-- of two readings one goes on with the other
+pub readings : (p q s : Phase) (bytes rest left : List ℕ) (ms ns : List Message) → AreRead p bytes ms q rest → AreRead p bytes ns s left
+    → Alike rest left ms ns ⊎ Further q rest ms ns ⊎ Further s left ns ms
+readings p q s bytes rest left [] [] x y = inl (record { messages = refl; left_over = x.1 ∙ sym y.1 })
+readings p q s bytes rest left [] (n ∷ ns) x y = inr (inl (record { message = n; more = ns; behind = y.1.0; longer = refl; belongs = rw x.0 y.0; parts = x.1 ∙ y.1.1 }))
+readings p q s bytes rest left (m ∷ ms) [] x y = inr (inr (record { message = m; more = ms; behind = x.1.0; longer = refl; belongs = rw y.0 x.0; parts = y.1 ∙ x.1.1 }))
+readings p q s bytes rest left (m ∷ ms) (n ∷ ns) x y =
+    let one = front_one p m n bytes x.1.0 y.1.0 x.0 y.0 x.1.1 y.1.1 in
+    let others = readings (after p m) q s x.1.0 rest left ms ns x.1.2 (rw (one.0, one.1) y.1.2) in
+    elim others [
+      | inl a ↦ inl (record { messages = rw (one.0, a.messages) refl; left_over = a.left_over })
+      | inr r ↦ elim r [
+        | inl f ↦ inr (inl (rw (← one.0) (further_more q rest m ms ns f)))
+        | inr f ↦ inr (inr (rw (← one.0) (further_more s left m ns ms f)))
+      ]
+    ]
+
+pub none_further : (q : Phase) (ms ns : List Message) → Further q [] ms ns → ⊥
+none_further q ms ns f = omega (arith, spelling_some f.message, ap length f.parts, length-append (spelling f.message) f.behind)
+
+-- the messages that all the bytes are
+pub all_one : (p q s : Phase) (bytes : List ℕ) (ms ns : List Message) → AreRead p bytes ms q [] → AreRead p bytes ns s [] → ms ≡ ns
+all_one p q s bytes ms ns x y =
+    elim (readings p q s bytes [] [] ms ns x y) [
+      | inl a ↦ a.messages
+      | inr r ↦ elim r [
+        | inl f ↦ absurd (none_further q ms ns f)
+        | inr f ↦ absurd (none_further s ns ms f)
+      ]
+    ]

@@ -1,8 +1,8 @@
 -- What `identify` answers, message by message (PostgreSQL 17 manual, sections "Start-up" and "Streaming
 -- Replication Protocol").
-use Rattle.std.specs.Prelude.{ℕ, ◌+◌, ◌≤◌, length, List, [], ◌∷◌, ◌++◌, Option, Some, None, codes, pos, negsuc}
+use Rattle.std.specs.Prelude.{ℕ, ◌+◌, ◌≤◌, length, List, [], ◌∷◌, ◌++◌, Option, Some, None, codes, pos, negsuc, replicate}
 use Rattle.std.specs.Fmt.{decimal}
-use Rattle.std.specs.List.{flat_map}
+use Rattle.std.specs.List.{flat_map, repeat}
 use Rattle.repl_message.specs.declared.back.TransactionStatus.TheVariants.{Idle}
 use Rattle.repl_message.specs.declared.back.Field.{Field}
 use Rattle.repl_message.specs.declared.back.Back.{Back}
@@ -48,13 +48,17 @@ identification identity =
     ∷ back.ReadyForQuery Idle
     ∷ []
 
--- the messages of a session that asks once, which is the first session
-abbrev pub answer : Identity → List Back
-answer identity = greeting 1 ++ identification identity
+-- the messages of a session, which is the first one, that asks so often
+abbrev pub answer : Identity → ℕ → List Back
+answer identity questions = greeting 1 ++ repeat questions (identification identity)
 
--- the bytes of these messages, one after another
-abbrev pub answer_bytes : Identity → List ℕ
-answer_bytes identity = flat_map back_spelling (answer identity)
+-- each request for encryption is answered by `N`, with no message round it
+abbrev pub refused_requests : ℕ → List ℕ
+refused_requests requests = replicate requests 78
+
+-- the bytes that answer so many requests and questions
+abbrev pub answer_bytes : Identity → ℕ → ℕ → List ℕ
+answer_bytes identity requests questions = refused_requests requests ++ flat_map back_spelling (answer identity questions)
 
 -- the message's length is within its limit
 abbrev pub IsWithin : Back → Type 0

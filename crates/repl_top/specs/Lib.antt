@@ -8,4 +8,5 @@ pub mod Frames
 pub mod Printing
 pub mod Names
 pub mod Tool
+pub mod Stages
 pub mod Stream

@@ -1,12 +1,20 @@
 -- The input of `identify`: one session of a client that asks a server who it is.
-use Rattle.std.specs.Prelude.{◌≡◌, ◌≢◌, ℕ, ◌⊎◌, List, ◌∷◌, ◌++◌, codes}
+use Rattle.std.specs.Prelude.{◌≡◌, ◌≢◌, ℕ, ◌+◌, ◌⊎◌, List, [], ◌∷◌, ◌++◌, length, codes}
 use Rattle.std.specs.List.{All, Any}
 use Rattle.repl_message.specs.declared.startup.Pair.{Pair}
 use Rattle.repl_message.specs.declared.startup.Startup.TheVariants as startup
 use Rattle.repl_message.specs.declared.front.Front.TheVariants as front
+use Rattle.repl_message.specs.declared.message.Phase.{Phase}
 use Rattle.repl_message.specs.declared.message.Phase.TheVariants as phase
+use Rattle.repl_message.specs.declared.message.Message.{Message}
 use Rattle.repl_message.specs.declared.message.Message.TheVariants as message
+use Rattle.repl_message.specs.declared.message.Side.TheVariants as side
 use Rattle.repl_message.specs.Message.{Spells}
+use Rattle.repl_wire.specs.Reader.{AreRead}
+use Rattle.repl_cmd.specs.declared.command.Command.TheVariants as command
+use Rattle.repl_cmd.specs.Command as commands
+use Rattle.repl_text.specs.Language.{Begins}
+use Rattle.repl_top.specs.Stream.{AreAll}
 
 -- the values of `replication` that ask for physical replication
 abbrev pub IsTrueValue : List ℕ → Type 0
@@ -46,29 +54,45 @@ pub record IsReplication (pairs : List Pair) : Type 0 where
   pub physical : IsPhysical pairs
   pub plain : HasNoOption pairs
 
--- the end of the session
-abbrev pub IsEnd : List ℕ → Type 0
-IsEnd input = Spells phase.Front (message.Front front.Terminate) input
+-- a request for encryption, by TLS or by GSSAPI
+abbrev pub IsRequest : Message → Type 0
+IsRequest m = (m ≡ message.Startup startup.Ssl) ⊎ (m ≡ message.Startup startup.Gss)
 
--- the query IDENTIFY_SYSTEM, and the end of the session
-pub record IsEnding (input : List ℕ) : Type 0 where
-  pub query : List ℕ
-  pub rest : List ℕ
-  pub parts : input ≡ query ++ rest
-  pub identifies : Spells phase.Front (message.Front (front.Query (codes "IDENTIFY_SYSTEM"))) query
-  pub ends : IsEnd rest
+-- a query that says IDENTIFY_SYSTEM
+abbrev pub IsQuestion : Message → Type 0
+IsQuestion m = (text : List ℕ) × (m ≡ message.Front (front.Query text)) × commands.IsRead text command.IdentifySystem
 
--- a startup packet for physical replication, the query IDENTIFY_SYSTEM, and the end of the session
-pub record IsSession (input : List ℕ) : Type 0 where
-  pub packet : List ℕ
-  pub rest : List ℕ
+-- The messages are a session with so many requests for encryption, a startup packet for physical replication, so
+-- many questions, and the end.
+pub record AreSession (messages : List Message) (requests questions : ℕ) : Type 0 where
+  pub asked : List Message
   pub pairs : List Pair
-  pub parts : input ≡ packet ++ rest
-  pub starts : Spells phase.Startup (message.Startup (startup.Params pairs)) packet
-  pub asks : IsReplication pairs
-  pub goes_on : IsEnding rest
+  pub questioned : List Message
+  pub parts : messages ≡ asked ++ message.Startup (startup.Params pairs) ∷ questioned ++ message.Front front.Terminate ∷ []
+  pub are_requests : All IsRequest asked
+  pub starts : IsReplication pairs
+  pub are_questions : All IsQuestion questioned
+  pub requests_are : requests ≡ length asked
+  pub questions_are : questions ≡ length questioned
 
--- The input is no session. It is refused as a whole, at its first byte.
+-- the messages are a session
+abbrev pub AreSomeSession : List Message → Type 0
+AreSomeSession messages = (requests : ℕ) × (questions : ℕ) × AreSession messages requests questions
+
+-- the bytes are a session with so many requests and questions
+pub record IsSession (input : List ℕ) (requests questions : ℕ) : Type 0 where
+  pub messages : List Message
+  pub are_all : AreAll side.Front input messages
+  pub are_session : AreSession messages requests questions
+
+-- The input is no session. Up to this place it is messages that begin one, and none goes on with a message that
+-- stands there, or the input ends there too early.
 pub record IsRefusedAt (input : List ℕ) (place : ℕ) : Type 0 where
-  pub no_session : ¬ IsSession input
-  pub at : place ≡ 0
+  pub messages : List Message
+  pub last : Phase
+  pub rest : List ℕ
+  pub read : AreRead phase.Startup input messages last rest
+  pub at : place + length rest ≡ length input
+  pub goes_on : Begins AreSomeSession messages
+  pub stops : (m : Message) (text behind : List ℕ) → rest ≡ text ++ behind → Spells last m text → ¬ Begins AreSomeSession (messages ++ m ∷ [])
+  pub unended : rest ≡ [] → ¬ AreSomeSession messages

@@ -1,9 +1,10 @@
 ghost use Rattle.std.specs.Prelude.{◌≡◌, ◌++◌, List, Some, IfOk, OnOk, string_bytes, length, ◌≤◌};
-ghost use Rattle.std.specs.List.{flat_map, AllByRecursion};
+ghost use Rattle.std.specs.List.{flat_map, repeat, AllByRecursion};
 ghost use Rattle.repl_text.specs.Text.{IsText};
 ghost use Rattle.repl_message.specs.Message.{back_spelling, counted, column};
 ghost use Rattle.repl_top.specs.Answer.{greeting, identification, answer_bytes, answer_fields, answer_row, text_field, int8_field, IsWithin};
 
+use crate::session::Session;
 use crate::words::Identity;
 use bytes::Bytes;
 use repl_wire::{
@@ -11,16 +12,30 @@ use repl_wire::{
 };
 use std::alloc::{AllocError, Global};
 
-/// The bytes that a session of one IDENTIFY_SYSTEM is answered with.
-pub(crate) fn answer(alloc: Global, identity: &Identity) -> Result<Vec<u8>, AllocError>
-    ensures { IfOk result (λ bytes. bytes.items ≡ answer_bytes identity.now) }
+/// The bytes that answer the session.
+pub(crate) fn answer(
+    alloc: Global,
+    identity: &Identity,
+    session: Session,
+) -> Result<Vec<u8>, AllocError>
+    ensures { IfOk result (λ bytes. bytes.items ≡ answer_bytes identity.now session.requests session.questions) }
 {
-    let mut bytes = Vec::new(alloc);
-    let messages = greeting(alloc, 1)?;
-    encode_all(&messages, &mut bytes)?;
-    let messages = identification(alloc, identity)?;
-    encode_all(&messages, &mut bytes)?;
+    let mut once = Vec::new(alloc);
+    encode_all(&identification(alloc, identity)?, &mut once)?;
+    let mut bytes = vec![in alloc; b'N'; session.requests]?;
+    encode_all(&greeting(alloc, 1)?, &mut bytes)?;
+    append_times(&once, session.questions, &mut bytes)?;
     Ok(bytes)
+}
+
+/// Appends the piece so many times.
+fn append_times(piece: &[u8], times: usize, out: &mut Vec<u8>) -> Result<(), AllocError>
+    ensures { OnOk result (out.new.items ≡ out.old.items ++ repeat times piece.now) }
+{
+    for _ in 0..times {
+        out.extend_from_slice(piece)?;
+    }
+    Ok(())
 }
 
 /// Appends the messages, one after another.

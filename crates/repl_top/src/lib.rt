@@ -4,23 +4,26 @@
 //! `run_tool` is the command line of `pgnode` but for serving. It reads the words, does the command over a
 //! source and a sink, and answers a `Status`, which `status_number` and `status_line` print. Its contract
 //! says for each status when it may come and what was written. The words that are a command line stand in
-//! `specs/Words.antt`; the input that `identify` takes in `specs/Session.antt`, its answer, message by
+//! `specs/Words.antt`; the input that `identify` takes, which asks any number of times for encryption and for
+//! IDENTIFY_SYSTEM, and where another is refused, in `specs/Session.antt`, its answer, message by
 //! message, in `specs/Answer.antt`, and how it ends in `specs/Tool.antt`; what `frames` and `names` print, and
-//! how they end, in `specs/Frames.antt` and `specs/Names.antt`. Stands on `repl_io`, `repl_lsn`, `repl_names`
-//! and `repl_wire`.
+//! how they end, in `specs/Frames.antt` and `specs/Names.antt`. Stands on `repl_io`, `repl_lsn`, `repl_names`,
+//! `repl_wire` and `repl_cmd`.
 #![tactic(auto)]
 
 mod answer;
 mod frames;
 mod gather;
+mod laws;
 mod names;
 mod session;
+mod stage;
 mod status;
-mod stream;
 mod tool;
 mod words;
 
 pub use frames::FRAME_TURNS;
+pub use laws::one_session;
 pub use status::{Status, status_line, status_number};
 pub use tool::{INPUT_LIMIT, TURNS, run_tool};
 pub use words::Identity;
@@ -28,8 +31,8 @@ pub use words::Identity;
 #[cfg(test)]
 mod frames_tests;
 #[cfg(test)]
-mod names_tests;
+mod identify_tests;
 #[cfg(test)]
-mod stream_tests;
+mod names_tests;
 #[cfg(test)]
 mod tests;

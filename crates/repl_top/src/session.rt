@@ -1,61 +1,94 @@
-ghost use Rattle.std.specs.Prelude.{◌≡◌, ◌↔◌, List, ◌++◌, codes, IsTrue, IfOk};
-ghost use Rattle.repl_top.specs.Stream.{AreSession};
-ghost use Rattle.repl_top.specs.Session.{IsSession, IsReplication, HasUser, IsPhysical, HasNoOption, IsOption, IsTrueValue};
+ghost use Rattle.std.specs.Prelude.{◌≡◌, ◌<◌, ◌≤◌, ◌+◌, ℕ, ◌↔◌, length, IsTrue, IfOk, OnOk, Err};
+ghost use Rattle.repl_wire.specs.Reader.{Waits};
+ghost use Rattle.repl_top.specs.declared.session.NoSession.TheVariants as NoSession;
+ghost use Rattle.repl_top.specs.Stages.{counted, Goes, Walked, Stuck};
+ghost use Rattle.repl_top.specs.declared.stage.Stage.{Stage};
+ghost use Rattle.repl_top.specs.Session.{IsSession, IsRefusedAt, IsReplication, HasUser, IsPhysical, HasNoOption, IsOption, IsTrueValue};
 
-use crate::stream::read_messages;
-use repl_wire::{Front, Message, Pair, Pairs, Side, Startup};
+use crate::stage::Stage;
+use repl_wire::{FrameReader, Message, PIECE_LIMIT, Pair, Pairs, Side, Step};
 use std::alloc::{AllocError, Global};
 
-/// Whether the bytes are one session that `identify` answers: a startup packet for physical replication,
-/// the query IDENTIFY_SYSTEM, and the end, with nothing after it.
-pub(crate) fn is_session(alloc: Global, input: &[u8]) -> Result<bool, AllocError>
-    ensures { IfOk result (λ yes. IsTrue yes ↔ IsSession input.now) }
-{
-    match read_messages(alloc, Side::Front, input)? {
-        Some(messages) => Ok(are_session(&messages)),
-        None => Ok(false),
+/// What a session asks for.
+#[derive(Clone, Copy, Debug, PartialEq, Eq)]
+pub(crate) struct Session {
+    /// How many requests for encryption come before the startup packet.
+    pub(crate) requests: usize,
+    /// How many times IDENTIFY_SYSTEM is asked.
+    pub(crate) questions: usize,
+}
+
+/// Why an input is not answered as a session.
+#[derive(Clone, Copy, Debug, PartialEq, Eq)]
+pub(crate) enum NoSession {
+    /// The first packet or message that is not allowed or not whole begins here.
+    At(u64),
+    Memory,
+}
+
+impl From<AllocError> for NoSession {
+    ghost use Rattle.std.specs.Prelude.{◌≡◌};
+    ghost use Rattle.repl_top.specs.declared.session.NoSession.TheVariants.{Memory};
+
+    ghost from_gives = { λ _ e. e ≡ Memory };
+
+    fn from(_error: AllocError) -> NoSession {
+        NoSession::Memory
     }
 }
 
-/// Whether the messages are those of a session.
-fn are_session(messages: &[Message]) -> bool
-    ensures { IsTrue result ↔ AreSession messages.now }
+/// What the session asks for that the bytes are: requests for encryption, a startup packet for physical
+/// replication, queries IDENTIFY_SYSTEM, and the end, with nothing after it.
+pub(crate) fn read_session(alloc: Global, input: &[u8]) -> Result<Session, NoSession>
+    ensures read { IfOk result (λ session. IsSession input.now session.requests session.questions) }
+    ensures refused { (place : ℕ) → result ≡ Err (NoSession.At place) → IsRefusedAt input.now place }
 {
-    match messages {
-        [start, query, end] => starts(start) && identifies(query) && ends(end),
-        _ => false,
+    let mut reader = FrameReader::new(alloc, Side::Front)?;
+    let mut stage = Stage::Starting(0);
+    for piece in input.chunks(PIECE_LIMIT) {
+        reader.feed(piece);
+        stage = walk(alloc, &mut reader, stage)?;
+    }
+    match stage {
+        Stage::Over(session) if reader.is_empty() => Ok(session),
+        _ => Err(NoSession::At(reader.place())),
     }
 }
 
-/// Whether the message is a startup packet for physical replication.
-fn starts(message: &Message) -> bool
-    ensures { IsTrue result ↔ ((pairs : List Pair) × (message.now ≡ Message.Startup (Startup.Params pairs)) × IsReplication pairs) }
+/// The stage behind the messages that the reader has whole, which it gives.
+fn walk(alloc: Global, reader: &mut FrameReader, from: Stage) -> Result<Stage, NoSession>
+    requires fits { reader.old.place + length reader.old.rest ≤ u64.MAX }
+    requires few { counted from ≤ reader.old.place }
+    ensures walked { IfOk result (λ to. Walked reader.old from reader.new to) }
+    ensures waits { OnOk result (Waits reader.new) }
+    ensures stuck { (place : ℕ) → result ≡ Err (NoSession.At place) → Stuck reader.old from place }
 {
-    match message {
-        Message::Startup(Startup::Params(pairs)) => asks_for_replication(pairs),
-        _ => false,
+    let mut stage = from;
+    loop {
+        let place = reader.place();
+        match reader.next(alloc) {
+            Step::Message(message) => stage = advance(alloc, stage, message, place)?,
+            Step::NeedMore => return Ok(stage),
+            Step::Refused(_) => return Err(NoSession::At(place)),
+            Step::Memory => return Err(NoSession::Memory),
+        }
     }
 }
 
-/// Whether the message is the query IDENTIFY_SYSTEM.
-fn identifies(message: &Message) -> bool
-    ensures { IsTrue result ↔ (message.now ≡ Message.Front (Front.Query (codes "IDENTIFY_SYSTEM"))) }
+/// The stage behind a message whose first byte is at this place.
+fn advance(alloc: Global, from: Stage, message: Message, place: u64) -> Result<Stage, NoSession>
+    requires { counted from < usize.MAX }
+    ensures leads { IfOk result (λ to. Goes from message to) }
+    ensures refuses { (at : ℕ) → result ≡ Err (NoSession.At at) → (at ≡ place) × ((to : Stage) → ¬ Goes from message to) }
 {
-    match message {
-        Message::Front(Front::Query(text)) => text.as_slice() == b"IDENTIFY_SYSTEM".as_slice(),
-        _ => false,
+    match from.after(alloc, &message)? {
+        Some(to) => Ok(to),
+        None => Err(NoSession::At(place)),
     }
-}
-
-/// Whether the message ends the session.
-fn ends(message: &Message) -> bool
-    ensures { IsTrue result ↔ (message.now ≡ Message.Front Front.Terminate) }
-{
-    matches!(message, Message::Front(Front::Terminate))
 }
 
 /// Whether the parameters have a user, ask for physical replication, and name no option of the protocol.
-fn asks_for_replication(pairs: &Pairs) -> bool
+pub(crate) fn asks_for_replication(pairs: &Pairs) -> bool
     ensures { IsTrue result ↔ IsReplication pairs.now }
 {
     let pairs = pairs.as_slice();

@@ -7,34 +7,36 @@ use std::alloc::{AllocError, Global};
 use std::process::Abort;
 use std::test::Fail;
 
-const WORDS: [&str; 4] = ["identify", "7", "1", "0/1000028"];
+pub(crate) const WORDS: [&str; 4] = ["identify", "7", "1", "0/1000028"];
 
 pub(crate) const START: [u8; 36] = *b"\0\0\0\x24\0\x03\0\0user\0repl\0replication\0true\0\0";
 
-const QUERY: [u8; 21] = *b"Q\0\0\0\x14IDENTIFY_SYSTEM\0";
+pub(crate) const QUERY: [u8; 21] = *b"Q\0\0\0\x14IDENTIFY_SYSTEM\0";
 
-const END: [u8; 5] = *b"X\0\0\0\x04";
+pub(crate) const END: [u8; 5] = *b"X\0\0\0\x04";
 
-/// What precedes the row.
-const BEFORE: [u8; 253] = *b"R\0\0\0\x08\0\0\0\0\
+/// What each client is told first.
+pub(crate) const GREETING: [u8; 141] = *b"R\0\0\0\x08\0\0\0\0\
     S\0\0\0\x18server_version\x0017.0\0\
     S\0\0\0\x19client_encoding\0UTF8\0\
     S\0\0\0\x19integer_datetimes\0on\0\
     S\0\0\0\x23standard_conforming_strings\0on\0\
     K\0\0\0\x0c\0\0\0\x01\0\0\0\0\
-    Z\0\0\0\x05I\
-    T\0\0\0\x6f\0\x04\
+    Z\0\0\0\x05I";
+
+/// What precedes a row.
+pub(crate) const COLUMNS: [u8; 112] = *b"T\0\0\0\x6f\0\x04\
     systemid\0\0\0\0\0\0\0\0\0\0\x19\xff\xff\xff\xff\xff\xff\0\0\
     timeline\0\0\0\0\0\0\0\0\0\0\x14\0\x08\xff\xff\xff\xff\0\0\
     xlogpos\0\0\0\0\0\0\0\0\0\0\x19\xff\xff\xff\xff\xff\xff\0\0\
     dbname\0\0\0\0\0\0\0\0\0\0\x19\xff\xff\xff\xff\xff\xff\0\0";
 
 /// The row that the words ask for.
-const ROW: [u8; 34] =
+pub(crate) const ROW: [u8; 34] =
     *b"D\0\0\0\x21\0\x04\0\0\0\x017\0\0\0\x011\0\0\0\x090/1000028\xff\xff\xff\xff";
 
-/// What follows the row.
-const AFTER: [u8; 27] = *b"C\0\0\0\x14IDENTIFY_SYSTEM\0Z\0\0\0\x05I";
+/// What follows a row.
+pub(crate) const AFTER: [u8; 27] = *b"C\0\0\0\x14IDENTIFY_SYSTEM\0Z\0\0\0\x05I";
 
 /// A sink that takes one byte at a time, and no more than so many.
 #[derive(Drop)]
@@ -77,188 +79,12 @@ pub(crate) fn owned(alloc: Global, words: &[&str]) -> Result<Vec<String>, AllocE
 }
 
 /// The pieces, one after another.
-fn joined(alloc: Global, pieces: &[&[u8]]) -> Result<Vec<u8>, AllocError> {
+pub(crate) fn joined(alloc: Global, pieces: &[&[u8]]) -> Result<Vec<u8>, AllocError> {
     let mut all = Vec::new(alloc);
     for piece in pieces {
         all.extend_from_slice(piece)?;
     }
     Ok(all)
-}
-
-/// How a run over links in memory ended, and what it wrote.
-fn run(alloc: Global, words: &[&str], input: &[&[u8]]) -> Result<(Status, Vec<u8>), AllocError> {
-    let words = owned(alloc, words)?;
-    let mut input = SteadyLink::new(alloc, joined(alloc, input)?)?;
-    let mut out = SteadyLink::new(alloc, Vec::new(alloc))?;
-    let status = run_tool(alloc, &words, &mut input, &mut out);
-    Ok((status, out.written().to_vec(alloc)?))
-}
-
-/// These words are answered with this row.
-fn check_row(
-    rt: &impl Abort,
-    alloc: Global,
-    words: &[&str],
-    start: &[u8],
-    row: &[u8],
-) -> Result<(), AllocError> {
-    let (status, written) = run(alloc, words, &[start, &QUERY, &END])?;
-    assert_eq!(rt; status, Status::Ok);
-    let wanted = joined(alloc, &[&BEFORE, row, &AFTER])?;
-    assert_eq!(rt; written.as_slice(), wanted.as_slice());
-    Ok(())
-}
-
-#[test]
-fn answers_the_sample_session(rt: HostRuntime) -> Result<(), Fail> {
-    let (status, written) = run(rt.alloc(), &WORDS, &[&START, &QUERY, &END])?;
-    assert_eq!(rt; status, Status::Ok);
-    assert_eq!(rt; written.len(), 314);
-    let wanted = joined(rt.alloc(), &[&BEFORE, &ROW, &AFTER])?;
-    assert_eq!(rt; written.as_slice(), wanted.as_slice());
-    Ok(())
-}
-
-#[test]
-fn writes_nothing_where_memory_runs_out(rt: HostRuntime) -> Result<(), Fail> {
-    let words = owned(rt.alloc(), &WORDS)?;
-    let mut input = SteadyLink::new(rt.alloc(), joined(rt.alloc(), &[&START, &QUERY, &END])?)?;
-    let mut out = SteadyLink::new(rt.alloc(), Vec::new(rt.alloc()))?;
-    let wanted = joined(rt.alloc(), &[&BEFORE, &ROW, &AFTER])?;
-    match run_tool(rt.alloc(), &words, &mut input, &mut out) {
-        Status::Ok => assert_eq!(rt; out.written(), wanted.as_slice()),
-        Status::Memory => assert!(rt; out.written().is_empty()),
-        _ => panic!(rt; "another end"),
-    }
-    Ok(())
-}
-
-#[test]
-fn answers_other_clients_and_identities(rt: HostRuntime) -> Result<(), Fail> {
-    let starts: [&[u8]; 9] = [
-        b"\0\0\0\x24\0\x03\0\0replication\0true\0user\0repl\0\0",
-        b"\0\0\0\x32\0\x03\0\0user\0repl\0database\0repl\0replication\0true\0\0",
-        b"\0\0\0\x3c\0\x03\0\0user\0repl\0replication\0true\0application_name\0walrec\0\0",
-        b"\0\0\0\x33\0\x03\0\0options\0-c a=b\0user\0repl\0replication\0true\0\0",
-        b"\0\0\0\x22\0\x03\0\0user\0repl\0replication\0on\0\0",
-        b"\0\0\0\x23\0\x03\0\0user\0repl\0replication\0yes\0\0",
-        b"\0\0\0\x21\0\x03\0\0user\0repl\0replication\x001\0\0",
-        b"\0\0\0\x34\0\x03\0\0user\0repl\0replication\0off\0replication\0true\0\0",
-        b"\0\0\0\x2b\0\x03\0\0user\0repl\0user\0x\0replication\0true\0\0",
-    ];
-    for start in starts {
-        check_row(&rt, rt.alloc(), &WORDS, start, &ROW)?;
-    }
-    let rows: [([&str; 4], &[u8]); 3] = [
-        (
-            ["identify", "0", "1", "0/0"],
-            b"D\0\0\0\x1b\0\x04\0\0\0\x010\0\0\0\x011\0\0\0\x030/0\xff\xff\xff\xff",
-        ),
-        (
-            [
-                "identify",
-                "18446744073709551615",
-                "4294967295",
-                "FFFFFFFF/FFFFFFFF",
-            ],
-            b"D\0\0\0\x45\0\x04\0\0\0\x1418446744073709551615\0\0\0\x0a4294967295\
-            \0\0\0\x11FFFFFFFF/FFFFFFFF\xff\xff\xff\xff",
-        ),
-        (
-            ["identify", "007", "01", "0/00abc"],
-            b"D\0\0\0\x1d\0\x04\0\0\0\x017\0\0\0\x011\0\0\0\x050/ABC\xff\xff\xff\xff",
-        ),
-    ];
-    for (words, row) in rows {
-        check_row(&rt, rt.alloc(), &words, &START, row)?;
-    }
-    Ok(())
-}
-
-#[test]
-fn refuses_what_is_no_session(rt: HostRuntime) -> Result<(), Fail> {
-    let zeros = vec![in rt.alloc(); 0; 65_537]?;
-    let cases: [[&[u8]; 3]; 22] = [
-        [b"", b"", b""],
-        [&zeros, b"", b""],
-        [&START, &QUERY, b"X\0\0\0"],
-        [&START, &QUERY, b""],
-        [&START, b"", &END],
-        [&START, &QUERY, b"X\0\0\0\x04\0"],
-        [&START, &QUERY, b"X\0\0\0\x05\0"],
-        [&START, &QUERY, b"Y\0\0\0\x04"],
-        [&START, b"Q\0\0\0\x14IDENTIFY_SYSTEN\0", &END],
-        [&START, b"Q\0\0\0\x14identify_system\0", &END],
-        [&START, b"Q\0\0\0\x15IDENTIFY_SYSTEM;\0", &END],
-        [
-            b"\0\0\0\x25\0\x03\0\0user\0repl\0replication\0true\0\0",
-            &QUERY,
-            &END,
-        ],
-        [
-            b"\0\0\0\x24\0\x03\0\x01user\0repl\0replication\0true\0\0",
-            &QUERY,
-            &END,
-        ],
-        [
-            b"\0\0\0\x28\0\x03\0\0user\0repl\0replication\0database\0\0",
-            &QUERY,
-            &END,
-        ],
-        [
-            b"\0\0\0\x25\0\x03\0\0user\0repl\0replication\0false\0\0",
-            &QUERY,
-            &END,
-        ],
-        [
-            b"\0\0\0\x23\0\x03\0\0user\0repl\0replication\0off\0\0",
-            &QUERY,
-            &END,
-        ],
-        [b"\0\0\0\x13\0\x03\0\0user\0repl\0\0", &QUERY, &END],
-        [b"\0\0\0\x1a\0\x03\0\0replication\0true\0\0", &QUERY, &END],
-        [b"\0\0\0\x09\0\x03\0\0\0", &QUERY, &END],
-        [
-            b"\0\0\0\x2d\0\x03\0\0user\0repl\0_pq_.x\x001\0replication\0true\0\0",
-            &QUERY,
-            &END,
-        ],
-        [
-            b"\0\0\0\x34\0\x03\0\0user\0repl\0replication\0true\0replication\0off\0\0",
-            &QUERY,
-            &END,
-        ],
-        [
-            b"\0\0\0\x08\x04\xd2\x16\x2f\0\0\0\x24\0\x03\0\0user\0repl\0replication\0true\0\0",
-            &QUERY,
-            &END,
-        ],
-    ];
-    for (number, case) in cases.iter().enumerate() {
-        let (status, written) = run(rt.alloc(), &WORDS, case)?;
-        assert_eq!(rt; status, Status::BadInput(0), "at {number}");
-        assert!(rt; written.is_empty(), "at {number}");
-    }
-    Ok(())
-}
-
-/// A bit more or less is a session only in the user's name.
-#[test]
-fn refuses_each_other_byte(rt: HostRuntime) -> Result<(), Fail> {
-    let session = joined(rt.alloc(), &[&START, &QUERY, &END])?;
-    for place in 0..session.len() {
-        let mut input = session.clone()?;
-        input[place] ^= 1;
-        let (status, written) = run(rt.alloc(), &WORDS, &[&input])?;
-        if (13..17).contains(&place) {
-            assert_eq!(rt; status, Status::Ok, "at {place}");
-            assert_eq!(rt; written.len(), 314, "at {place}");
-        } else {
-            assert_eq!(rt; status, Status::BadInput(0), "at {place}");
-            assert!(rt; written.is_empty(), "at {place}");
-        }
-    }
-    Ok(())
 }
 
 #[test]
@@ -354,7 +180,7 @@ fn tells_faults_of_the_output(rt: HostRuntime) -> Result<(), Fail> {
     let alloc = rt.alloc();
     let words = owned(alloc, &WORDS)?;
     let session = joined(alloc, &[&START, &QUERY, &END])?;
-    let wanted = joined(alloc, &[&BEFORE, &ROW, &AFTER])?;
+    let wanted = joined(alloc, &[&GREETING, &COLUMNS, &ROW, &AFTER])?;
     let cases = [
         (314, Status::Ok, 314),
         (313, Status::WriteFault, 313),

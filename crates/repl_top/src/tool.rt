@@ -10,7 +10,7 @@ use crate::answer::answer;
 use crate::frames::frames;
 use crate::gather::{Stop, gather};
 use crate::names::names;
-use crate::session::is_session;
+use crate::session::{NoSession, Session, read_session};
 use crate::status::Status;
 use crate::words::{Command, Identity, read_words, word_at};
 use repl_io::{Sent, Sink, Source, write_all};
@@ -24,9 +24,9 @@ pub const TURNS: u64 = (1 << 62) + INPUT_LIMIT as u64;
 
 /// Does what the words say, over this input and output, and says how that ended.
 ///
-/// `identify SYSID TLI LSN` answers one session of a client that asks for IDENTIFY_SYSTEM, as the server
-/// with this system identifier would, on this timeline and flushed up to this position. `frames SIDE` prints
-/// the messages of what a side sends, and `names TEXT` the spelling of a standby list.
+/// `identify SYSID TLI LSN` answers one session of a client that asks for IDENTIFY_SYSTEM any number of times,
+/// as the server with this system identifier would, on this timeline and flushed up to this position. Requests
+/// for encryption before the session are answered by `N`. `frames SIDE` prints the messages of what a side sends, and `names TEXT` the spelling of a standby list.
 pub fn run_tool<S: Source, K: Sink>(
     alloc: Global,
     words: &[String],
@@ -60,7 +60,7 @@ fn identify<S: Source, K: Sink>(
     input: &mut S,
     out: &mut K,
 ) -> Status
-    ensures ends { Identifies (answer_bytes identity.now) result
+    ensures ends { Identifies identity.now result
         (record { left = S.left input.old; left_after = S.left input.new; faults = S.faults input.old; faults_after = S.faults input.new; quiets = S.quiets input.old; quiets_after = S.quiets input.new })
         (record { written = K.written out.old; written_after = K.written out.new; faults = K.faults out.old; faults_after = K.faults out.new; wants = K.wants out.old; wants_after = K.wants out.new }) }
     ensures has_read { HasRead result (record { left = S.left input.old; left_after = S.left input.new; faults = S.faults input.old; faults_after = S.faults input.new; quiets = S.quiets input.old; quiets_after = S.quiets input.new }) }
@@ -73,20 +73,20 @@ fn identify<S: Source, K: Sink>(
         Err(Stop::TurnsSpent) => return Status::TurnsSpent,
         Err(Stop::Memory) => return Status::Memory,
     };
-    match is_session(alloc, &bytes) {
-        Ok(true) => reply(alloc, identity, out),
-        Ok(false) => Status::BadInput(0),
-        Err(_) => Status::Memory,
+    match read_session(alloc, &bytes) {
+        Ok(session) => reply(alloc, identity, session, out),
+        Err(NoSession::At(place)) => Status::BadInput(place),
+        Err(NoSession::Memory) => Status::Memory,
     }
 }
 
 /// Writes the whole answer.
-fn reply<K: Sink>(alloc: Global, identity: &Identity, out: &mut K) -> Status
-    ensures ends { Replies (answer_bytes identity.now) result
+fn reply<K: Sink>(alloc: Global, identity: &Identity, session: Session, out: &mut K) -> Status
+    ensures ends { Replies (answer_bytes identity.now session.requests session.questions) result
         (record { written = K.written out.old; written_after = K.written out.new; faults = K.faults out.old; faults_after = K.faults out.new; wants = K.wants out.old; wants_after = K.wants out.new }) }
     ensures write_fault { RoseExactly (is_write_fault result) (K.faults out.old) (K.faults out.new) }
 {
-    let Ok(bytes) = answer(alloc, identity) else {
+    let Ok(bytes) = answer(alloc, identity, session) else {
         return Status::Memory;
     };
     match write_all(out, &bytes) {

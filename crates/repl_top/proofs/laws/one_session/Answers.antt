@@ -1,0 +1,11 @@
+use Rattle.repl_top.proofs.Sessions.{one_counts, not_both, one_place}
+use Rattle.repl_top.proofs.laws.one_session.Goals as goal
+
+pub returns-clause-one : goal.returns-clause-one
+returns-clause-one c = one_counts
+
+pub returns-clause-apart : goal.returns-clause-apart
+returns-clause-apart c = not_both
+
+pub returns-clause-place : goal.returns-clause-place
+returns-clause-place c = one_place
