@@ -1,0 +1,68 @@
+-- Folders, and those of a list of files.
+use Rattle.std.proofs.Common.{◌≡◌, ℕ, Bool, true, false, cond, List, [], ◌∷◌, Option, Some, None, refl, sym, ◌∙◌, ap}
+use Rattle.std.proofs.Math.Path.{fun_ext}
+use Rattle.std.specs.Prelude.{bytes_eq}
+use Rattle.repl_disk.specs.Files.{Changed, found, folder_of, certain_of, certain_folder, bytes_of}
+use Rattle.repl_disk.specs.Folder.{Folder, put}
+use Rattle.repl_disk.specs.Stored.{Stored}
+use Rattle.repl_disk.proofs.Names.{same_name, name_same, other_name}
+
+-- ---- a name's content
+
+pub put_at : (folder : Folder) (name : List ℕ) (x : Option (List ℕ)) → put folder name x name ≡ x
+put_at folder name x = ap (λ (b : Bool). cond b x (folder name)) (same_name name name refl)
+
+pub put_other : (folder : Folder) (name other : List ℕ) (x : Option (List ℕ)) → (other ≡ name → ⊥) → put folder name x other ≡ folder other
+put_other folder name other x differ = ap (λ (b : Bool). cond b x (folder other)) (other_name other name differ)
+
+pub put_same : (folder : Folder) (name : List ℕ) (x : Option (List ℕ)) → x ≡ folder name → put folder name x ≡ folder
+put_same folder name x is = fun_ext (λ other. each other (bytes_eq other name) (name_same other name))
+  where
+    each : (other : List ℕ) (b : Bool) → (b ≡ true → other ≡ name) → cond b x (folder other) ≡ folder other
+    each other true same = is ∙ ap folder (sym (same refl))
+    each other false same = refl
+
+pub put-put : (folder : Folder) (name : List ℕ) (x y : Option (List ℕ)) → put (put folder name x) name y ≡ put folder name y
+put-put folder name x y = fun_ext (λ other. each other (bytes_eq other name))
+  where
+    each : (other : List ℕ) (b : Bool) → cond b y (cond b x (folder other)) ≡ cond b y (folder other)
+    each other true = refl
+    each other false = refl
+
+-- ---- of a list of files
+
+pub folder_found : (files : List Stored) (name : List ℕ) → folder_of files name ≡ bytes_of (found files name)
+folder_found [] name = refl
+folder_found (file ∷ files) name = each (bytes_eq name file.name) (folder_found files name)
+  where
+    each : (b : Bool) → folder_of files name ≡ bytes_of (found files name) → cond b (Some file.bytes) (folder_of files name) ≡ bytes_of (cond b (Some file) (found files name))
+    each true rest = refl
+    each false rest = rest
+
+-- what is certain of a file that may not be there
+abbrev pub certain_found : Option Stored → Option (List ℕ)
+certain_found None = None
+certain_found (Some file) = certain_of file
+
+pub certain_is : (files : List Stored) (name : List ℕ) → certain_folder files name ≡ certain_found (found files name)
+certain_is [] name = refl
+certain_is (file ∷ files) name = each (bytes_eq name file.name) (certain_is files name)
+  where
+    each : (b : Bool) → certain_folder files name ≡ certain_found (found files name) → cond b (certain_of file) (certain_folder files name) ≡ certain_found (cond b (Some file) (found files name))
+    each true rest = refl
+    each false rest = rest
+
+module _ (old new : List Stored) (name : List ℕ) (file : Option Stored) where
+  pub folder_changed : Changed old new name file → folder_of new ≡ put (folder_of old) name (bytes_of file)
+  folder_changed change = fun_ext (λ other. folder_found new other ∙ ap bytes_of (change.files other) ∙ each other (bytes_eq other name))
+    where
+      each : (other : List ℕ) (b : Bool) → bytes_of (cond b file (found old other)) ≡ cond b (bytes_of file) (folder_of old other)
+      each other true = refl
+      each other false = sym (folder_found old other)
+
+  pub certain_changed : Changed old new name file → certain_folder new ≡ put (certain_folder old) name (certain_found file)
+  certain_changed change = fun_ext (λ other. certain_is new other ∙ ap certain_found (change.files other) ∙ each other (bytes_eq other name))
+    where
+      each : (other : List ℕ) (b : Bool) → certain_found (cond b file (found old other)) ≡ cond b (certain_found file) (certain_folder old other)
+      each other true = refl
+      each other false = sym (certain_is old other)

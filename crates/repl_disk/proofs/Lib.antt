@@ -1,0 +1,10 @@
+mod Calls
+mod Crashes
+mod Folders
+mod Images
+mod Listing
+mod Names
+mod Places
+mod Writes
+mod Telling
+mod Aside

@@ -1,0 +1,76 @@
+-- What the answers of a disk's calls say of its files.
+use Rattle.std.specs.Prelude.{◌≡◌, ◌≢◌, ℕ, ◌<◌, ◌⊎◌, Bool, true, false, nat_lt, List, Option, Some, None, IsSome, Result, Ok, Err}
+use Rattle.repl_disk.specs.declared.disk.DiskError.{DiskError}
+use Rattle.repl_disk.specs.declared.disk.DiskError.TheVariants as error
+use Rattle.repl_disk.specs.Crash.{Either, Follows, NoneNew}
+use Rattle.repl_disk.specs.Folder.{Folder, ToldFiles, IfTold, Became, Stayed, put, moved, written}
+
+abbrev pub is_fault : DiskError → Bool
+is_fault error.Missing = false
+is_fault error.Failed = true
+is_fault error.Memory = false
+
+abbrev pub is_want : DiskError → Bool
+is_want error.Missing = false
+is_want error.Failed = false
+is_want error.Memory = true
+
+abbrev pub is_lack : DiskError → Bool
+is_lack error.Missing = true
+is_lack error.Failed = false
+is_lack error.Memory = false
+
+abbrev pub is_failed : {A : Type 0} → Result A DiskError → Bool
+is_failed (Ok x) = false
+is_failed (Err e) = is_fault e
+
+abbrev pub is_memory : {A : Type 0} → Result A DiskError → Bool
+is_memory (Ok x) = false
+is_memory (Err e) = is_want e
+
+abbrev pub is_missing : {A : Type 0} → Result A DiskError → Bool
+is_missing (Ok x) = false
+is_missing (Err e) = is_lack e
+
+-- no file, or fewer bytes than there is room for
+abbrev pub is_short : ℕ → Result ℕ DiskError → Bool
+is_short room (Ok n) = nat_lt n room
+is_short room (Err e) = is_lack e
+
+-- the name is there where the call is done, and is not there where it is missing
+abbrev pub OnlyWhereThere : {A : Type 0} → ToldFiles → List ℕ → Result A DiskError → Type 0
+OnlyWhereThere told name (Ok x) = IfTold told (λ folder. IsSome (folder name))
+OnlyWhereThere told name (Err error.Missing) = IfTold told (λ folder. folder name ≡ None)
+OnlyWhereThere told name (Err error.Failed) = Unit {0}
+OnlyWhereThere told name (Err error.Memory) = Unit {0}
+
+abbrev pub NeverMissing : {A : Type 0} → Result A DiskError → Type 0
+NeverMissing (Ok x) = Unit {0}
+NeverMissing (Err error.Missing) = ⊥
+NeverMissing (Err error.Failed) = Unit {0}
+NeverMissing (Err error.Memory) = Unit {0}
+
+-- The files are as the effect makes them where the call is done, as they were where the name is missing, and one or the
+-- other where the call failed.
+abbrev pub Does : {A : Type 0} → Result A DiskError → ToldFiles → ToldFiles → (Folder → Folder) → Type 0
+Does (Ok x) before now effect = Became before now effect
+Does (Err error.Missing) before now effect = Stayed before now
+Does (Err error.Failed) before now effect = Stayed before now ⊎ Became before now effect
+Does (Err error.Memory) before now effect = Stayed before now ⊎ Became before now effect
+
+abbrev pub Wrote : {A : Type 0} → Result A DiskError → ToldFiles → ToldFiles → List ℕ → ℕ → List ℕ → Type 0
+Wrote result before now name at bytes = Does result before now (λ folder. written folder name at bytes)
+
+abbrev pub Moved : {A : Type 0} → Result A DiskError → ToldFiles → ToldFiles → List ℕ → List ℕ → Type 0
+Moved result before now from to = Does result before now (λ folder. moved folder from to)
+
+abbrev pub Removed : {A : Type 0} → Result A DiskError → ToldFiles → ToldFiles → List ℕ → Type 0
+Removed result before now name = Does result before now (λ folder. put folder name None)
+
+-- What a crash may leave after the step where the call is done, what it might have left where the name is missing, and
+-- one or the other where the call failed.
+abbrev pub Leaves : {A : Type 0} → Result A DiskError → (Folder → Folder → Type 0) → (Folder → Type 0) → (Folder → Type 0) → Type 0
+Leaves (Ok x) step old new = Follows step old new
+Leaves (Err error.Missing) step old new = NoneNew old new
+Leaves (Err error.Failed) step old new = Follows (Either step) old new
+Leaves (Err error.Memory) step old new = Follows (Either step) old new

@@ -1,0 +1,9 @@
+pub mod Folder
+pub mod Crash
+pub mod Answers
+pub mod Replacing
+pub mod Stored
+pub mod Files
+pub mod Memory
+pub mod Images
+pub mod Moments

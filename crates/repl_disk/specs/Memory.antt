@@ -1,0 +1,149 @@
+-- A disk in memory: its files, and for each call since it was made how to take that back. Whatever a crash may leave, now
+-- or at an earlier moment, is a matter of these.
+use Rattle.std.specs.Prelude.{◌≡◌, ◌≢◌, ◌⊎◌, ◌↔◌, ◌^◌, min, Bool, true, false, Contains, Result, IsErr, string_bytes, ℕ, ◌+◌, ◌-◌, ◌≤◌, List, [], ◌∷◌, length, take, drop, Option, Some, None}
+use Rattle.std.specs.Option.{option_map}
+use Rattle.repl_disk.specs.declared.call.Done.{Done}
+use Rattle.repl_disk.specs.declared.call.Done.TheVariants as done
+use Rattle.repl_disk.specs.declared.disk.DiskError.{DiskError}
+use Rattle.repl_disk.specs.declared.disk.DiskError.TheVariants as error
+use Rattle.repl_disk.specs.Answers.{is_failed}
+use Rattle.repl_disk.specs.Folder.{Folder, put, moved, content}
+use Rattle.repl_disk.specs.Crash.{Elapses, Tears, Syncs, Moves, Removes}
+use Rattle.repl_disk.specs.Files.{folder_of}
+use Rattle.repl_disk.specs.Stored.{Cut, Stored, unwritten}
+
+-- ---- taking a call back
+
+-- a file before a write: without an undo the write made it
+abbrev pub file_before : Option Cut → Option (List ℕ) → Option (List ℕ)
+file_before None now = None
+file_before (Some undo) now = Some (unwritten undo (content now))
+
+-- the files before a call, from those after it
+abbrev pub before : Done → Folder → Folder
+before (done.Wrote name at count undo) now = put now (string_bytes name) (file_before undo (now (string_bytes name)))
+before (done.Synced name) now = now
+before (done.Renamed from to taken) now = put (put now (string_bytes to) (option_map (λ bytes. bytes.items) taken)) (string_bytes from) (now (string_bytes to))
+before (done.Removed name taken) now = put now (string_bytes name) (Some taken.items)
+
+-- the files before all these calls, of which the latest comes first
+abbrev pub before_all : List Done → Folder → Folder
+before_all [] now = now
+before_all (call ∷ earlier) now = before_all earlier (before call now)
+
+-- ---- images
+
+-- what a call does to an image, where the files read so before it
+abbrev pub Steps : Done → Folder → Folder → Folder → Type 0
+Steps (done.Wrote name at count undo) folder old new = Tears (string_bytes name) at count old new
+Steps (done.Synced name) folder old new = Syncs (string_bytes name) (folder (string_bytes name)) old new
+Steps (done.Renamed from to taken) folder old new = Moves (string_bytes from) (string_bytes to) old new
+Steps (done.Removed name taken) folder old new = Removes (string_bytes name) old new
+
+-- What a crash may leave of files that read so now, after these calls, of which the latest comes first: the files as they
+-- read, or what the last call makes of an image from before it.
+abbrev pub IsImage : List Done → Folder → Folder → Type 0
+IsImage [] now image = image ≡ now
+IsImage (call ∷ earlier) now image = (image ≡ now) ⊎ ((old : Folder) × IsImage earlier (before call now) old × Steps call (before call now) old image)
+
+-- the same at some moment since so many calls were made
+abbrev pub WasImage : List Done → Folder → ℕ → Folder → Type 0
+WasImage calls now moment image = (later : ℕ) × (later + moment ≤ length calls) × IsImage (drop later calls) (before_all (take later calls) now) image
+
+-- ---- what is certain
+
+-- what is left where all is lost that was not synced
+abbrev pub certain : List Done → Folder → Folder
+certain [] now = now
+certain (done.Wrote name at count undo ∷ earlier) now = certain earlier (before (done.Wrote name at count undo) now)
+certain (done.Synced name ∷ earlier) now = put (certain earlier now) (string_bytes name) (now (string_bytes name))
+certain (done.Renamed from to taken ∷ earlier) now = moved (certain earlier (before (done.Renamed from to taken) now)) (string_bytes from) (string_bytes to)
+certain (done.Removed name taken ∷ earlier) now = put (certain earlier (before (done.Removed name taken) now)) (string_bytes name) None
+
+-- ---- the disk
+
+-- the files, and the calls that were done, of which the latest comes first
+pub record Held : Type 0 where
+  pub files : List Stored
+  pub calls : List Done
+
+-- A call that was done: what it made of the files, how that is taken back, and what a crash may leave after it of what one
+-- might have left before it.
+pub record Did (old new : Held) (effect : Folder → Folder) (step : Folder → Folder → Type 0) : Type 0 where
+  pub call : Done
+  pub kept : new.calls ≡ call ∷ old.calls
+  pub files : folder_of new.files ≡ effect (folder_of old.files)
+  pub back : before call (folder_of new.files) ≡ folder_of old.files
+  pub now : step (folder_of old.files) (folder_of new.files)
+  pub each : (past image : Folder) → Steps call (folder_of old.files) past image → step past image
+
+-- a call that was not done: nothing changed, and where the name is said to be missing it is not there
+pub record DidNot (old new : Held) (name : List ℕ) (e : DiskError) : Type 0 where
+  pub unchanged : new ≡ old
+  pub missing : e ≡ error.Missing → folder_of old.files name ≡ None
+  pub never_failed : e ≢ error.Failed
+
+-- what a disk in memory is seen as: its files, its calls, of which the latest comes first, and how it fails
+pub record Memory : Type 0 where
+  pub files : List Stored
+  pub calls : List Done
+  pub failing : List ℕ
+  pub fuse : Option ℕ
+  pub count : ℕ
+  pub faults : ℕ
+  pub wants : ℕ
+  pub lacks : ℕ
+
+-- the files as they read
+abbrev pub reading : Memory → Folder
+reading m = folder_of m.files
+
+abbrev pub LeavesNow : Memory → Folder → Type 0
+LeavesNow m image = IsImage m.calls (reading m) image
+
+abbrev pub LeftSince : Memory → ℕ → Folder → Type 0
+LeftSince m moment image = WasImage m.calls (reading m) moment image
+
+abbrev pub certain_files : Memory → Folder
+certain_files m = certain m.calls (reading m)
+
+-- the next call fails: its number is listed, or the fuse is burnt
+abbrev pub IsDue : Memory → Type 0
+IsDue m = Contains m.failing (m.count + 1) ⊎ (m.fuse ≡ Some 0)
+
+-- a fuse after a call that passed
+abbrev pub burnt : Option ℕ → Option ℕ
+burnt None = None
+burnt (Some k) = Some (k - 1)
+
+-- counted once more, where the test holds
+abbrev pub raised : Bool → ℕ → ℕ
+raised true events = min (events + 1) (2 ^ 64 - 1)
+raised false events = events
+
+-- with one call more counted, which burns the fuse
+abbrev pub begun : Memory → Memory
+begun m = record { files = m.files; calls = m.calls; failing = m.failing; fuse = burnt m.fuse; count = min (m.count + 1) (2 ^ 64 - 1); faults = m.faults; wants = m.wants; lacks = m.lacks }
+
+-- with an event of each kind counted where its test holds
+abbrev pub told : Memory → Bool → Bool → Bool → Memory
+told m failed wanted lacked = record { files = m.files; calls = m.calls; failing = m.failing; fuse = m.fuse; count = m.count; faults = raised failed m.faults; wants = raised wanted m.wants; lacks = raised lacked m.lacks }
+
+-- time went on
+abbrev pub Passes : Memory → Memory → Type 0
+Passes old new = Elapses (length old.calls) (length new.calls) (LeftSince old) (LeftSince new) (LeavesNow new)
+
+-- a call is counted, fails exactly where it is due, and has no effect where it answers an error
+pub record Counts {A : Type 0} (old new : Memory) (result : Result A DiskError) : Type 0 where
+  pub count : new.count ≡ min (old.count + 1) (2 ^ 64 - 1)
+  pub failing : new.failing ≡ old.failing
+  pub fuse : new.fuse ≡ burnt old.fuse
+  pub due : (is_failed result ≡ true) ↔ IsDue old
+  pub idle : IsErr result → (new.files ≡ old.files) × (new.calls ≡ old.calls)
+
+-- a disk that a crash left: what it reads is all that a further crash may leave, and nothing of its calls is kept
+pub record Crashed (old new : Memory) (folder : Folder) : Type 0 where
+  pub reads : reading new ≡ folder
+  pub settled : new.calls ≡ []
+  pub fails : (new.failing ≡ old.failing) × (new.fuse ≡ None) × (new.count ≡ old.count)
+  pub counts : (new.faults ≡ old.faults) × (new.wants ≡ old.wants) × (new.lacks ≡ old.lacks)

@@ -1,0 +1,29 @@
+//! Files that survive a crash.
+//!
+//! `Disk` is files by name. Its contract says of each call what the files read afterwards, and what a crash may leave of
+//! them at any moment of the call: `specs/Folder.antt` and `specs/Crash.antt`. `replace` puts other bytes under a name so
+//! that a crash leaves the old or the new. `MemoryDisk` is a disk in memory that crashes and fails as it is told, and
+//! `FolderDisk` a folder of the system, which is trusted. Stands on `repl_counts` and the kit's `thiserror`.
+#![tactic(auto)]
+
+mod bytes;
+mod call;
+mod disk;
+mod folder;
+mod history;
+mod memory;
+mod memory_file;
+mod memory_files;
+mod replacing;
+
+pub use disk::{Disk, DiskError};
+pub use folder::FolderDisk;
+pub use memory::MemoryDisk;
+pub use replacing::replace;
+
+#[cfg(test)]
+mod replacing_tests;
+#[cfg(test)]
+mod script_tests;
+#[cfg(test)]
+mod tests;
