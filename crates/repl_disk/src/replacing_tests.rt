@@ -51,15 +51,17 @@ fn check_replacement(
 #[test]
 fn stops_at_each_call(rt: HostRuntime) -> Result<(), DiskError> {
     let alloc = rt.alloc();
-    for passed in 0..=CALLS {
-        let is_done = passed == CALLS;
-        for keep in [false, true] {
+    for keep in [false, true] {
+        for passed in 0..CALLS {
             let failing = with_old_file(alloc, &[BEFORE + passed + 1])?;
-            check_replacement(&rt, alloc, failing, keep, is_done)?;
+            check_replacement(&rt, alloc, failing, keep, false)?;
             let mut fused = with_old_file(alloc, &[])?;
             fused.fuse(passed);
-            check_replacement(&rt, alloc, fused, keep, is_done)?;
+            check_replacement(&rt, alloc, fused, keep, false)?;
         }
+        let mut fused = with_old_file(alloc, &[])?;
+        fused.fuse(CALLS);
+        check_replacement(&rt, alloc, fused, keep, true)?;
     }
     Ok(())
 }
