@@ -1,9 +1,10 @@
 //! `pgnode`: one node of PostgreSQL streaming replication.
 //!
 //! `identify SYSID TLI LSN` answers one session on its standard input, `frames front` and `frames back`
-//! print the messages of theirs, and `names TEXT` prints the spelling of a standby list. The work is
-//! `run_tool` of `repl_top`; this program gives it the words and the standard streams, prints the line of
-//! every status but Ok on standard error, and ends with the status's number.
+//! print the messages of theirs, `names TEXT` prints the spelling of a standby list, and `history TLI` the
+//! canonical text of the history on its standard input. The work is `run_tool` of `repl_top`; this program
+//! gives it the words and the standard streams, prints the line of every status but Ok on standard error, and
+//! ends with the status's number.
 #![tactic(auto)]
 
 use repl_io::{StdSink, StdSource};

@@ -1,6 +1,7 @@
--- What a crash may leave. Between syncs a written range, and all past the old end, may hold any bytes; the bytes outside
--- stay. A name that a first write made is certain from that file's sync on. Rename and remove are atomic, and durable
--- once they are done. After a call that failed a crash may leave either side.
+-- What a crash may leave (PostgreSQL 17 manual, section "Reliability"). A write that is not synced may leave anything in its
+-- range and behind the file's old end, and no other byte is touched. A file that a write made may be gone, name and all,
+-- until it is synced. A rename or a remove happens as a whole, and for good once it is done. A call that failed may have
+-- happened or not.
 use Rattle.std.specs.Prelude.{◌≡◌, ◌≢◌, ℕ, ◌+◌, ◌<◌, ◌≤◌, ◌⊎◌, max, List, length, get_or, Option, Some, None}
 use Rattle.repl_disk.specs.Folder.{Folder, put, moved}
 
