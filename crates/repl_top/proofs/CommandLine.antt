@@ -10,7 +10,7 @@ use Rattle.repl_message.specs.declared.message.Side.TheVariants as side
 use Rattle.repl_top.specs.declared.words.Identity.{Identity}
 use Rattle.repl_top.specs.declared.words.Command.{Command}
 use Rattle.repl_top.specs.declared.words.Command.TheVariants as command
-use Rattle.repl_top.specs.Words.{IsDecimal, IsSystem, IsTimeline, IsIdentify, IsFrames, IsNames, IsCommand, IsCommandLine, IsUsage, side_word}
+use Rattle.repl_top.specs.Words.{IsDecimal, IsSystem, IsTimeline, IsIdentify, IsFrames, IsNames, IsHistory, IsCommand, IsCommandLine, IsUsage, side_word}
 
 -- ---- the first word tells the command
 
@@ -23,6 +23,15 @@ identify_or_names e = cc
 frames_or_names : codes "frames" ≡ codes "names" → ⊥
 frames_or_names e = cc
 
+identify_or_history : codes "identify" ≡ codes "history" → ⊥
+identify_or_history e = cc
+
+frames_or_history : codes "frames" ≡ codes "history" → ⊥
+frames_or_history e = cc
+
+names_or_history : codes "names" ≡ codes "history" → ⊥
+names_or_history e = cc
+
 identify_first : (words : List (List ℕ)) (identity : Identity) → IsIdentify words identity → get_or words 0 [] ≡ codes "identify"
 identify_first words identity h = ap (λ w. get_or w 0 []) h.parts
 
@@ -32,26 +41,39 @@ frames_first words s h = ap (λ w. get_or w 0 []) h
 names_first : (words : List (List ℕ)) (text : List ℕ) → IsNames words text → get_or words 0 [] ≡ codes "names"
 names_first words text h = ap (λ w. get_or w 0 []) h
 
+history_first : (words : List (List ℕ)) (own : ℕ) → IsHistory words own → get_or words 0 [] ≡ codes "history"
+history_first words own h = ap (λ w. get_or w 0 []) h.parts
+
 of_identify : (words : List (List ℕ)) (c : Command) → get_or words 0 [] ≡ codes "identify" → IsCommand words c → (identity : Identity) × IsIdentify words identity
 of_identify words (command.Identify identity) first h = (identity, h)
 of_identify words (command.Frames s) first h = absurd (identify_or_frames (sym first ∙ frames_first words s h))
 of_identify words command.Names first h = absurd (identify_or_names (sym first ∙ names_first words h.0 h.1))
+of_identify words (command.History own) first h = absurd (identify_or_history (sym first ∙ history_first words own h))
 
 of_frames : (words : List (List ℕ)) (c : Command) → get_or words 0 [] ≡ codes "frames" → IsCommand words c → (s : Side) × IsFrames words s
 of_frames words (command.Identify identity) first h = absurd (identify_or_frames (sym (identify_first words identity h) ∙ first))
 of_frames words (command.Frames s) first h = (s, h)
 of_frames words command.Names first h = absurd (frames_or_names (sym first ∙ names_first words h.0 h.1))
+of_frames words (command.History own) first h = absurd (frames_or_history (sym first ∙ history_first words own h))
 
 of_names : (words : List (List ℕ)) (c : Command) → get_or words 0 [] ≡ codes "names" → IsCommand words c → (text : List ℕ) × IsNames words text
 of_names words (command.Identify identity) first h = absurd (identify_or_names (sym (identify_first words identity h) ∙ first))
 of_names words (command.Frames s) first h = absurd (frames_or_names (sym (frames_first words s h) ∙ first))
 of_names words command.Names first h = h
+of_names words (command.History own) first h = absurd (names_or_history (sym first ∙ history_first words own h))
+
+of_history : (words : List (List ℕ)) (c : Command) → get_or words 0 [] ≡ codes "history" → IsCommand words c → (own : ℕ) × IsHistory words own
+of_history words (command.Identify identity) first h = absurd (identify_or_history (sym (identify_first words identity h) ∙ first))
+of_history words (command.Frames s) first h = absurd (frames_or_history (sym (frames_first words s h) ∙ first))
+of_history words command.Names first h = absurd (names_or_history (sym (names_first words h.0 h.1) ∙ first))
+of_history words (command.History own) first h = (own, h)
 
 -- no other first word is one of a command
-no_other_first : (words : List (List ℕ)) (c : Command) → (get_or words 0 [] ≡ codes "identify" → ⊥) → (get_or words 0 [] ≡ codes "frames" → ⊥) → (get_or words 0 [] ≡ codes "names" → ⊥) → IsCommand words c → ⊥
-no_other_first words (command.Identify identity) i f n h = i (identify_first words identity h)
-no_other_first words (command.Frames s) i f n h = f (frames_first words s h)
-no_other_first words command.Names i f n h = n (names_first words h.0 h.1)
+no_other_first : (words : List (List ℕ)) (c : Command) → (get_or words 0 [] ≡ codes "identify" → ⊥) → (get_or words 0 [] ≡ codes "frames" → ⊥) → (get_or words 0 [] ≡ codes "names" → ⊥) → (get_or words 0 [] ≡ codes "history" → ⊥) → IsCommand words c → ⊥
+no_other_first words (command.Identify identity) i f n y h = i (identify_first words identity h)
+no_other_first words (command.Frames s) i f n y h = f (frames_first words s h)
+no_other_first words command.Names i f n y h = n (names_first words h.0 h.1)
+no_other_first words (command.History own) i f n y h = y (history_first words own h)
 
 -- ---- `identify`
 
@@ -118,12 +140,12 @@ like_identify words other place first f p =
 
 -- the five faults
 
-pub stops_at_command : (words : List (List ℕ)) → (get_or words 0 [] ≡ codes "identify" → ⊥) → (get_or words 0 [] ≡ codes "frames" → ⊥) → (get_or words 0 [] ≡ codes "names" → ⊥) → IsUsage words 1
-stops_at_command words i f n = record {
+pub stops_at_command : (words : List (List ℕ)) → (get_or words 0 [] ≡ codes "identify" → ⊥) → (get_or words 0 [] ≡ codes "frames" → ⊥) → (get_or words 0 [] ≡ codes "names" → ⊥) → (get_or words 0 [] ≡ codes "history" → ⊥) → IsUsage words 1
+stops_at_command words i f n y = record {
   place = 0;
   number = refl;
   stops = stops_from IsCommandLine [] words 0 (omega arith) (codes "frames" ∷ codes "front" ∷ [], (command.Frames side.Front, refl))
-      (λ other g p. let same = sym (g.same 0 (omega arith)) in no_other_first other p.0 (λ e. i (same ∙ e)) (λ e. f (same ∙ e)) (λ e. n (same ∙ e)) p.1);
+      (λ other g p. let same = sym (g.same 0 (omega arith)) in no_other_first other p.0 (λ e. i (same ∙ e)) (λ e. f (same ∙ e)) (λ e. n (same ∙ e)) (λ e. y (same ∙ e)) p.1);
 }
 
 pub stops_at_system : (words : List (List ℕ)) → get_or words 0 [] ≡ codes "identify" → ((n : ℕ) → IsSystem (get_or words 1 []) n → ⊥) → IsUsage words 2
@@ -285,6 +307,54 @@ stops_after_text (a ∷ b ∷ words) first more = record {
       omega (arith, g.long more, ap (λ w. length w) found.1));
 }
 
+-- ---- `history`
+
+history_line : (word : List ℕ) (own : ℕ) → IsTimeline word own → IsCommandLine (codes "history" ∷ word ∷ [])
+history_line word own is = (command.History own, record { own_word = word; parts = refl; timeline = is })
+
+-- the second word says the timeline
+second_own : (words : List (List ℕ)) (own : ℕ) → IsHistory words own → IsTimeline (get_or words 1 []) own
+second_own words own h = subst (λ w. IsTimeline (get_or w 1 []) own) (sym h.parts) h.timeline
+
+like_history : (words other : List (List ℕ)) (place : ℕ) → get_or words 0 [] ≡ codes "history" → Follows [] words place other → IsCommandLine other → (own : ℕ) × IsHistory other own
+like_history words other place first f p = of_history other p.0 (f.same 0 (omega arith) ∙ first) p.1
+
+pub stops_at_own : (words : List (List ℕ)) → get_or words 0 [] ≡ codes "history" → ((n : ℕ) → IsTimeline (get_or words 1 []) n → ⊥) → IsUsage words 2
+stops_at_own [] first none = absurd (cc)
+stops_at_own (a ∷ words) first none = record {
+  place = 1;
+  number = refl;
+  stops = stops_from IsCommandLine [] (a ∷ words) 1 (omega arith)
+      (codes "1" ∷ [], subst (λ w. IsCommandLine (w ∷ codes "1" ∷ [])) (sym first) (history_line (codes "1") 1 one_timeline))
+      (λ other f p.
+      let found = like_history (a ∷ words) other 1 first f p in
+      none found.0 (subst (λ w. IsTimeline w found.0) (f.same 1 (omega arith)) (second_own other found.0 found.1)));
+}
+
+-- the words up to the second
+history_words : (words : List (List ℕ)) (own : ℕ) → get_or words 0 [] ≡ codes "history" → IsTimeline (get_or words 1 []) own → take 2 words ≡ codes "history" ∷ get_or words 1 [] ∷ []
+history_words [] own first own_is = absurd (cc)
+history_words (a ∷ []) own first own_is = absurd (no_empty_timeline own own_is)
+history_words (a ∷ b ∷ words) own first own_is = ap (λ w. w ∷ b ∷ []) first
+
+pub stops_after_own : (words : List (List ℕ)) (own : ℕ) → get_or words 0 [] ≡ codes "history" → IsTimeline (get_or words 1 []) own → 2 < length words → IsUsage words 3
+stops_after_own words own first own_is more = record {
+  place = 2;
+  number = refl;
+  stops = stops_from IsCommandLine [] words 2 (omega arith)
+      ([], subst (λ w. IsCommandLine (w ++ [])) (sym (history_words words own first own_is)) (history_line (get_or words 1 []) own own_is))
+      (λ other g p.
+      let found = like_history words other 2 first g p in
+      omega (arith, g.long more, ap (λ w. length w) (found.1).parts));
+}
+
+pub is_history : (words : List (List ℕ)) (own : ℕ) → get_or words 0 [] ≡ codes "history" → IsTimeline (get_or words 1 []) own → length words ≤ 2 → IsHistory words own
+is_history words own first own_is all = record {
+  own_word = get_or words 1 [];
+  parts = sym (take_all 2 words all) ∙ history_words words own first own_is;
+  timeline = own_is;
+}
+
 -- ---- one answer
 
 one_decimal : (word : List ℕ) (a b : ℕ) → IsDecimal word a → IsDecimal word b → a ≡ b
@@ -302,17 +372,27 @@ one_identity words a b p q =
 pub one_text : (words : List (List ℕ)) (a b : List ℕ) → IsNames words a → IsNames words b → a ≡ b
 one_text words a b p q = ap (λ w. get_or w 1 []) (sym p ∙ q)
 
+one_own : (words : List (List ℕ)) (a b : ℕ) → IsHistory words a → IsHistory words b → a ≡ b
+one_own words a b p q = one_decimal (get_or words 1 []) a b (second_own words a p).0 (second_own words b q).0
+
 -- the words tell the command
 pub one_command : (words : List (List ℕ)) (a b : Command) → IsCommand words a → IsCommand words b → a ≡ b
 one_command words (command.Identify a) (command.Identify b) p q = ap (λ i. command.Identify i) (one_identity words a b p q)
 one_command words (command.Identify a) (command.Frames t) p q = absurd (identify_or_frames (sym (identify_first words a p) ∙ frames_first words t q))
 one_command words (command.Identify a) command.Names p q = absurd (identify_or_names (sym (identify_first words a p) ∙ names_first words q.0 q.1))
+one_command words (command.Identify a) (command.History b) p q = absurd (identify_or_history (sym (identify_first words a p) ∙ history_first words b q))
 one_command words (command.Frames s) (command.Identify b) p q = absurd (identify_or_frames (sym (identify_first words b q) ∙ frames_first words s p))
 one_command words (command.Frames s) (command.Frames t) p q = ap (λ side. command.Frames side) (one_side s t (ap (λ w. get_or w 1 []) (sym p ∙ q)))
 one_command words (command.Frames s) command.Names p q = absurd (frames_or_names (sym (frames_first words s p) ∙ names_first words q.0 q.1))
+one_command words (command.Frames s) (command.History b) p q = absurd (frames_or_history (sym (frames_first words s p) ∙ history_first words b q))
 one_command words command.Names (command.Identify b) p q = absurd (identify_or_names (sym (identify_first words b q) ∙ names_first words p.0 p.1))
 one_command words command.Names (command.Frames t) p q = absurd (frames_or_names (sym (frames_first words t q) ∙ names_first words p.0 p.1))
 one_command words command.Names command.Names p q = refl
+one_command words command.Names (command.History b) p q = absurd (names_or_history (sym (names_first words p.0 p.1) ∙ history_first words b q))
+one_command words (command.History a) (command.Identify b) p q = absurd (identify_or_history (sym (identify_first words b q) ∙ history_first words a p))
+one_command words (command.History a) (command.Frames t) p q = absurd (frames_or_history (sym (frames_first words t q) ∙ history_first words a p))
+one_command words (command.History a) command.Names p q = absurd (names_or_history (sym (names_first words q.0 q.1) ∙ history_first words a p))
+one_command words (command.History a) (command.History b) p q = ap (λ own. command.History own) (one_own words a b p q)
 
 pub one_usage : (words : List (List ℕ)) (j k : ℕ) → IsUsage words j → IsUsage words k → j ≡ k
 one_usage words j k p q = p.number ∙ ap (λ place. place + 1) (one_place IsCommandLine words p.place q.place p.stops q.stops) ∙ sym q.number

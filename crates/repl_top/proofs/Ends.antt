@@ -1,7 +1,7 @@
 -- Which ends are left, once nothing is faulty.
 use Rattle.std.proofs.Common.{◌≡◌, ℕ, ◌^◌, ◌⊎◌, List, Some, take, refl, sym, subst, ◌∙◌, inl, inr}
 use Rattle.repl_counts.specs.Counts.{Rose, RoseBy}
-use Rattle.repl_counts.specs.Told.{Told, IfTold, Gained}
+use Rattle.repl_counts.specs.Told.{Gained}
 use Rattle.repl_io.specs.Sink.{WritesFront}
 use Rattle.std.specs.List.{flat_map}
 use Rattle.repl_message.specs.Message.{back_spelling}
@@ -18,12 +18,9 @@ use Rattle.repl_top.specs.Answer.{answer}
 use Rattle.repl_top.specs.Outcome.{Reading, Writing}
 use Rattle.repl_top.specs.Tool.{HasRead, Answered, Identifies, Identified, Ends}
 use Rattle.repl_top.proofs.CommandLine.{one_command}
+use Rattle.repl_top.proofs.Steps.{told}
 use Rattle.repl_top.proofs.Sessions.{not_both}
 use Rattle.repl_top.proofs.Messages.{answer_messages, identify_in_range}
-
--- what is said of the bytes that are told holds of these
-told : (P : List ℕ → Type 0) (before : Told) (bytes : List ℕ) → before ≡ Some bytes → IfTold before P → P bytes
-told P before bytes e h = subst (λ (t : Told). IfTold t P) e h
 
 -- an input that is answered is a session
 abbrev IsAnswered : List ℕ → Type 0

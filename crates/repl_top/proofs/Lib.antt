@@ -8,5 +8,6 @@ pub mod Sessions
 pub mod Messages
 pub mod Ends
 pub mod Steps
+pub mod HistoryEnds
 pub mod Streams
 pub mod FrameLines

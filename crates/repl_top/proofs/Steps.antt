@@ -12,9 +12,13 @@ use Rattle.repl_top.specs.Answer.{answer_bytes}
 use Rattle.repl_top.specs.Tool.{Replies, Answered, Identifies, HasRead}
 
 -- what holds of the bytes that were gathered holds of those that are told
-pub of_gathered : (P : List ℕ → Type 0) (left : Told) (input : List ℕ) → IfTold left (λ l. input ≡ take INPUT_LIMIT l) → P input → IfTold left (λ l. P (take INPUT_LIMIT l))
-of_gathered P None input told holds = tt
-of_gathered P (Some l) input told holds = subst P told holds
+pub of_gathered : (limit : ℕ) (P : List ℕ → Type 0) (left : Told) (input : List ℕ) → IfTold left (λ l. input ≡ take limit l) → P input → IfTold left (λ l. P (take limit l))
+of_gathered limit P None input told holds = tt
+of_gathered limit P (Some l) input told holds = subst P told holds
+
+-- what is said of the bytes that are told holds of these
+pub told : (P : List ℕ → Type 0) (before : Told) (bytes : List ℕ) → before ≡ Some bytes → IfTold before P → P bytes
+told P before bytes e h = subst (λ (t : Told). IfTold t P) e h
 
 -- what is told of these bytes, which are a session
 pub answered : (identity : Identity) (requests questions : ℕ) (r : Reading) (Wrote : List ℕ → Type 0) → IfTold r.left (λ l. IsSession (take INPUT_LIMIT l) requests questions) → Wrote (answer_bytes identity requests questions) → Answered identity r Wrote

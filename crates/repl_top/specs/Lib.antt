@@ -7,6 +7,7 @@ pub mod Outcome
 pub mod Frames
 pub mod Printing
 pub mod Names
+pub mod Histories
 pub mod Tool
 pub mod Stages
 pub mod Stream

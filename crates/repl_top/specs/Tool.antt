@@ -14,6 +14,7 @@ use Rattle.repl_top.specs.Session.{IsSession, IsRefusedAt}
 use Rattle.repl_top.specs.Outcome.{Reading, Writing}
 use Rattle.repl_top.specs.Frames.{Framed}
 use Rattle.repl_top.specs.Names.{Named}
+use Rattle.repl_top.specs.Histories.{Historied}
 use Rattle.repl_message.specs.declared.back.Back.{Back}
 use Rattle.repl_message.specs.Message.{AreMessages, back_spelling}
 use Rattle.std.specs.List.{flat_map}
@@ -73,3 +74,4 @@ abbrev pub Ends : List (List ℕ) → Command → Status → Reading → Writing
 Ends words (command.Identify identity) end r w = Identified identity end r w
 Ends words (command.Frames s) end r w = Framed s end r w
 Ends words command.Names end r w = (text : List ℕ) → IsNames words text → Named text end r w
+Ends words (command.History own) end r w = Historied own end r w

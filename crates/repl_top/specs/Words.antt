@@ -50,11 +50,18 @@ IsFrames words s = words ≡ codes "frames" ∷ side_word s ∷ []
 abbrev pub IsNames : List (List ℕ) → List ℕ → Type 0
 IsNames words text = words ≡ codes "names" ∷ text ∷ []
 
+-- `history TLI`
+pub record IsHistory (words : List (List ℕ)) (own : ℕ) : Type 0 where
+  pub own_word : List ℕ
+  pub parts : words ≡ codes "history" ∷ own_word ∷ []
+  pub timeline : IsTimeline own_word own
+
 -- the words are this command with its arguments
 abbrev pub IsCommand : List (List ℕ) → Command → Type 0
 IsCommand words (command.Identify identity) = IsIdentify words identity
 IsCommand words (command.Frames s) = IsFrames words s
 IsCommand words command.Names = (text : List ℕ) × IsNames words text
+IsCommand words (command.History own) = IsHistory words own
 
 -- the words are a command with its arguments
 abbrev pub IsCommandLine : List (List ℕ) → Type 0

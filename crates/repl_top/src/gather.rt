@@ -1,10 +1,11 @@
-ghost use Rattle.std.specs.Prelude.{◌≡◌, ℕ, ◌^◌, List, take, IfOk, Err};
+ghost use Rattle.std.specs.Prelude.{◌≡◌, ℕ, ◌^◌, ◌≤◌, List, take, IfOk, Err};
 ghost use Rattle.repl_counts.specs.Counts.{RoseBy, RoseExactly};
 ghost use Rattle.repl_counts.specs.Told.{IfTold, Lost};
 ghost use Rattle.repl_top.specs.declared.gather.Stop.TheVariants as stop;
 ghost use Rattle.repl_top.specs.Gathering.{has_failed};
 
-use crate::tool::{INPUT_LIMIT, TURNS};
+use crate::histories::HISTORY_INPUT;
+use crate::tool::TURNS;
 use repl_io::{Got, Source};
 use std::alloc::{AllocError, Global};
 
@@ -32,9 +33,10 @@ impl From<AllocError> for Stop {
     }
 }
 
-/// Reads the whole input, or its first `INPUT_LIMIT` bytes where there are more.
-pub(crate) fn gather<S: Source>(alloc: Global, input: &mut S) -> Result<Vec<u8>, Stop>
-    ensures bytes { IfOk result (λ bytes. IfTold (S.left input.old) (λ left. bytes.items ≡ take INPUT_LIMIT left)) }
+/// Reads the whole input, or so many of its first bytes where there are more.
+pub(crate) fn gather<S: Source>(alloc: Global, input: &mut S, limit: usize) -> Result<Vec<u8>, Stop>
+    requires { limit ≤ HISTORY_INPUT }
+    ensures bytes { IfOk result (λ bytes. IfTold (S.left input.old) (λ left. bytes.items ≡ take limit left)) }
     // Those bytes were read, and no others.
     ensures lost { IfOk result (λ bytes. Lost (S.left input.old) (S.left input.new) bytes.items) }
     ensures fault { RoseExactly (has_failed result) (S.faults input.old) (S.faults input.new) }
@@ -43,7 +45,7 @@ pub(crate) fn gather<S: Source>(alloc: Global, input: &mut S) -> Result<Vec<u8>,
     let mut bytes = Vec::new(alloc);
     let mut room = [0; ROOM];
     for _ in 0..TURNS {
-        let free = INPUT_LIMIT - bytes.len();
+        let free = limit - bytes.len();
         if free == 0 {
             return Ok(bytes);
         }

@@ -6,14 +6,15 @@
 //! says for each status when it may come and what was written. The words that are a command line stand in
 //! `specs/Words.antt`; the input that `identify` takes, which asks any number of times for encryption and for
 //! IDENTIFY_SYSTEM, and where another is refused, in `specs/Session.antt`, its answer, message by
-//! message, in `specs/Answer.antt`, and how it ends in `specs/Tool.antt`; what `frames` and `names` print, and
-//! how they end, in `specs/Frames.antt` and `specs/Names.antt`. Stands on `repl_io`, `repl_lsn`, `repl_names`,
-//! `repl_wire` and `repl_cmd`.
+//! message, in `specs/Answer.antt`, and how it ends in `specs/Tool.antt`; what `frames`, `names` and `history` print,
+//! and how they end, in `specs/Frames.antt`, `specs/Names.antt` and `specs/Histories.antt`. Stands on `repl_io`,
+//! `repl_lsn`, `repl_names`, `repl_wire` and `repl_cmd`.
 #![tactic(auto)]
 
 mod answer;
 mod frames;
 mod gather;
+mod histories;
 mod laws;
 mod names;
 mod session;
@@ -23,6 +24,7 @@ mod tool;
 mod words;
 
 pub use frames::FRAME_TURNS;
+pub use histories::HISTORY_INPUT;
 pub use laws::one_session;
 pub use status::{Status, status_line, status_number};
 pub use tool::{INPUT_LIMIT, TURNS, run_tool};
@@ -30,6 +32,8 @@ pub use words::Identity;
 
 #[cfg(test)]
 mod frames_tests;
+#[cfg(test)]
+mod history_tests;
 #[cfg(test)]
 mod identify_tests;
 #[cfg(test)]

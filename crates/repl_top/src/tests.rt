@@ -89,7 +89,7 @@ pub(crate) fn joined(alloc: Global, pieces: &[&[u8]]) -> Result<Vec<u8>, AllocEr
 
 #[test]
 fn refuses_words_that_are_no_command(rt: HostRuntime) -> Result<(), Fail> {
-    let cases: [(&[&str], usize); 27] = [
+    let cases: [(&[&str], usize); 34] = [
         (&[], 1),
         (&["x"], 1),
         (&["Frames", "front"], 1),
@@ -101,6 +101,13 @@ fn refuses_words_that_are_no_command(rt: HostRuntime) -> Result<(), Fail> {
         (&["frames", "front", "x"], 3),
         (&["names"], 2),
         (&["names", "a", "b"], 3),
+        (&["histories", "1"], 1),
+        (&["history"], 2),
+        (&["history", ""], 2),
+        (&["history", "0"], 2),
+        (&["history", "x"], 2),
+        (&["history", "4294967296"], 2),
+        (&["history", "1", "2"], 3),
         (&["status"], 1),
         (&["-D", "x"], 1),
         (&["IDENTIFY", "7", "1", "0/0"], 1),

@@ -9,6 +9,7 @@ ghost use Rattle.repl_top.specs.Tool.{HasRead, Identifies, Replies, Ends};
 use crate::answer::answer;
 use crate::frames::frames;
 use crate::gather::{Stop, gather};
+use crate::histories::{HISTORY_INPUT, history};
 use crate::names::names;
 use crate::session::{NoSession, Session, read_session};
 use crate::status::Status;
@@ -19,14 +20,15 @@ use std::alloc::Global;
 /// The most bytes of input that `identify` reads.
 pub const INPUT_LIMIT: usize = 65_536;
 
-/// The most reads of an input: more than 2^62 of them are quiet where all are made.
-pub const TURNS: u64 = (1 << 62) + INPUT_LIMIT as u64;
+/// The most reads of an input that is gathered: more than 2^62 of them are quiet where all are made.
+pub const TURNS: u64 = (1 << 62) + HISTORY_INPUT as u64;
 
 /// Does what the words say, over this input and output, and says how that ended.
 ///
 /// `identify SYSID TLI LSN` answers one session of a client that asks for IDENTIFY_SYSTEM any number of times,
 /// as the server with this system identifier would, on this timeline and flushed up to this position. Requests
-/// for encryption before the session are answered by `N`. `frames SIDE` prints the messages of what a side sends, and `names TEXT` the spelling of a standby list.
+/// for encryption before the session are answered by `N`. `frames SIDE` prints the messages of what a side sends, `names TEXT`
+/// the spelling of a standby list, and `history TLI` the canonical text of a timeline's history.
 pub fn run_tool<S: Source, K: Sink>(
     alloc: Global,
     words: &[String],
@@ -45,11 +47,15 @@ pub fn run_tool<S: Source, K: Sink>(
     ensures read_fault { RoseExactly (is_read_fault result) (S.faults input.old) (S.faults input.new) }
     ensures write_fault { RoseExactly (is_write_fault result) (K.faults out.old) (K.faults out.new) }
 {
-    match read_words(words) {
-        Ok(Command::Identify(identity)) => identify(alloc, &identity, input, out),
-        Ok(Command::Frames(side)) => frames(alloc, side, input, out),
-        Ok(Command::Names) => names(alloc, word_at(words, 1).as_bytes(), out),
-        Err(word) => Status::Usage(word),
+    let command = match read_words(words) {
+        Ok(command) => command,
+        Err(word) => return Status::Usage(word),
+    };
+    match command {
+        Command::Identify(identity) => identify(alloc, &identity, input, out),
+        Command::Frames(side) => frames(alloc, side, input, out),
+        Command::Names => names(alloc, word_at(words, 1).as_bytes(), out),
+        Command::History(own) => history(alloc, own, input, out),
     }
 }
 
@@ -67,7 +73,7 @@ fn identify<S: Source, K: Sink>(
     ensures read_fault { RoseExactly (is_read_fault result) (S.faults input.old) (S.faults input.new) }
     ensures write_fault { RoseExactly (is_write_fault result) (K.faults out.old) (K.faults out.new) }
 {
-    let bytes = match gather(alloc, input) {
+    let bytes = match gather(alloc, input, INPUT_LIMIT) {
         Ok(bytes) => bytes,
         Err(Stop::ReadFault) => return Status::ReadFault,
         Err(Stop::TurnsSpent) => return Status::TurnsSpent,

@@ -1,5 +1,5 @@
 ghost use Rattle.std.specs.Prelude.{◌≡◌, ℕ, ◌≤◌, ◌<◌, List, [], get_or, codes, IfOk, IfErr, IfSome, IfNone};
-ghost use Rattle.repl_top.specs.Words.{IsCommand, IsIdentify, IsFrames, IsUsage, IsDecimal, IsSystem, IsTimeline, texts};
+ghost use Rattle.repl_top.specs.Words.{IsCommand, IsIdentify, IsFrames, IsHistory, IsUsage, IsDecimal, IsSystem, IsTimeline, texts};
 ghost use Rattle.repl_lsn.specs.Position.{Spells};
 
 use repl_lsn::{Lsn, Tli};
@@ -26,6 +26,8 @@ pub(crate) enum Command {
     Frames(Side),
     /// `names TEXT`: the text is the second word.
     Names,
+    /// `history TLI`.
+    History(Tli),
 }
 
 /// Reads the words of a command line, without the program's name.
@@ -42,6 +44,7 @@ pub(crate) fn read_words(words: &[String]) -> Result<Command, usize>
         "names" if words.len() == 2 => Ok(Command::Names),
         "names" if words.len() < 2 => Err(2),
         "names" => Err(3),
+        "history" => Ok(Command::History(read_own(words)?)),
         _ => Err(1),
     }
 }
@@ -86,6 +89,21 @@ fn read_side(words: &[String]) -> Result<Side, usize>
         return Err(3);
     }
     Ok(side)
+}
+
+/// The argument of `history`, whose word is there.
+fn read_own(words: &[String]) -> Result<Tli, usize>
+    requires { get_or (texts words.now) 0 [] ≡ codes "history" }
+    ensures read { IfOk result (λ own. IsHistory (texts words.now) own) }
+    ensures wrong { IfErr result (λ word. IsUsage (texts words.now) word) }
+{
+    let Some(own) = read_timeline(word_at(words, 1)) else {
+        return Err(2);
+    };
+    if words.len() > 2 {
+        return Err(3);
+    }
+    Ok(own)
 }
 
 /// The word at the place, from 0, or past the last an empty text, which is no command and no argument.

@@ -6,11 +6,11 @@ use Rattle.repl_top.proofs.gather.gather.Goals.{in-Bytes+in_ok-extend_from_slice
 
 pub returns-then-free-eq0-clause-bytes : goal.returns-then-free-eq0-clause-bytes
 returns-then-free-eq0-clause-bytes g c =
-    Lost-front (g.S.Source.left c.args.input.now) (g.S.Source.left c.loop.input) c.loop.bytes.items 65_536 (omega (arith, c.loop.bytes.ok.0)) c.loop.invariant.lost
+    Lost-front (g.S.Source.left c.args.input.now) (g.S.Source.left c.loop.input) c.loop.bytes.items c.args.limit (omega (arith, c.loop.bytes.ok.0)) c.loop.invariant.lost
 
 pub returns-in-End-clause-bytes : goal.returns-in-End-clause-bytes
 returns-in-End-clause-bytes g c =
-    Lost-all (g.S.Source.left c.args.input.now) (g.S.Source.left c.loop.input) c.loop.bytes.items 65_536 (omega (arith, c.loop.bytes.ok.0)) c.in-End.ensures.moved.1 c.loop.invariant.lost
+    Lost-all (g.S.Source.left c.args.input.now) (g.S.Source.left c.loop.input) c.loop.bytes.items c.args.limit (omega (arith, c.loop.bytes.ok.0)) c.in-End.ensures.moved.1 c.loop.invariant.lost
 
 pub loop-preserved : goal.loop-preserved
 loop-preserved g c =
@@ -24,7 +24,7 @@ loop-preserved g c =
           let size : length (take w.in-Bytes.count (room ++ behind)) ≡ w.in-Bytes.count = omega (arith, length-take w.in-Bytes.count (room ++ behind), length-append room behind, read.fits) in
           let some : length room ≤ c.min-some.result = omega (arith, c.read.auto.room, length-take c.min-some.result c.loop.room) in
           record {
-            few = omega (arith, len, size, some, read.fits, c.min-some.ensures, c.len-free.ensures);
+            few = omega (arith, len, size, some, read.fits, c.min-some.ensures, c.len.ensures);
             lost = Lost-more (g.S.Source.left c.args.input.now) (g.S.Source.left c.loop.input) (g.S.Source.left c.read.new.self) c.loop.bytes.items _ room behind w.in-Bytes.count c.loop.invariant.lost read.lost read.fits items;
             quiets = omega (arith, len, size, read.some, w.in-Bytes.ensures.quiets, c.loop.invariant.quiets);
             faults = w.in-Bytes.ensures.faults ∙ c.loop.invariant.faults;

@@ -20,4 +20,4 @@ returns-in-names-3-clause-wrong c =
 
 pub returns-in_default-clause-wrong : goal.returns-in_default-clause-wrong
 returns-in_default-clause-wrong c =
-    stops_at_command (texts c.args.words.now) (λ e. c.in_default.not-identify (c.word_at.ensures ∙ e)) (λ e. c.in_default.not-frames (c.word_at.ensures ∙ e)) (λ e. c.in_default.not-names (c.word_at.ensures ∙ e))
+    stops_at_command (texts c.args.words.now) (λ e. c.in_default.not-identify (c.word_at.ensures ∙ e)) (λ e. c.in_default.not-frames (c.word_at.ensures ∙ e)) (λ e. c.in_default.not-names (c.word_at.ensures ∙ e)) (λ e. c.in_default.not-history (c.word_at.ensures ∙ e))
