@@ -11,7 +11,8 @@ pub enum Status {
     /// The word with this number, counted from 1, is the first with which no command line goes on, or one
     /// is missing there.
     Usage(usize),
-    /// The input is wrong at this byte, counted from 0.
+    /// The input is wrong at this byte, counted from 0. For `history` this is the line, counted from 1, and 0 where
+    /// the text is too long.
     BadInput(u64),
     /// The input is faulty.
     ReadFault,
