@@ -1,0 +1,72 @@
+//! What the scripts in bench/ time: events on a machine that threads share.
+//!
+//! `repl_bench turn|mutex|slow THREADS EVENTS` makes so many events in each of one, two or four threads, and prints how
+//! many were made. `turn` and `mutex` count under a turn and under std's `Mutex`, and an event of `slow` works for long.
+#![tactic(auto)]
+
+mod counter;
+
+use counter::{
+    Counter, Grinder, four_by_mutex, four_by_turn, one_by_mutex, one_by_turn, two_by_mutex,
+    two_by_turn,
+};
+use repl_turn::{Machine, Turn};
+use std::env;
+use std::process::ExitCode;
+use std::rt::Env;
+use std::sync::{Mutex, Wait};
+use std::thread::Threads;
+
+fn main(rt: HostRuntime) -> ExitCode {
+    let Some(made) = run(&rt) else {
+        return ExitCode::FAILURE;
+    };
+    match println!(rt; "{made}") {
+        Ok(()) => ExitCode::SUCCESS,
+        Err(_) => ExitCode::FAILURE,
+    }
+}
+
+/// Does what the words say, and answers how many events were made.
+fn run(rt: &(impl Env + AllocGlobal + Threads + Wait + Sync)) -> Option<u64> {
+    let mut words = env::args(rt).ok()?.skip(1);
+    let way = words.next()?;
+    let threads = words.next()?.as_str().parse::<u64>().ok()?;
+    let events = words.next()?.as_str().parse::<u64>().ok()?;
+    match way.as_str() {
+        "turn" => by_turn(rt, Counter { count: 0 }, 1, threads, events),
+        "slow" => by_turn(rt, Grinder { state: 0 }, 1_000_000, threads, events),
+        "mutex" => by_mutex(rt, threads, events),
+        _ => None,
+    }
+}
+
+/// How many events a turn over this machine saw, each of them this one.
+fn by_turn<M: Machine<Event = u64, Reply = u64> + Send + Drop>(
+    rt: &(impl AllocGlobal + Threads + Wait + Sync),
+    machine: M,
+    event: u64,
+    threads: u64,
+    events: u64,
+) -> Option<u64> {
+    let (turn, pass) = Turn::new(rt.alloc(), machine).ok()?;
+    let pass = match threads {
+        1 => one_by_turn(rt, &turn, pass, event, events),
+        2 => two_by_turn(rt, &turn, pass, event, events),
+        4 => four_by_turn(rt, &turn, pass, event, events),
+        _ => return None,
+    };
+    Some(pass.seen())
+}
+
+fn by_mutex(rt: &(impl Threads + Wait + Sync), threads: u64, events: u64) -> Option<u64> {
+    let counter = Mutex::new(0);
+    match threads {
+        1 => one_by_mutex(rt, &counter, events),
+        2 => two_by_mutex(rt, &counter, events),
+        4 => four_by_mutex(rt, &counter, events),
+        _ => return None,
+    }
+    let count = *counter.lock(rt);
+    Some(count)
+}

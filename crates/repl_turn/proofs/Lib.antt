@@ -1,0 +1,10 @@
+pub mod Histories
+pub mod Views
+pub mod Opens
+pub mod Draws
+pub mod Looks
+pub mod Gives
+pub mod Watches
+pub mod Halves
+pub mod Unions
+pub mod Knowing
