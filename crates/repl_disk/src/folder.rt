@@ -23,8 +23,11 @@ pub struct FolderDisk<R: Files<File = File> + AllocGlobal + Clone + Drop> {
 }
 
 impl<R: Files<File = File> + AllocGlobal + Clone + Drop> FolderDisk<R> {
-    /// The files of this folder, which is there. Takes memory for its path.
+    /// The files of this folder, which is there; the empty name is the folder that the program runs in. Takes memory
+    /// for its path.
     pub fn new(rt: R, folder: &str) -> Result<FolderDisk<R>, AllocError> {
+        // Without a name, the slash alone would be the root of all folders.
+        let folder = if folder.is_empty() { "." } else { folder };
         let path = format!(in rt.alloc(); "{folder}/")?;
         Ok(FolderDisk {
             folder: Folder {

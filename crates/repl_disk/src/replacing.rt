@@ -18,16 +18,18 @@ pub fn replace<D: Disk>(
     name: &str,
     bytes: &[u8],
 ) -> Result<(), DiskError>
-    // A crash at any moment of the call leaves the old file or the new, and no other file changed.
+    // A crash at any moment of the call leaves the old file or the new, and no other file but the temporary
+    // one changed.
     ensures any_moment { IfTold (D.files disk.old) (λ folder. LeavesOnly D.moment D.left_since disk.old disk.new
         (IsBeforeOrAfter (D.may_leave disk.old) name.now bytes.now)) }
     // When it is done, a crash leaves the new file.
     ensures durable { OnOk result (IfTold (D.files disk.old) (λ folder. (image : Folder) → D.may_leave disk.new image →
         IsAfter (D.may_leave disk.old) name.now bytes.now image)) }
     ensures files { OnOk result (Became (D.files disk.old) (D.files disk.new) (λ folder. replaced folder name.now bytes.now)) }
-    // After an error the name has the old file or the new, and no other file changed.
+    // After an error the name has the old file or the new, and no other file but the temporary one
+    // changed.
     ensures half_done { IfErr result (λ e. IsHalfDone (D.files disk.old) (D.files disk.new) name.now bytes.now) }
-    // An error is the disk's own, and no fault is passed over.
+    // A fault is the disk's own, and none is passed over.
     ensures faults { RoseExactly (is_failed result) (D.faults disk.old) (D.faults disk.new) }
     ensures wants { Stood (D.wants disk.old) (D.wants disk.new) ⊎ (Rose (D.wants disk.old) (D.wants disk.new) × (result ≡ Err DiskError.Memory)) }
     ensures lacks { RoseBy 0 (D.lacks disk.old) (D.lacks disk.new) }

@@ -134,6 +134,15 @@ fn a_large_file(rt: HostRuntime) -> Result<(), Fail> {
     Ok(())
 }
 
+/// Without a name it is the folder that the program runs in, and not the root.
+#[test]
+fn a_folder_without_a_name(rt: HostRuntime) -> Result<(), Fail> {
+    let mut disk = FolderDisk::new(rt, "")?;
+    assert_eq!(rt; disk.write_at("here", 0, b"a"), Ok(()));
+    assert_eq!(rt; fs::read(&rt, "./here")?.as_slice(), b"a".as_slice());
+    Ok(())
+}
+
 /// A folder that is not there is a fault, and not a missing file, to who writes and lists.
 #[test]
 fn a_folder_that_is_not_there(rt: HostRuntime) -> Result<(), Fail> {
