@@ -8,11 +8,10 @@ pub returns-in-Some-clause-agrees : goal.returns-in-Some-clause-agrees
 returns-in-Some-clause-agrees c =
     let bytes = c.args.bytes.now in
     let Behind : Option LongPart → Type 0 = λ long. AgreesBehind long (drop 24 bytes) in
-    let Long : List ℕ → Type 0 = λ rest. AgreesLong c.in-Some.long rest in
-    (
-        λ ok. record {
-            short = c.in_ok-check_short.ensures.agrees.0 refl;
-            long = subst Behind (sym c.in-Some.is) (subst Long (take_rest bytes 24) (c.check_long.ensures.agrees.0 ok))
-        },
-        λ agrees. c.check_long.ensures.agrees.1 (subst Long (sym (take_rest bytes 24)) (subst Behind c.in-Some.is agrees.long))
+    let Long : List ℕ → Type 0 = λ rest. AgreesLong c.in-Some.long rest in (
+      λ ok. record {
+        short = c.in_ok-check_short.ensures.agrees.0 refl;
+        long = subst Behind (sym c.in-Some.is) (subst Long (take_rest bytes 24) (c.check_long.ensures.agrees.0 ok));
+      },
+      λ agrees. c.check_long.ensures.agrees.1 (subst Long (sym (take_rest bytes 24)) (subst Behind c.in-Some.is agrees.long)),
     )

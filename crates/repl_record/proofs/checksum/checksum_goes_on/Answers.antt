@@ -1,0 +1,5 @@
+use Rattle.repl_record.proofs.Messages.{goes_on}
+use Rattle.repl_record.proofs.checksum.checksum_goes_on.Goals as goal
+
+pub returns : goal.returns
+returns c before a b fits = goes_on before a b

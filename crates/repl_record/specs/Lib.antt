@@ -1,0 +1,5 @@
+pub mod Checksum
+pub mod Shifts
+pub mod Record
+pub mod Judging
+pub mod Log

@@ -1,0 +1,18 @@
+//! Records of the write-ahead log: how they are laid out over its pages, where they end, and their checksum.
+//!
+//! where each record ends, or the first fault as soon as its bytes are there; it keeps a fixed number of bytes and takes
+//! no memory. `crc32c` is the records' checksum. What an image is stands in `specs/Record.antt`, what is judged and when
+//! in `specs/Judging.antt`, where records end in `specs/Log.antt`, and the checksum's polynomial in
+//! `specs/Checksum.antt`. The layout is this project's own, after PostgreSQL's. Stands on `repl_page`, whose `Ident` it
+//! passes on, and on the kit's `bytes`, `byteorder` and `thiserror`.
+#![tactic(auto)]
+
+mod answer;
+mod checksum;
+mod checksum_tables;
+mod record;
+
+pub use answer::{WalkReason, WalkStep};
+pub use checksum::{checksum_goes_on, crc32c};
+pub use record::{BODY_LIMIT, Laid, RecordIn, RecordRefusal};
+pub use repl_page::{Ident, PageFault};
