@@ -1,15 +1,19 @@
-//! What the scripts in bench/ time: events on a machine that threads share.
+//! What the scripts in bench/ time: events on a machine that threads share, and records of the log.
 //!
 //! `repl_bench turn|mutex|slow THREADS EVENTS` makes so many events in each of one, two or four threads, and prints how
 //! many were made. `turn` and `mutex` count under a turn and under std's `Mutex`, and an event of `slow` works for long.
+//! `repl_bench crc32c BYTES ROUNDS` takes the checksum of so many bytes so many times, `walk BODY ROUNDS` walks over a log
+//! of records with such bodies, and `lay_out BODY ROUNDS` lays one out; each prints a number that comes of it.
 #![tactic(auto)]
 
 mod counter;
+mod records;
 
 use counter::{
     Counter, Grinder, four_by_mutex, four_by_turn, one_by_mutex, one_by_turn, two_by_mutex,
     two_by_turn,
 };
+use records::{checksums, layouts, walks};
 use repl_turn::{Machine, Turn};
 use std::env;
 use std::process::ExitCode;
@@ -27,16 +31,19 @@ fn main(rt: HostRuntime) -> ExitCode {
     }
 }
 
-/// Does what the words say, and answers how many events were made.
+/// Does what the words say, and answers the number to print.
 fn run(rt: &(impl Env + AllocGlobal + Threads + Wait + Sync)) -> Option<u64> {
     let mut words = env::args(rt).ok()?.skip(1);
     let way = words.next()?;
-    let threads = words.next()?.as_str().parse::<u64>().ok()?;
-    let events = words.next()?.as_str().parse::<u64>().ok()?;
+    let first = words.next()?.as_str().parse::<u64>().ok()?;
+    let second = words.next()?.as_str().parse::<u64>().ok()?;
     match way.as_str() {
-        "turn" => by_turn(rt, Counter { count: 0 }, 1, threads, events),
-        "slow" => by_turn(rt, Grinder { state: 0 }, 1_000_000, threads, events),
-        "mutex" => by_mutex(rt, threads, events),
+        "turn" => by_turn(rt, Counter { count: 0 }, 1, first, second),
+        "slow" => by_turn(rt, Grinder { state: 0 }, 1_000_000, first, second),
+        "mutex" => by_mutex(rt, first, second),
+        "crc32c" => checksums(rt.alloc(), first as usize, second),
+        "walk" => walks(rt.alloc(), first as usize, second),
+        "lay_out" => layouts(rt.alloc(), first as usize, second),
         _ => None,
     }
 }

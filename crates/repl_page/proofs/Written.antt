@@ -1,5 +1,5 @@
 -- What is written of a header agrees with it.
-use Rattle.std.proofs.Common.{◌≡◌, ℕ, ◌^◌, ◌<◌, List, ◌++◌, drop, Option, Some, None, IfSome, ap}
+use Rattle.std.proofs.Common.{ℕ, ◌^◌, ◌<◌, List, ◌++◌, Option, Some, None, IfSome, ap}
 use Rattle.byteorder.specs.Endian.{little_bytes}
 use Rattle.byteorder.specs.Numbers.{little_number-reads_back}
 use Rattle.repl_page.specs.declared.header.PageHeader.{PageHeader}

@@ -1,5 +1,5 @@
 -- Where the headers of the log's pages stand (after PostgreSQL 17 manual, section "WAL Internals").
-use Rattle.std.specs.Prelude.{ℕ, ◌+◌, ◌-◌, ◌%◌, Bool, nat_lt, if◌then◌else◌}
+use Rattle.std.specs.Prelude.{ℕ, ◌-◌, ◌%◌, Bool, nat_lt, if◌then◌else◌}
 use Rattle.repl_page.specs.declared.header.TheConstants.{PAGE_SIZE}
 
 -- the address of the page in which the position is

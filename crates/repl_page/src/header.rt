@@ -1,4 +1,5 @@
 ghost use Rattle.std.specs.Prelude.{◌≡◌, length};
+ghost use Rattle.repl_lsn.specs.Segment.{IsSegSize};
 ghost use Rattle.repl_page.specs.Page.{header_length};
 ghost use Rattle.repl_page.specs.Header.{header_bytes, long_bytes, length_of};
 
@@ -46,7 +47,8 @@ pub struct LongPart {
 
 /// How many bytes the header has of the page in which the position is: 40 on a segment's first page, else 24.
 pub fn header_size(addr: Lsn, size: SegSize) -> u32
-    ensures { result ≡ header_length size addr }
+    ensures value { result ≡ header_length size addr }
+    ensures size { IsSegSize size }
 {
     if addr.0 % u64::from(size.bytes()) < u64::from(PAGE_SIZE) {
         LONG_HEADER

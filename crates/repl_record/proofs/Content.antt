@@ -1,9 +1,9 @@
 -- The log's bytes without the headers of its pages: of two parts, of a part of a header and of a part of a page's rest.
-use Rattle.std.proofs.Common.{◌≡◌, ℕ, ◌+◌, ◌-◌, ◌%◌, ◌<◌, ◌≤◌, ◌⊎◌, Bool, true, false, cond, List, [], ◌∷◌, ◌++◌, length, take, drop, get_or, zero, suc, refl, sym, ap, ◌∙◌, subst, inl, inr, arith, add_assoc, add-zero, length-append, append_assoc}
-use Rattle.std.proofs.lemmas.Bool.{cases_lt, cases_Bool, cond-true, cond-false}
-use Rattle.std.proofs.lemmas.List.{take-append-drop, take_at, take-append-le, length-take}
+use Rattle.std.proofs.Common.{◌≡◌, ℕ, ◌+◌, ◌%◌, ◌<◌, ◌≤◌, true, false, List, [], ◌∷◌, ◌++◌, length, take, drop, zero, suc, refl, sym, ap, ◌∙◌, subst, inl, inr, arith, add-zero}
+use Rattle.std.proofs.lemmas.Bool.{cases_Bool, cond-true, cond-false}
+use Rattle.std.proofs.lemmas.List.{take-append-drop, take_at}
 use Rattle.repl_lsn.specs.Segment.{IsSegSize}
-use Rattle.repl_page.specs.Page.{page_start, header_length, in_header}
+use Rattle.repl_page.specs.Page.{header_length, in_header}
 use Rattle.repl_record.specs.Record.{AreBytes, content}
 use Rattle.repl_record.proofs.Pages.{header_is, same_header_length, place_on_page, in_header_from, not_in_header_from}
 

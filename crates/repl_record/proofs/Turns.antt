@@ -1,15 +1,16 @@
 -- A turn of several bytes: they are divided as if they stood in the register as one number, and the tables tell what
 -- each leaves behind.
-use Rattle.std.proofs.Common.{◌≡◌, ℕ, zero, suc, ◌+◌, ◌-◌, ◌*◌, ◌/◌, ◌%◌, ◌^◌, ◌<◌, ◌≤◌, List, [], ◌∷◌, length, slice_index, take, drop, refl, sym, ap, ◌∙◌, arith}
+use Rattle.std.proofs.Common.{◌≡◌, ℕ, zero, suc, ◌+◌, ◌-◌, ◌*◌, ◌/◌, ◌%◌, ◌^◌, ◌<◌, ◌≤◌, List, [], ◌∷◌, length, slice_index, take, drop, sym, ap, ◌∙◌, arith}
 use Rattle.std.proofs.lemmas.List.{length-drop, take_all, take-append-drop}
-use Rattle.std.proofs.lemmas.Nat.{shr-shr, xor_shr}
+use Rattle.std.proofs.lemmas.Nat.{xor_mod, xor_shr}
+use Rattle.std.specs.Int.{to_le_bytes, w32}
 use Rattle.std.specs.Int.Bits.{bit_xor, xor_assoc, xor_comm, xor_shifted, xor_zero_r}
 use Rattle.byteorder.specs.Endian.{little_from}
-use Rattle.byteorder.specs.Numbers.{little_from-cons}
+use Rattle.byteorder.specs.Numbers.{little_from-cons, little_from-lt, little_number-reads_back}
 use Rattle.repl_record.specs.Checksum.{bits_of, remainder, message}
 use Rattle.repl_record.specs.Shifts.{past_byte, past_bytes}
 use Rattle.repl_record.proofs.Messages.{message-append, remainder-append, remainder-byte}
-use Rattle.repl_record.proofs.Shifts.{past_byte-xor, past_byte-high, past_byte-split, past_bytes-split, remainder-byte_in}
+use Rattle.repl_record.proofs.Shifts.{past_byte-xor, past_byte-high, past_byte-split, past_bytes-split, past_bytes-xor, remainder-byte_in}
 
 -- a number of which one byte is divided
 past_byte-number : (register byte others : ℕ) → byte < 256 → past_byte (bit_xor register (byte + 256 * others)) ≡ bit_xor (past_byte (bit_xor register byte)) others
@@ -20,6 +21,7 @@ past_byte-number register byte others fits =
     ∙ past_byte-xor (bit_xor register byte) (others * 256)
     ∙ ap (bit_xor (past_byte (bit_xor register byte))) (past_byte-high others)
 
+-- so many bytes are divided as one number that is added to the register
 pub remainder-number : (n register : ℕ) (bytes : List ℕ) → n ≤ length bytes → ((i : ℕ) → slice_index bytes i < 256)
     → remainder register (message (take n bytes)) ≡ past_bytes n (bit_xor register (little_from 0 n bytes))
 unfolding remainder message past_bytes
@@ -34,36 +36,108 @@ remainder-number (suc n) register (byte ∷ bytes) enough are_bytes =
     ∙ ap (past_bytes n) (sym (past_byte-number register byte number fits))
     ∙ ap (λ t. past_bytes n (past_byte (bit_xor register (byte + 256 * t)))) (sym (little_from-cons 0 n byte bytes))
 
--- what a number leaves behind: what its lowest byte does, and what the others do
-added : (n w others e f : ℕ) → w / 256 ≡ others → e ≡ past_bytes n others → f ≡ past_bytes (suc n) (w % 256) → bit_xor e f ≡ past_bytes (suc n) w
-added n w others e f above e_is f_is =
+-- a byte before others: what it leaves behind, and what they do
+byte_added : (n m byte others e f : ℕ) → m ≡ suc n → byte < 256 → e ≡ past_bytes n others → f ≡ past_bytes m byte → bit_xor e f ≡ past_bytes m (byte + 256 * others)
+byte_added n m byte others e f next fits e_is f_is =
+    let above : (byte + 256 * others) / 256 ≡ others = omega arith in
+    let low : (byte + 256 * others) % 256 ≡ byte = omega arith in
     ap (λ t. bit_xor t f) (e_is ∙ ap (past_bytes n) (sym above))
-    ∙ ap (bit_xor (past_bytes n (w / 256))) f_is
-    ∙ sym (past_bytes-split n w)
+    ∙ ap (bit_xor (past_bytes n ((byte + 256 * others) / 256))) (f_is ∙ ap (λ k. past_bytes k byte) next ∙ ap (past_bytes (suc n)) (sym low))
+    ∙ sym (past_bytes-split n (byte + 256 * others))
+    ∙ ap (λ k. past_bytes k (byte + 256 * others)) (sym next)
 
-pub eight_entries : (w e0 e1 e2 e3 e4 e5 e6 e7 : ℕ) → w < 2 ^ 64 → e0 ≡ past_bytes 1 (w / 2 ^ 56 % 256) → e1 ≡ past_bytes 2 (w / 2 ^ 48 % 256) → e2 ≡ past_bytes 3 (w / 2 ^ 40 % 256)
-    → e3 ≡ past_bytes 4 (w / 2 ^ 32 % 256) → e4 ≡ past_bytes 5 (w / 2 ^ 24 % 256) → e5 ≡ past_bytes 6 (w / 2 ^ 16 % 256) → e6 ≡ past_bytes 7 (w / 2 ^ 8 % 256) → e7 ≡ past_bytes 8 (w % 256)
-    → bit_xor (bit_xor (bit_xor (bit_xor (bit_xor (bit_xor (bit_xor e0 e1) e2) e3) e4) e5) e6) e7 ≡ past_bytes 8 w
-eight_entries w e0 e1 e2 e3 e4 e5 e6 e7 fits h0 h1 h2 h3 h4 h5 h6 h7 =
-    let highest : w / 2 ^ 56 % 256 ≡ w / 2 ^ 56 = omega arith in
-    let first = h0 ∙ ap (past_bytes 1) highest in
-    let second = added 1 (w / 2 ^ 48) (w / 2 ^ 56) e0 e1 (shr-shr w 48 8) first h1 in
-    let third = added 2 (w / 2 ^ 40) (w / 2 ^ 48) _ e2 (shr-shr w 40 8) second h2 in
-    let fourth = added 3 (w / 2 ^ 32) (w / 2 ^ 40) _ e3 (shr-shr w 32 8) third h3 in
-    let fifth = added 4 (w / 2 ^ 24) (w / 2 ^ 32) _ e4 (shr-shr w 24 8) fourth h4 in
-    let sixth = added 5 (w / 2 ^ 16) (w / 2 ^ 24) _ e5 (shr-shr w 16 8) fifth h5 in
-    let seventh = added 6 (w / 2 ^ 8) (w / 2 ^ 16) _ e6 (shr-shr w 8 8) sixth h6 in
-    added 7 w (w / 2 ^ 8) _ e7 refl seventh h7
+-- four bytes, by four tables in a row
+pub four_entries : (n i : ℕ) (bytes : List ℕ) (e0 e1 e2 e3 : ℕ) → ((k : ℕ) → slice_index bytes k < 256)
+    → e0 ≡ past_bytes (n + 1) (slice_index bytes (i + 3)) → e1 ≡ past_bytes (n + 1 + 1) (slice_index bytes (i + 2))
+    → e2 ≡ past_bytes (n + 2 + 1) (slice_index bytes (i + 1)) → e3 ≡ past_bytes (n + 3 + 1) (slice_index bytes i)
+    → bit_xor (bit_xor (bit_xor e0 e1) e2) e3 ≡ past_bytes (n + 4) (little_from i 4 bytes)
+four_entries n i bytes e0 e1 e2 e3 are_bytes e0_is e1_is e2_is e3_is =
+    let place1 : i + 1 ≡ suc i = omega arith in
+    let place2 : i + 2 ≡ suc (suc i) = omega arith in
+    let place3 : i + 3 ≡ suc (suc (suc i)) = omega arith in
+    let alone : slice_index bytes (suc (suc (suc i))) ≡ little_from (suc (suc (suc i))) 1 bytes = omega arith in
+    let last = e0_is ∙ ap (λ k. past_bytes (n + 1) (slice_index bytes k)) place3 ∙ ap (past_bytes (n + 1)) alone in
+    let third = e1_is ∙ ap (λ k. past_bytes (n + 1 + 1) (slice_index bytes k)) place2 in
+    let second = e2_is ∙ ap (λ k. past_bytes (n + 2 + 1) (slice_index bytes k)) place1 in
+    let two = byte_added (n + 1) (n + 1 + 1) (slice_index bytes (suc (suc i))) (little_from (suc (suc (suc i))) 1 bytes) e0 e1 (omega arith) (are_bytes (suc (suc i))) last third in
+    let three = byte_added (n + 1 + 1) (n + 2 + 1) (slice_index bytes (suc i)) (little_from (suc (suc i)) 2 bytes) (bit_xor e0 e1) e2 (omega arith) (are_bytes (suc i)) two second in
+    let four = byte_added (n + 2 + 1) (n + 3 + 1) (slice_index bytes i) (little_from (suc i) 3 bytes) (bit_xor (bit_xor e0 e1) e2) e3 (omega arith) (are_bytes i) three e3_is in
+    let count : n + 3 + 1 ≡ n + 4 = omega arith in
+    four ∙ ap (λ k. past_bytes k (little_from i 4 bytes)) count
+
+abbrev four_more : ℕ → ℕ
+four_more n = suc (suc (suc (suc n)))
+
+-- four bytes of zeros bring the others down
+past_four-high : (n high : ℕ) → past_bytes (four_more n) (high * 2 ^ 32) ≡ past_bytes n high
+unfolding past_bytes
+past_four-high n high =
+    let four : high * 2 ^ 32 ≡ high * 256 * 256 * 256 * 256 = omega arith in
+    let past = λ (t : ℕ). past_bytes n (past_byte (past_byte (past_byte (past_byte t)))) in
+    ap past four
+    ∙ ap (λ t. past_bytes n (past_byte (past_byte (past_byte t)))) (past_byte-high (high * 256 * 256 * 256))
+    ∙ ap (λ t. past_bytes n (past_byte (past_byte t))) (past_byte-high (high * 256 * 256))
+    ∙ ap (λ t. past_bytes n (past_byte t)) (past_byte-high (high * 256))
+    ∙ ap (past_bytes n) (past_byte-high high)
+
+-- what bytes leave behind: the first four, and the others
+four_first : (n i : ℕ) (bytes : List ℕ) → ((k : ℕ) → slice_index bytes k < 256)
+    → past_bytes (four_more n) (little_from i (four_more n) bytes)
+    ≡ bit_xor (past_bytes (four_more n) (little_from i 4 bytes)) (past_bytes n (little_from (four_more i) n bytes))
+four_first n i bytes are_bytes =
+    let all = four_more n in
+    let low = little_from i 4 bytes in
+    let high = little_from (four_more i) n bytes in
+    let fits : low < 2 ^ 32 = little_from-lt i 4 bytes are_bytes in
+    let parts : little_from i all bytes ≡ high * 2 ^ 32 + low = omega arith in
+    ap (past_bytes all) (parts ∙ sym (xor_shifted high 32 low fits) ∙ xor_comm (high * 2 ^ 32) low)
+    ∙ past_bytes-xor all low (high * 2 ^ 32)
+    ∙ ap (bit_xor (past_bytes all low)) (past_four-high n high)
+
+-- the first four are added to the register
+four_with : (n register : ℕ) (bytes : List ℕ) → ((k : ℕ) → slice_index bytes k < 256)
+    → past_bytes (four_more n) (bit_xor register (little_from 0 (four_more n) bytes))
+    ≡ bit_xor (past_bytes (four_more n) (bit_xor register (little_from 0 4 bytes))) (past_bytes n (little_from 4 n bytes))
+four_with n register bytes are_bytes =
+    let all = four_more n in
+    let low = little_from 0 4 bytes in
+    past_bytes-xor all register (little_from 0 all bytes)
+    ∙ ap (bit_xor (past_bytes all register)) (four_first n 0 bytes are_bytes)
+    ∙ sym (xor_assoc (past_bytes all register) (past_bytes all low) (past_bytes n (little_from 4 n bytes)))
+    ∙ ap (λ t. bit_xor t (past_bytes n (little_from 4 n bytes))) (sym (past_bytes-xor all register low))
+
+-- sixteen bytes, of which four are added to the register
+pub sixteen : (register : ℕ) (bytes : List ℕ) (e0 e1 e2 e3 : ℕ) → 16 ≤ length bytes → ((k : ℕ) → slice_index bytes k < 256)
+    → e0 ≡ past_bytes 16 (bit_xor register (little_from 0 4 bytes))
+    → e1 ≡ past_bytes 12 (little_from 4 4 bytes) → e2 ≡ past_bytes 8 (little_from 8 4 bytes) → e3 ≡ past_bytes 4 (little_from 12 4 bytes)
+    → bit_xor (bit_xor (bit_xor e0 e1) e2) e3 ≡ remainder register (message (take 16 bytes))
+sixteen register bytes e0 e1 e2 e3 enough are_bytes e0_is e1_is e2_is e3_is =
+    let last : bit_xor e2 e3 ≡ past_bytes 8 (little_from 8 8 bytes) = ap (λ t. bit_xor t e3) e2_is ∙ ap (bit_xor (past_bytes 8 (little_from 8 4 bytes))) e3_is ∙ sym (four_first 4 8 bytes are_bytes) in
+    let others : bit_xor e1 (bit_xor e2 e3) ≡ past_bytes 12 (little_from 4 12 bytes) =
+    ap (λ t. bit_xor t (bit_xor e2 e3)) e1_is ∙ ap (bit_xor (past_bytes 12 (little_from 4 4 bytes))) last ∙ sym (four_first 8 4 bytes are_bytes) in
+    xor_assoc (bit_xor e0 e1) e2 e3
+    ∙ xor_assoc e0 e1 (bit_xor e2 e3)
+    ∙ ap (λ t. bit_xor t (bit_xor e1 (bit_xor e2 e3))) e0_is
+    ∙ ap (bit_xor (past_bytes 16 (bit_xor register (little_from 0 4 bytes)))) others
+    ∙ sym (four_with 12 register bytes are_bytes)
+    ∙ sym (remainder-number 16 register bytes enough are_bytes)
+
+-- a number of four bytes, written and read
+pub number_back : (word : ℕ) → word < 2 ^ 32 → little_from 0 4 (to_le_bytes w32 word) ≡ word
+number_back word fits = little_number-reads_back 4 word [] fits
 
 -- one byte, by the first table
-pub one_entry : (register byte entry : ℕ) → byte < 256 → entry ≡ past_bytes 1 (bit_xor register byte % 256) → bit_xor (register / 2 ^ 8) entry ≡ remainder register (bits_of byte)
+pub one_entry : (register byte entry : ℕ) → byte < 256 → entry ≡ past_bytes 1 (bit_xor (register % 256) byte) → bit_xor (register / 256) entry ≡ remainder register (bits_of byte)
 unfolding past_bytes
 one_entry register byte entry fits is =
+    let sum = bit_xor register byte in
     let none : byte / 256 ≡ 0 = omega arith in
-    let above : bit_xor register byte / 256 ≡ register / 256 = xor_shr register byte 8 ∙ ap (bit_xor (register / 256)) none ∙ xor_zero_r (register / 256) in
-    ap (bit_xor (register / 256)) is
-    ∙ ap (λ t. bit_xor t (past_byte (bit_xor register byte % 256))) (sym above)
-    ∙ sym (past_byte-split (bit_xor register byte))
+    let whole : byte % 256 ≡ byte = omega arith in
+    let above : sum / 256 ≡ register / 256 = xor_shr register byte 8 ∙ ap (bit_xor (register / 256)) none ∙ xor_zero_r (register / 256) in
+    let low : sum % 256 ≡ bit_xor (register % 256) byte = xor_mod register byte 8 ∙ ap (bit_xor (register % 256)) whole in
+    ap (bit_xor (register / 256)) (is ∙ ap past_byte (sym low))
+    ∙ ap (λ t. bit_xor t (past_byte (sum % 256))) (sym above)
+    ∙ sym (past_byte-split sum)
     ∙ sym (remainder-byte_in register byte fits)
 
 -- some bytes and then the others

@@ -1,5 +1,5 @@
 -- Where records end in the log (after PostgreSQL 17 manual, section "WAL Internals").
-use Rattle.std.specs.Prelude.{◌≡◌, ℕ, ◌+◌, ◌-◌, ◌≤◌, List, length, take, drop}
+use Rattle.std.specs.Prelude.{ℕ, ◌+◌, ◌-◌, ◌≤◌, List, length, take, drop}
 use Rattle.repl_page.specs.declared.ident.Ident.{Ident}
 use Rattle.repl_record.specs.declared.record.RecordIn.{RecordIn}
 use Rattle.repl_record.specs.Record.{start_of, IsImage}

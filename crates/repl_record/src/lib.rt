@@ -10,9 +10,23 @@
 mod answer;
 mod checksum;
 mod checksum_tables;
+mod laws;
+mod laying;
+mod moves;
 mod record;
+mod walker;
 
 pub use answer::{WalkReason, WalkStep};
 pub use checksum::{checksum_goes_on, crc32c};
+pub use laws::{cut_keeps_ends, image_is_answered, more_keeps_ends, one_answer, one_end};
+pub use laying::lay_out;
 pub use record::{BODY_LIMIT, Laid, RecordIn, RecordRefusal};
 pub use repl_page::{Ident, PageFault};
+pub use walker::Walker;
+
+#[cfg(test)]
+mod checksum_tests;
+#[cfg(test)]
+mod laying_tests;
+#[cfg(test)]
+mod walker_tests;

@@ -39,3 +39,25 @@ pub enum RecordRefusal {
     #[error("no memory")]
     Memory,
 }
+
+impl From<AllocError> for RecordRefusal {
+    ghost use Rattle.std.specs.Prelude.{◌≡◌};
+    ghost use Rattle.repl_record.specs.declared.record.RecordRefusal.TheVariants.{Memory};
+
+    ghost from_gives = { λ _ e. e ≡ Memory };
+
+    fn from(_error: AllocError) -> RecordRefusal {
+        RecordRefusal::Memory
+    }
+}
+
+impl<T: Drop> From<AllocFailed<T>> for RecordRefusal {
+    ghost use Rattle.std.specs.Prelude.{◌≡◌};
+    ghost use Rattle.repl_record.specs.declared.record.RecordRefusal.TheVariants.{Memory};
+
+    ghost from_gives = { λ _ e. e ≡ Memory };
+
+    fn from(_error: AllocFailed<T>) -> RecordRefusal {
+        RecordRefusal::Memory
+    }
+}

@@ -4,4 +4,4 @@ use Rattle.repl_record.proofs.checksum.crc32c.Goals as goal
 
 pub loop-rest-preserved : goal.loop-rest-preserved
 loop-rest-preserved c =
-    remainder-turn 8 c.loop-rest.register c.after_eight-register.result c.loop-rest.rest.now c.after_eight-register.ensures ∙ c.loop-rest.invariant
+    remainder-turn 16 c.loop-rest.register c.after_sixteen-register.result c.loop-rest.rest.now c.after_sixteen-register.ensures ∙ c.loop-rest.invariant

@@ -1,0 +1,106 @@
+-- A walker at the beginning of a record's image, and at its end.
+use Rattle.std.proofs.Common.{◌≡◌, ℕ, ◌-◌, ◌%◌, ◌^◌, ◌<◌, ◌≤◌, min, zero, suc, List, [], length, take, None, refl, sym, ap, ◌∙◌, inl, inr, arith}
+use Rattle.std.proofs.lemmas.Bool.{cases_lt}
+use Rattle.std.proofs.lemmas.List.{drop_all, length-take}
+use Rattle.repl_page.specs.declared.ident.Ident.{Ident}
+use Rattle.repl_page.specs.Page.{page_start}
+use Rattle.repl_record.specs.declared.answer.WalkReason.TheVariants as why
+use Rattle.repl_record.specs.declared.walker.Walker.{Walker}
+use Rattle.repl_record.specs.Checksum.{checksum, message, remainder}
+use Rattle.repl_record.specs.Judging.{IsBeginning, IsOver, IsRight, length_field}
+use Rattle.repl_record.specs.Walker.{Keeps, Stands, so_far}
+use Rattle.repl_record.specs.Moves.{IsAtEnd, total}
+use Rattle.repl_record.proofs.Pages.{header_is}
+use Rattle.repl_record.proofs.Content.{content-nil}
+use Rattle.repl_record.proofs.Calm.{field-same}
+
+-- ---- the beginning
+
+nothing_over : (size from : ℕ) → ¬ IsOver size from []
+nothing_over size from h = absurd (omega (arith, h.right, ap length_field (content-nil size from)))
+
+nothing_right : (ident : Ident) (timeline : ℕ → ℕ) (from prev : ℕ) → IsRight ident timeline from prev []
+nothing_right ident timeline from prev (why.Page fault) h = absurd (omega (arith, h.began, h.ended, header_is ident.size h.page))
+nothing_right ident timeline from prev (why.Length found) h = absurd (omega (arith, h.0.count_is, ap length (content-nil ident.size from)))
+nothing_right ident timeline from prev (why.Prev found expected) h = absurd (omega (arith, h.0.count_is, ap length (content-nil ident.size from)))
+nothing_right ident timeline from prev why.Reserved h = absurd (omega (arith, h.0.count_is, ap length (content-nil ident.size from)))
+nothing_right ident timeline from prev (why.Checksum found computed) h = absurd (omega (arith, h.1, ap length_field (content-nil ident.size from)))
+nothing_right ident timeline from prev why.Padding h = absurd (omega (arith, h.1, ap length_field (content-nil ident.size from)))
+
+nothing_begins : (ident : Ident) (timeline : ℕ → ℕ) (from prev : ℕ) → IsBeginning ident timeline from prev []
+nothing_begins ident timeline from prev zero below = (nothing_over ident.size from, nothing_right ident timeline from prev)
+nothing_begins ident timeline from prev (suc m) below = (nothing_over ident.size from, nothing_right ident timeline from prev)
+
+checksum-nil : checksum [] ≡ 0
+unfolding remainder message
+checksum-nil = refl
+
+pub begun : (w : Walker) (timeline : ℕ → ℕ) (prev : ℕ) → w.refused ≡ None → w.count ≡ 0 → w.sum ≡ 0 → w.at ≡ w.from → w.from % 8 ≡ 0 → w.prev ≡ prev → prev < 2 ^ 64 → Stands w timeline w.from prev []
+begun w timeline prev not_refused count sum at aligned follows fits =
+    let none = content-nil w.ident.size w.from in
+    let Front : List ℕ → Type 0 = λ bytes. take (min w.count 24) w.front ≡ take 24 bytes in
+    let no_front : take (min w.count 24) w.front ≡ [] = ap (λ (m : ℕ). take m w.front) (min_zero w.count count) in
+    record {
+      keeps = record {
+        not_refused = not_refused;
+        begins = refl;
+        follows = follows;
+        prev_fits = fits;
+        behind = omega arith;
+        aligned = aligned;
+        are_bytes = λ i. omega arith;
+        header_is = λ inside above. ap (λ (m : ℕ). take m w.header) (first w.at w.from at above) ∙ sym (drop_all (page_start w.at - w.from) [] (omega arith));
+        timeline_is = λ inside above begun. absurd (omega arith);
+        front_is = no_front ∙ ap (take 24) (sym none);
+        few = λ less. omega (arith, ap length none);
+        many = λ enough. absurd (omega (arith, ap length none));
+        sum_is = sum ∙ sym checksum-nil ∙ sym (ap checksum (drop_all 24 (take w.count (so_far w w.from [])) (omega (arith, length-take w.count (so_far w w.from []), ap length none))));
+        has_length = λ four. absurd (omega (arith, ap length none));
+        in_gap = λ four all. absurd (omega (arith, ap length none));
+      };
+      beginning = nothing_begins w.ident timeline w.from prev;
+    }
+  where
+    min_zero : (n : ℕ) → n ≡ 0 → min n 24 ≡ 0
+    min_zero n is = omega arith
+
+    first : (at from : ℕ) → at ≡ from → from ≤ page_start at → at % 8192 ≡ 0
+    first at from is above = omega arith
+
+-- ---- the end
+
+many_from : (w : Walker) (bytes : List ℕ) → (length bytes < 24 → w.count ≡ length bytes) → 24 ≤ w.count → 24 ≤ length bytes
+many_from w bytes few whole =
+    elim (cases_lt (length bytes) 24) [
+      | inl less ↦ absurd (omega (arith, few less))
+      | inr many ↦ many
+    ]
+
+total_same : (w : Walker) (bytes : List ℕ) → take (min w.count 24) w.front ≡ take 24 bytes → 24 ≤ w.count → total w ≡ length_field bytes
+total_same w bytes front whole = field-same 0 4 24 w.front bytes (ap (λ (m : ℕ). take m w.front) (all_24 w.count whole) ∙ front) (omega arith)
+  where
+    all_24 : (n : ℕ) → 24 ≤ n → 24 ≡ min n 24
+    all_24 n many = omega arith
+
+pub over_from : (w : Walker) (timeline : ℕ → ℕ) (from prev : ℕ) (log : List ℕ) → Keeps w timeline from prev log → IsAtEnd w → IsOver w.ident.size from log
+over_from w timeline from prev log k end =
+    let bytes = so_far w from log in
+    let many = many_from w bytes k.few end.whole in
+    let all : length_field bytes ≤ length bytes = omega (arith, k.many many, total_same w bytes k.front_is end.whole, end.all) in
+    record {
+      right = k.has_length (omega arith);
+      all = all;
+      last = k.in_gap (omega arith) all;
+      rounded = omega (arith, k.behind, end.rounded);
+    }
+
+pub over_tells : (w : Walker) (timeline : ℕ → ℕ) (from prev : ℕ) (log : List ℕ) → Keeps w timeline from prev log → IsOver w.ident.size from log → IsAtEnd w
+over_tells w timeline from prev log k over =
+    let bytes = so_far w from log in
+    let many : 24 ≤ length bytes = omega (arith, over.right, over.all) in
+    let whole : 24 ≤ w.count = omega (arith, k.many many, over.right, over.all) in
+    record {
+      whole = whole;
+      all = omega (arith, k.many many, total_same w bytes k.front_is whole, over.all);
+      rounded = omega (arith, k.behind, over.rounded);
+    }

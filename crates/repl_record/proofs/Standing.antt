@@ -1,0 +1,74 @@
+-- A walker that stands behind bytes of the log: what it knows of them.
+use Rattle.std.proofs.Common.{◌≡◌, ◌≢◌, ℕ, ◌+◌, ◌-◌, ◌%◌, ◌<◌, ◌≤◌, true, false, List, ◌++◌, length, take, min, refl, sym, ap, ◌∙◌, subst, inl, inr, arith}
+use Rattle.std.proofs.lemmas.Bool.{cases_lt, both_ways}
+use Rattle.std.proofs.lemmas.List.{take_all, get_or_append_left, get_or-append_right, get_or-take, get_or_past, length-take}
+use Rattle.repl_lsn.specs.Segment.{IsSegSize}
+use Rattle.repl_page.specs.Page.{in_header}
+use Rattle.repl_page.specs.Header.{field}
+use Rattle.repl_record.specs.declared.walker.Walker.{Walker}
+use Rattle.repl_record.specs.Record.{AreBytes}
+use Rattle.repl_record.specs.Judging.{IsOver, length_field}
+use Rattle.repl_record.specs.Walker.{Keeps, Stands, so_far}
+use Rattle.repl_record.specs.Moves.{total}
+use Rattle.repl_record.proofs.Pages.{same_eight}
+use Rattle.repl_record.proofs.Content.{length-content}
+use Rattle.repl_record.proofs.Calm.{field-take}
+
+-- ---- bytes
+
+pub AreBytes-append : (xs ys : List ℕ) → AreBytes xs → AreBytes ys → AreBytes (xs ++ ys)
+AreBytes-append xs ys first rest i =
+    elim (cases_lt i (length xs)) [
+      | inl inside ↦ omega (arith, get_or_append_left xs ys 0 i inside, first i)
+      | inr behind ↦ omega (arith, get_or-append_right xs ys (length xs) i 0 refl behind, rest (i - length xs))
+    ]
+
+pub AreBytes-take : (n : ℕ) (xs : List ℕ) → AreBytes xs → AreBytes (take n xs)
+AreBytes-take n xs are i =
+    elim (cases_lt i n) [
+      | inl inside ↦ omega (arith, get_or-take n xs i 0 inside, are i)
+      | inr behind ↦ omega (arith, get_or_past (take n xs) i 0 (omega (arith, length-take n xs)))
+    ]
+
+-- ---- a record of which all bytes are there
+
+pub not_over : {w : Walker} {timeline : ℕ → ℕ} {from prev : ℕ} {log : List ℕ} → Stands w timeline from prev log → ¬ IsOver w.ident.size from log
+not_over {w = w} {from = from} {log = log} s over =
+    (s.beginning (length log) (omega arith)).0 (subst (IsOver w.ident.size from) (sym (take_all (length log) log (omega arith))) over)
+
+-- the next multiple of 8 is not reached
+pub not_rounded : {w : Walker} {timeline : ℕ → ℕ} {from prev : ℕ} {log : List ℕ} → Stands w timeline from prev log → 4 ≤ length (so_far w from log) → length_field (so_far w from log) ≤ length (so_far w from log) → w.at % 8 ≢ 0
+not_rounded s four all rounded =
+    not_over s (record { right = s.keeps.has_length four; all = all; last = s.keeps.in_gap four all; rounded = omega (arith, s.keeps.behind, rounded) })
+
+-- no header of a page is next
+pub not_in_header : {w : Walker} {timeline : ℕ → ℕ} {from prev : ℕ} {log : List ℕ} → IsSegSize w.ident.size → Stands w timeline from prev log → 4 ≤ length (so_far w from log) → length_field (so_far w from log) ≤ length (so_far w from log) → in_header w.ident.size w.at ≡ false
+not_in_header {w = w} {from = from} {log = log} is s four all =
+    let size = w.ident.size in
+    let some : 0 < length log = omega (arith, length-content size from log) in
+    let before = from + length log - 1 in
+    let open_gap : w.at % 8 ≢ 0 = not_rounded s four all in
+    let next : before + 1 ≡ w.at = omega (arith, s.keeps.behind) in
+    ap (in_header size) (sym next) ∙ same_eight size before 1 is (s.keeps.in_gap four all) (omega arith)
+
+-- ---- a record of which bytes are to come
+
+-- in a header they are
+pub unfinished : {w : Walker} {timeline : ℕ → ℕ} {from prev : ℕ} {log : List ℕ} → IsSegSize w.ident.size → Stands w timeline from prev log → in_header w.ident.size w.at ≡ true → 4 ≤ length (so_far w from log) → length (so_far w from log) < length_field (so_far w from log)
+unfinished {w = w} {from = from} {log = log} is s inside four =
+    elim (cases_lt (length (so_far w from log)) (length_field (so_far w from log))) [
+      | inl less ↦ less
+      | inr all ↦ absurd (both_ways (in_header w.ident.size w.at) (not_in_header is s four all) inside)
+    ]
+
+pub count_is : {w : Walker} {timeline : ℕ → ℕ} {from prev : ℕ} {log : List ℕ} → Keeps w timeline from prev log → (4 ≤ length (so_far w from log) → length (so_far w from log) < length_field (so_far w from log)) → w.count ≡ length (so_far w from log)
+count_is {w = w} {from = from} {log = log} k less =
+    elim (cases_lt (length (so_far w from log)) 24) [
+      | inl few ↦ k.few few
+      | inr many ↦ omega (arith, k.many many, less (omega arith))
+    ]
+
+-- the length that it wrote down is the record's
+pub total_is : {w : Walker} {timeline : ℕ → ℕ} {from prev : ℕ} {log : List ℕ} → Keeps w timeline from prev log → 4 ≤ w.count → total w ≡ length_field (so_far w from log)
+total_is {w = w} {from = from} {log = log} k four =
+    sym (field-take 0 4 (min w.count 24) w.front (omega arith)) ∙ ap (field 0 4) k.front_is ∙ field-take 0 4 24 (so_far w from log) (omega arith)

@@ -1,0 +1,5 @@
+use Rattle.repl_record.proofs.OneAnswer.{same_end}
+use Rattle.repl_record.proofs.laws.one_end.Goals as goal
+
+pub returns : goal.returns
+returns c = same_end

@@ -1,0 +1,6 @@
+use Rattle.std.proofs.Common.{refl, arith}
+use Rattle.repl_record.proofs.Begun.{begun}
+use Rattle.repl_record.proofs.walker.Walker.new.Goals as goal
+
+pub returns-clause-stands : goal.returns-clause-stands
+returns-clause-stands c timeline = begun _ timeline c.args.prev refl refl refl refl c.requires refl (omega arith)
