@@ -60,7 +60,10 @@ fn whole_records(ident: Ident, log: &[u8]) -> u64 {
     let mut walker = Walker::new(ORIGIN, Lsn(0), ident);
     let mut rest = log;
     let mut found: u64 = 0;
-    while walker.position().0 < FAR && rest.len() < FAR as usize {
+    for _ in 0..log.len() {
+        if walker.position().0 >= FAR || rest.len() as u64 >= FAR {
+            break;
+        }
         let WalkStep::Whole { used, .. } = walker.step(Tli(1), rest) else {
             break;
         };

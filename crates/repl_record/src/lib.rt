@@ -1,5 +1,6 @@
 //! Records of the write-ahead log: how they are laid out over its pages, where they end, and their checksum.
 //!
+//! `lay_out` makes the bytes of a record's image. A `Walker` is given the log's bytes in pieces of any size and tells
 //! where each record ends, or the first fault as soon as its bytes are there; it keeps a fixed number of bytes and takes
 //! no memory. `crc32c` is the records' checksum. What an image is stands in `specs/Record.antt`, what is judged and when
 //! in `specs/Judging.antt`, where records end in `specs/Log.antt`, and the checksum's polynomial in
