@@ -20,3 +20,6 @@ pub use fault::PageFault;
 pub use header::{HEADER_LIMIT, LongPart, PAGE_SIZE, PageHeader, header_size, write_header};
 pub use ident::Ident;
 pub use laws::{one_header, one_page_fault, written_agrees};
+
+#[cfg(test)]
+mod tests;
