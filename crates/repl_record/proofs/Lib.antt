@@ -30,3 +30,4 @@ pub mod Whole
 pub mod Standing
 pub mod HeaderMoves
 pub mod GapMoves
+pub mod Chains

@@ -66,6 +66,7 @@ fn longest_records(rt: HostRuntime) -> Result<(), Fail> {
         prev = laid.start;
     }
     assert_eq!(rt; at, Lsn(0x1f0_b608));
+    assert_eq!(rt; laid(&rt, rt.alloc(), at, prev, 0)?.start, at);
     let longer = laid(&rt, rt.alloc(), at, prev, 1_048_577);
     assert_eq!(rt;
         longer.err(),

@@ -91,6 +91,20 @@ fn pieces_of_any_cut(rt: HostRuntime) -> Result<(), Fail> {
     Ok(())
 }
 
+#[test]
+fn longest_record_in_pieces(rt: HostRuntime) -> Result<(), Fail> {
+    let mut log = Vec::new(rt.alloc());
+    add(&rt, rt.alloc(), &mut log, Lsn(0), BODY_LIMIT)?;
+    let mut walker = Walker::new(ORIGIN, Lsn(0), ident(&rt));
+    let mut ends = Vec::new(rt.alloc());
+    for piece in log.as_slice().chunks(65_536) {
+        let answer = walk(&rt, &mut walker, piece, &mut ends)?;
+        assert_eq!(rt; answer, WalkStep::Short);
+    }
+    assert_eq!(rt; ends.as_slice(), [(FIRST, Lsn(0x110_0c40))].as_slice());
+    Ok(())
+}
+
 /// A byte of the log, what it is set to, how many bytes show it, and the answer.
 type Fault = (usize, u8, usize, Lsn, WalkReason);
 

@@ -1,0 +1,5 @@
+use Rattle.repl_record.proofs.Chains.{in_line}
+use Rattle.repl_record.proofs.log_laws.ends_in_line.Goals as goal
+
+pub returns : goal.returns
+returns c = in_line
