@@ -4,15 +4,19 @@
 //! many were made. `turn` and `mutex` count under a turn and under std's `Mutex`, and an event of `slow` works for long.
 //! `repl_bench crc32c BYTES ROUNDS` takes the checksum of so many bytes so many times, `walk BODY ROUNDS` walks over a log
 //! of records with such bodies, and `lay_out BODY ROUNDS` lays one out; each prints a number that comes of it.
+//! `repl_bench log MAGIC SYSID` walks over the log on standard input, for the scripts in scripts/peers/: it prints how
+//! many records are whole, where the last one starts and ends, and what is wrong behind it.
 #![tactic(auto)]
 
 mod counter;
+mod log;
 mod records;
 
 use counter::{
     Counter, Grinder, four_by_mutex, four_by_turn, one_by_mutex, one_by_turn, two_by_mutex,
     two_by_turn,
 };
+use log::walked;
 use records::{checksums, layouts, walks};
 use repl_turn::{Machine, Turn};
 use std::env;
@@ -22,22 +26,36 @@ use std::sync::{Mutex, Wait};
 use std::thread::Threads;
 
 fn main(rt: HostRuntime) -> ExitCode {
-    let Some(made) = run(&rt) else {
+    let Some(text) = run(&rt) else {
         return ExitCode::FAILURE;
     };
-    match println!(rt; "{made}") {
+    match println!(rt; "{text}") {
         Ok(()) => ExitCode::SUCCESS,
         Err(_) => ExitCode::FAILURE,
     }
 }
 
-/// Does what the words say, and answers the number to print.
-fn run(rt: &(impl Env + AllocGlobal + Threads + Wait + Sync)) -> Option<u64> {
+/// Does what the words say, and answers the line to print.
+fn run(rt: &(impl Env + Input + AllocGlobal + Threads + Wait + Sync)) -> Option<String> {
     let mut words = env::args(rt).ok()?.skip(1);
     let way = words.next()?;
     let first = words.next()?.as_str().parse::<u64>().ok()?;
     let second = words.next()?.as_str().parse::<u64>().ok()?;
-    match way.as_str() {
+    if way.as_str() == "log" {
+        return walked(rt.alloc(), &mut rt.reader(), first, second);
+    }
+    let number = measured(rt, way.as_str(), first, second)?;
+    format!(in rt.alloc(); "{number}").ok()
+}
+
+/// Does what is measured, and answers a number that comes of it.
+fn measured(
+    rt: &(impl AllocGlobal + Threads + Wait + Sync),
+    way: &str,
+    first: u64,
+    second: u64,
+) -> Option<u64> {
+    match way {
         "turn" => by_turn(rt, Counter { count: 0 }, 1, first, second),
         "slow" => by_turn(rt, Grinder { state: 0 }, 1_000_000, first, second),
         "mutex" => by_mutex(rt, first, second),
