@@ -5,17 +5,16 @@ use Rattle.std.proofs.lemmas.List.{length-take-le, take_all}
 use Rattle.repl_lsn.specs.Segment.{IsSegSize}
 use Rattle.repl_page.specs.declared.ident.Ident.{Ident}
 use Rattle.repl_page.specs.Page.{in_header}
-use Rattle.repl_page.specs.Header.{field}
 use Rattle.repl_record.specs.declared.record.RecordIn.{RecordIn}
 use Rattle.repl_record.specs.Record.{AreBytes, content, IsImage, HeadersAgree, total_length}
 use Rattle.repl_record.specs.Judging.{IsLength, IsOver, IsOpenBefore, IsRight, length_field}
+use Rattle.repl_record.proofs.Fields.{AreBytes-take}
 use Rattle.repl_record.proofs.Content.{length-content, AreBytes-content}
-use Rattle.repl_record.proofs.Fronts.{FrontOf, front_of}
-use Rattle.repl_record.proofs.HeaderJudged.{field-take}
-use Rattle.repl_record.proofs.RecordMade.{AreBytes-take, item_of, total_is, record_is, item_is_record}
-use Rattle.repl_record.proofs.GapMade.{gap_is, zero_in_gap, zeros_from}
-use Rattle.repl_record.proofs.FieldsMade.{IsRightUpTo, prev_is, reserved_is, sum_is}
-use Rattle.repl_record.proofs.HeadersMade.{headers_agree}
+use Rattle.repl_record.proofs.ContentFronts.{FrontOf, front_of}
+use Rattle.repl_record.proofs.ImageMadeRecord.{item_of, total_is, record_is, item_is_record}
+use Rattle.repl_record.proofs.ImageMadeFields.{IsRightUpTo, prev_is, reserved_is, sum_is, front_field}
+use Rattle.repl_record.proofs.ImageMadeGap.{gap_is, zero_in_gap, zeros_from}
+use Rattle.repl_record.proofs.ImageMadeHeaders.{headers_agree}
 
 right_up_to : (ident : Ident) (timeline : ℕ → ℕ) (from prev : ℕ) (log : List ℕ) → IsOpenBefore ident timeline from prev log (length log) → IsRight ident timeline from prev log → IsRightUpTo ident timeline from prev log
 right_up_to ident timeline from prev log before right n within =
@@ -36,7 +35,7 @@ made ident timeline from prev log is even fits are going right over front =
     let has = over.right in
     let bytes_are = subst AreBytes (sym front.content_is) (AreBytes-take total all (AreBytes-content size from log are)) in
     let long : length bytes ≡ total = ap length front.content_is ∙ length-take-le total all over.all in
-    let field_is = λ (place width : ℕ) (within : place + width ≤ 24). ap (field place width) front.content_is ∙ field-take place width total all (omega (arith, has.0)) in
+    let field_is = λ (place width : ℕ) (within : place + width ≤ 24). front_field size from total place width log front (omega (arith, has.0)) in
     let item = item_of bytes in
     let total_of : total_length item ≡ total = total_is bytes (omega (arith, has.0)) ∙ long in
     let some : 0 < front.m = omega (arith, has.0, length-content size from (take front.m log), length-take-le front.m log front.within) in

@@ -1,33 +1,41 @@
-pub mod Linear
-pub mod Messages
-pub mod Shifts
-pub mod Tables
-pub mod Turns
+-- positions, bytes and headers of pages, and the log's bytes without these
+pub mod Fields
 pub mod Pages
+pub mod Headers
 pub mod Content
-pub mod Calm
-pub mod Goals
-pub mod Grown
-pub mod ImageFields
-pub mod ImageParts
-pub mod PageFaults
+pub mod ContentFronts
+-- the checksum, a byte at a time and by tables
+pub mod ChecksumDivision
+pub mod ChecksumPieces
+pub mod ChecksumShifts
+pub mod ChecksumTables
+pub mod ChecksumTurns
+-- where nothing is judged
+pub mod JudgingCalm
+-- a record's image has no fault
+pub mod ImageRightFields
+pub mod ImageRightFronts
 pub mod ImageRight
-pub mod OneAnswer
-pub mod Fronts
-pub mod HeaderJudged
-pub mod RecordMade
-pub mod GapMade
-pub mod FieldsMade
-pub mod HeadersMade
+-- a log that ends where a record does, with no fault, is its image
+pub mod ImageMadeRecord
+pub mod ImageMadeFields
+pub mod ImageMadeGap
+pub mod ImageMadeHeaders
 pub mod ImageMade
-pub mod Ends
-pub mod RecordMoves
-pub mod RecordTaken
-pub mod Begun
-pub mod Steps
-pub mod Growth
-pub mod Whole
-pub mod Standing
-pub mod HeaderMoves
-pub mod GapMoves
-pub mod Chains
+-- the log has one answer, and where records end in it
+pub mod LogAnswers
+pub mod LogEnds
+pub mod LogChains
+-- laying out a record
+pub mod LayingBlocks
+pub mod LayingRecord
+-- a walker, which takes parts of headers, of records and of gaps
+pub mod WalkerGoals
+pub mod WalkerCounts
+pub mod WalkerStands
+pub mod WalkerAtEnds
+pub mod WalkerHeader
+pub mod WalkerRecord
+pub mod WalkerRecordJudged
+pub mod WalkerGap
+pub mod WalkerSteps

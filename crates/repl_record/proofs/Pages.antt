@@ -16,7 +16,7 @@ small_powers e below h =
     absurd (omega arith)
 
 -- a segment is so many pages
-pub whole_pages : (size : ℕ) → IsSegSize size → (pages : ℕ) × (size ≡ 8192 * pages) × (0 < pages)
+whole_pages : (size : ℕ) → IsSegSize size → (pages : ℕ) × (size ≡ 8192 * pages) × (0 < pages)
 whole_pages size is =
     elim (cases_lt is.exponent 13) [
       | inl below ↦ absurd (small_powers is.exponent below (omega (arith, is.least, is.power)))
@@ -53,7 +53,7 @@ place_in_segment size pages position i is some within =
     (ap (λ (n : ℕ). (n + i) % size) (sym split) ∙ ap (λ (n : ℕ). n % size) (add_assoc (q * size) r i) ∙ mod-mul-add q size (r + i) fits, sym same)
 
 -- a position on the same page has the same place in its segment
-pub same_first_page : (size position i : ℕ) → IsSegSize size → position % 8192 + i < 8192 → in_first_page size (position + i) ≡ in_first_page size position
+same_first_page : (size position i : ℕ) → IsSegSize size → position % 8192 + i < 8192 → in_first_page size (position + i) ≡ in_first_page size position
 same_first_page size position i is within =
     let pages = whole_pages size is in
     let places = place_in_segment size pages.0 position i pages.1 pages.2 within in
@@ -89,7 +89,7 @@ not_in_header_from size position behind = le-ltb (position % 8192) (header_lengt
 pub in_header_tells : (size position : ℕ) → in_header size position ≡ true → position % 8192 < header_length size position
 in_header_tells size position is = ltb-true (position % 8192) (header_length size position) is
 
-pub not_in_header_tells : (size position : ℕ) → in_header size position ≡ false → header_length size position ≤ position % 8192
+not_in_header_tells : (size position : ℕ) → in_header size position ≡ false → header_length size position ≤ position % 8192
 not_in_header_tells size position is = ltb-false (position % 8192) (header_length size position) is
 
 -- the byte before a page is none of a header
@@ -101,3 +101,42 @@ pub same_eight : (size position i : ℕ) → IsSegSize size → in_header size p
 same_eight size position i is outside within =
     let behind = not_in_header_tells size position outside in
     not_in_header_from size (position + i) (omega (arith, same_header_length size position i is (omega arith), place_on_page position i (omega arith)))
+
+-- ---- ends of headers
+
+-- a page has one header
+pub length_of_page : (size at : ℕ) → IsSegSize size → header_length size (page_start at) ≡ header_length size at
+length_of_page size at is =
+    let on_page : page_start at % 8192 + at % 8192 < 8192 = omega arith in
+    sym (same_header_length size (page_start at) (at % 8192) is on_page) ∙ ap (header_length size) (omega arith)
+
+-- so many bytes on it is in the header yet
+pub still_in_header : (size at i : ℕ) → IsSegSize size → at % 8192 + i < header_length size at → in_header size (at + i) ≡ true
+still_in_header size at i is within =
+    let on_page : at % 8192 + i < 8192 = omega (arith, header_is size at) in
+    in_header_from size (at + i) (omega (arith, place_on_page at i on_page, same_header_length size at i is on_page))
+
+-- a page whose header ends here is the one in whose header the position was
+pub page_of_end : (size at i page : ℕ) → page % 8192 ≡ 0 → at % 8192 + i ≤ header_length size at → at + i ≡ page + header_length size page → page ≡ page_start at
+page_of_end size at i page is_page within ended = omega (arith, header_is size at, header_is size page)
+
+-- a header that began is whole before a byte that is none of it
+pub header_is_whole : (size page position : ℕ) → IsSegSize size → page % 8192 ≡ 0 → page ≤ position → in_header size position ≡ false → page + header_length size page ≤ position
+header_is_whole size page position is is_page began outside =
+    elim (cases_lt position (page + header_length size page)) [
+      | inl inside ↦
+          let step = position - page in
+          let place : position ≡ page + step = omega arith in
+          let behind = not_in_header_tells size (page + step) (ap (in_header size) (sym place) ∙ outside) in
+          let limit = same_header_length size page step is (omega (arith, header_is size page)) in
+          absurd (omega (arith, header_is size page))
+      | inr whole ↦ whole
+    ]
+
+-- behind bytes on one page the position is in a header at its page's first byte alone
+pub at_page : (size at n : ℕ) → IsSegSize size → header_length size at ≤ at % 8192 → at % 8192 + n ≤ 8192 → in_header size (at + n) ≡ true → (at + n) % 8192 ≡ 0
+at_page size at n is outside on_page inside =
+    elim (cases_lt (at % 8192 + n) 8192) [
+      | inl within ↦ absurd (omega (arith, in_header_tells size (at + n) inside, place_on_page at n within, same_header_length size at n is within))
+      | inr end ↦ omega arith
+    ]

@@ -1,5 +1,6 @@
+-- One byte goes by the first table.
 use Rattle.std.proofs.Common.{arith}
-use Rattle.repl_record.proofs.Turns.{one_entry}
+use Rattle.repl_record.proofs.ChecksumTurns.{one_entry}
 use Rattle.repl_record.proofs.checksum.after_byte.Goals as goal
 
 pub returns : goal.returns

@@ -1,5 +1,6 @@
+-- Each byte goes on, and behind the last one there is none.
 use Rattle.std.proofs.Common.{sym, ◌∙◌, arith}
-use Rattle.repl_record.proofs.Messages.{remainder-next, remainder_past}
+use Rattle.repl_record.proofs.ChecksumPieces.{remainder-next, remainder_past}
 use Rattle.repl_record.proofs.checksum.after_few.Goals as goal
 
 pub loop-byte-preserved : goal.loop-byte-preserved

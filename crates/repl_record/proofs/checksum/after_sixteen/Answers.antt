@@ -1,9 +1,10 @@
+-- Sixteen bytes, of which four are added to the register, go by sixteen tables.
 use Rattle.std.proofs.Common.{◌^◌, ◌<◌, ap, ◌∙◌, arith}
 use Rattle.std.proofs.lemmas.Nat.{xor_lt}
 use Rattle.std.specs.Int.Bits.{bit_xor}
 use Rattle.byteorder.specs.Endian.{little_from}
 use Rattle.repl_record.specs.Shifts.{past_bytes}
-use Rattle.repl_record.proofs.Turns.{number_back, sixteen}
+use Rattle.repl_record.proofs.ChecksumTurns.{number_back, sixteen}
 use Rattle.repl_record.proofs.checksum.after_sixteen.Goals as goal
 
 pub returns : goal.returns

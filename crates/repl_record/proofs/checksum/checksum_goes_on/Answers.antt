@@ -1,4 +1,5 @@
-use Rattle.repl_record.proofs.Messages.{goes_on}
+-- The checksum of two parts is that of the second, which goes on from the first.
+use Rattle.repl_record.proofs.ChecksumPieces.{goes_on}
 use Rattle.repl_record.proofs.checksum.checksum_goes_on.Goals as goal
 
 pub returns : goal.returns

@@ -1,5 +1,6 @@
+-- Sixteen bytes go on, and then the rest.
 use Rattle.std.proofs.Common.{◌∙◌}
-use Rattle.repl_record.proofs.Turns.{remainder-turn}
+use Rattle.repl_record.proofs.ChecksumTurns.{remainder-turn}
 use Rattle.repl_record.proofs.checksum.crc32c.Goals as goal
 
 pub loop-rest-preserved : goal.loop-rest-preserved

@@ -1,3 +1,4 @@
+-- The register and the rest leave what all of the bytes do; the rest gets shorter.
 use Rattle.std.proofs.Common.{◌≡◌, length}
 use Rattle.repl_record.specs.Checksum.{remainder, message}
 use Rattle.repl_record.proofs.checksum.crc32c.Given as goal

@@ -1,6 +1,7 @@
+-- An entry of the tables is what its byte leaves.
 use Rattle.std.proofs.Common.{suc, ◌+◌, ◌≡◌, arith, ap, ◌∙◌}
-use Rattle.repl_record.proofs.Tables.{LEFT_BEHIND-is}
 use Rattle.repl_record.specs.Shifts.{past_bytes}
+use Rattle.repl_record.proofs.ChecksumTables.{LEFT_BEHIND-is}
 use Rattle.repl_record.proofs.checksum.entry.Goals as goal
 
 pub returns : goal.returns

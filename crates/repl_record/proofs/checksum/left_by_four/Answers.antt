@@ -1,5 +1,6 @@
+-- Four entries of four tables are what four bytes leave.
 use Rattle.std.proofs.Common.{arith}
-use Rattle.repl_record.proofs.Turns.{four_entries}
+use Rattle.repl_record.proofs.ChecksumTurns.{four_entries}
 use Rattle.repl_record.proofs.checksum.left_by_four.Goals as goal
 
 pub returns : goal.returns

@@ -1,4 +1,5 @@
-use Rattle.repl_record.proofs.OneAnswer.{answered}
+-- An image at the front of the log is answered by its end.
+use Rattle.repl_record.proofs.LogAnswers.{answered}
 use Rattle.repl_record.proofs.laws.image_is_answered.Goals as goal
 
 pub returns : goal.returns

@@ -1,4 +1,5 @@
-use Rattle.repl_record.proofs.OneAnswer.{same_answer}
+-- The log has one answer.
+use Rattle.repl_record.proofs.LogAnswers.{same_answer}
 use Rattle.repl_record.proofs.laws.one_answer.Goals as goal
 
 pub returns : goal.returns

@@ -3,7 +3,7 @@ use Rattle.std.proofs.Common.{◌≡◌, ℕ, ◌+◌, ◌%◌, ◌<◌, List, [
 use Rattle.repl_record.specs.declared.laying.Place.{Place}
 use Rattle.repl_record.specs.Record.{content}
 use Rattle.repl_record.proofs.Content.{content-nil}
-use Rattle.repl_record.proofs.Whole.{IsFinished, IsImage-finished, spelled_finished, laid_bytes}
+use Rattle.repl_record.proofs.LayingRecord.{IsFinished, IsImage-finished, spelled_finished, laid_bytes}
 use Rattle.repl_record.proofs.laying.lay_out.Goals as goal
 
 -- of nothing, nothing is the record's

@@ -2,7 +2,7 @@
 use Rattle.std.proofs.Common.{◌≡◌, ℕ, ◌+◌, ◌<◌, List, ◌++◌, length, take, sym, ap, ◌∙◌, arith}
 use Rattle.std.proofs.lemmas.Bool.{eqb-false}
 use Rattle.repl_record.specs.Laying.{due_header}
-use Rattle.repl_record.proofs.Growth.{IsGoing-with_block}
+use Rattle.repl_record.proofs.LayingBlocks.{IsGoing-with_block}
 use Rattle.repl_record.proofs.laying.put.Goals as goal
 
 pub loop-rest-preserved : goal.loop-rest-preserved

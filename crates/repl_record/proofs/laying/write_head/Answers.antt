@@ -2,11 +2,11 @@
 use Rattle.std.proofs.Common.{◌≡◌, ℕ, ◌-◌, List, ◌++◌, [], length, take, drop, refl, ap, ◌∙◌, length-append, length-drop, arith}
 use Rattle.std.proofs.lemmas.List.{take_at, drop_all, length-take}
 use Rattle.byteorder.specs.Endian.{little_bytes}
+use borrow.Rule.Slice.PartMut.{put_mid}
 use Rattle.repl_record.specs.Checksum.{checksum, checksum_from}
 use Rattle.repl_record.specs.Record.{front_bytes}
-use Rattle.repl_record.proofs.Messages.{goes_on}
+use Rattle.repl_record.proofs.ChecksumPieces.{goes_on}
 use Rattle.repl_record.proofs.laying.write_head.Goals as goal
-use borrow.Rule.Slice.PartMut.{put_mid}
 
 -- a number of four bytes is written over the rest behind the front
 written_behind : (front old : List ℕ) (sum : ℕ) → length front ≡ 20 → length old ≡ 24

@@ -1,4 +1,5 @@
-use Rattle.repl_record.proofs.Chains.{in_line}
+-- Of two record ends the later is counted from the earlier.
+use Rattle.repl_record.proofs.LogChains.{in_line}
 use Rattle.repl_record.proofs.log_laws.ends_in_line.Goals as goal
 
 pub returns : goal.returns

@@ -1,4 +1,5 @@
-use Rattle.repl_record.proofs.Chains.{same_last}
+-- A position has one record that ends there.
+use Rattle.repl_record.proofs.LogChains.{same_last}
 use Rattle.repl_record.proofs.log_laws.one_last.Goals as goal
 
 pub returns : goal.returns

@@ -1,3 +1,4 @@
+-- What a part of the record or of the gap tells is told.
 use Rattle.repl_record.proofs.walker.Walker.advance.Goals as goal
 
 pub returns-then-self-goal-clause-moved : goal.returns-then-self-goal-clause-moved

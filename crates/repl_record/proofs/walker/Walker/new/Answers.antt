@@ -1,5 +1,6 @@
+-- A new walker stands behind nothing.
 use Rattle.std.proofs.Common.{refl, arith}
-use Rattle.repl_record.proofs.Begun.{begun}
+use Rattle.repl_record.proofs.WalkerAtEnds.{begun}
 use Rattle.repl_record.proofs.walker.Walker.new.Goals as goal
 
 pub returns-clause-stands : goal.returns-clause-stands

@@ -1,15 +1,16 @@
+-- The moves of a step: a fault, the end of a record, or one move more; and what they answer.
 use Rattle.std.proofs.Common.{◌≡◌, ℕ, ◌+◌, ◌-◌, ◌^◌, ◌≤◌, List, [], ◌++◌, length, take, drop, length-append, sym, ◌∙◌, subst, arith}
 use Rattle.std.proofs.lemmas.Bool.{iff_false}
 use Rattle.std.proofs.lemmas.List.{length-drop, length-take, take_all, take_rest}
+use Rattle.repl_lsn.specs.Segment.{IsSegSize}
 use Rattle.repl_page.specs.declared.ident.Ident.{Ident}
 use Rattle.repl_record.specs.declared.answer.WalkStep.{WalkStep}
 use Rattle.repl_record.specs.declared.walker.Walker.{Walker}
-use Rattle.repl_lsn.specs.Segment.{IsSegSize}
 use Rattle.repl_record.specs.Record.{start_of}
 use Rattle.repl_record.specs.Judging.{Answers, IsBeginning, IsFirstFault, IsWhole}
 use Rattle.repl_record.specs.Walker.{AreOn, GoesOn, Stands, position}
 use Rattle.repl_record.specs.Moves.{Reached, IsAtEnd}
-use Rattle.repl_record.proofs.Steps.{Walked, begins_next, fault_in_rest, part_of_rest, passes_from, rest_on, walked_on, whole_from}
+use Rattle.repl_record.proofs.WalkerSteps.{Walked, begins_next, fault_in_rest, part_of_rest, passes_from, rest_on, walked_on, whole_from}
 use Rattle.repl_record.proofs.walker.Walker.step.Goals as goal
 
 -- the pages of the rest are on the timeline, from where the walker stands

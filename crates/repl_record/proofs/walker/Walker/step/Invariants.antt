@@ -1,5 +1,6 @@
+-- The walker has gone through the bytes used so far, and no record ended; fewer are left.
 use Rattle.std.proofs.Common.{◌-◌, length}
-use Rattle.repl_record.proofs.Steps.{Walked}
+use Rattle.repl_record.proofs.WalkerSteps.{Walked}
 use Rattle.repl_record.proofs.walker.Walker.step.Given as goal
 
 abbrev pub invariant-loop-used : goal.invariant-loop-used

@@ -1,3 +1,4 @@
+-- A part of the gap is taken: all of it is zero, or the first byte that is not is a fault.
 use Rattle.std.proofs.Common.{◌≡◌, ℕ, ◌<◌, ◌++◌, length, take, get_or, sym, ap, ◌∙◌, subst, arith, rules}
 use Rattle.std.proofs.lemmas.Iterator.{YieldsList-from_slice}
 use Rattle.std.proofs.lemmas.Iterator.Search.{any_from_yields_List}
@@ -6,7 +7,7 @@ use borrow.Author.Tests.{tests}
 use Rattle.repl_record.specs.declared.walker.Walker.{Walker}
 use Rattle.repl_record.specs.Moves.{Reached}
 use Rattle.repl_record.specs.Record.{start_of}
-use Rattle.repl_record.proofs.GapMoves.{all_zero, first_other, gap_differs, gap_goes_on, gap_part, is_other}
+use Rattle.repl_record.proofs.WalkerGap.{all_zero, first_other, gap_differs, gap_goes_on, gap_part, is_other}
 use Rattle.repl_record.proofs.walker.Walker.through_gap.Goals as goal
 
 pub returns-then-any-clause-moved : goal.returns-then-any-clause-moved

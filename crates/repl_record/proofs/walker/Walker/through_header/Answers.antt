@@ -1,3 +1,4 @@
+-- A part of a header is taken: it is not judged yet, it agrees, or it has a fault.
 use Rattle.std.proofs.Common.{◌≡◌, ℕ, ◌+◌, ◌%◌, ◌<◌, ◌≤◌, ◌⊎◌, List, ◌++◌, length, take, refl, sym, ap, ◌∙◌, subst, inl, inr, arith}
 use Rattle.std.proofs.lemmas.Bool.Decides.{nat_tests}
 use Rattle.std.proofs.lemmas.List.{length-take-le}
@@ -6,7 +7,7 @@ use Rattle.repl_page.specs.Page.{page_start, header_length}
 use Rattle.repl_page.specs.Header.{Agrees, IsPageFault}
 use Rattle.repl_record.specs.declared.walker.Walker.{Walker}
 use Rattle.repl_record.specs.Moves.{Reached}
-use Rattle.repl_record.proofs.HeaderMoves.{next_part, header_goes_on, header_agrees, header_differs, on_log}
+use Rattle.repl_record.proofs.WalkerHeader.{header_part, header_goes_on, header_agrees, header_differs, on_log}
 use Rattle.repl_record.proofs.walker.Walker.through_header.Goals as goal
 use Rattle.repl_record.proofs.walker.Walker.through_header.Goals.{then-taken-left-via-then-taken-left, then-taken-left-via-else-taken-left+then-lt}
 
@@ -15,7 +16,7 @@ returns-then-taken-left-clause-moved c timeline from prev log s on =
     let w = c.args.self.now in
     let bytes = c.args.bytes.now in
     let taken = c.min-taken.result in
-    let part = next_part c.args.tli bytes taken s on c.requires.size c.requires.inside c.requires.some (λ i. omega (arith, c.type_inv.bytes i)) (omega arith) in
+    let part = header_part c.args.tli bytes taken s on c.requires.size c.requires.inside c.requires.some (λ i. omega (arith, c.type_inv.bytes i)) (omega arith) in
     let all : length (take taken bytes) ≡ taken = length-take-le taken bytes (omega arith) in
     let same_at = ap (λ (n : Walker). n.at) c.self.view_is in
     let same_from : c.keep_header.new.self.from ≡ from = ap (λ (n : Walker). n.from) c.keep_header.ensures ∙ s.keeps.begins in
@@ -31,7 +32,7 @@ returns-in-Ok-clause-moved c timeline from prev log s on =
     let w = c.args.self.now in
     let bytes = c.args.bytes.now in
     let taken = c.min-taken.result in
-    let part = next_part c.args.tli bytes taken s on c.requires.size c.requires.inside c.requires.some (λ i. omega (arith, c.type_inv.bytes i)) (omega arith) in
+    let part = header_part c.args.tli bytes taken s on c.requires.size c.requires.inside c.requires.some (λ i. omega (arith, c.type_inv.bytes i)) (omega arith) in
     let all : length (take taken bytes) ≡ taken = length-take-le taken bytes (omega arith) in
     let same_at = ap (λ (n : Walker). n.at) c.self.view_is in
     let same_from : c.keep_header.new.self.from ≡ from = ap (λ (n : Walker). n.from) c.keep_header.ensures ∙ s.keeps.begins in
@@ -45,7 +46,7 @@ returns-in-Err-clause-moved c timeline from prev log s on =
     let w = c.args.self.now in
     let bytes = c.args.bytes.now in
     let taken = c.min-taken.result in
-    let part = next_part c.args.tli bytes taken s on c.requires.size c.requires.inside c.requires.some (λ i. omega (arith, c.type_inv.bytes i)) (omega arith) in
+    let part = header_part c.args.tli bytes taken s on c.requires.size c.requires.inside c.requires.some (λ i. omega (arith, c.type_inv.bytes i)) (omega arith) in
     let all : length (take taken bytes) ≡ taken = length-take-le taken bytes (omega arith) in
     let same_at = ap (λ (n : Walker). n.at) c.self.view_is in
     let same_from : c.keep_header.new.self.from ≡ from = ap (λ (n : Walker). n.from) c.keep_header.ensures ∙ s.keeps.begins in

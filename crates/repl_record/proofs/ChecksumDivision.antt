@@ -10,10 +10,10 @@ pub xor_twice : (a b : ℕ) → bit_xor (bit_xor a b) b ≡ a
 xor_twice a b = xor_assoc a b b ∙ ap (bit_xor a) (xor_self b) ∙ xor_zero_r a
 
 -- the parts of a sum in another order
-pub xor_swapped : (a b c : ℕ) → bit_xor (bit_xor a b) c ≡ bit_xor (bit_xor a c) b
+xor_swapped : (a b c : ℕ) → bit_xor (bit_xor a b) c ≡ bit_xor (bit_xor a c) b
 xor_swapped a b c = xor_assoc a b c ∙ ap (bit_xor a) (xor_comm b c) ∙ sym (xor_assoc a c b)
 
-pub xor_crossed : (a b c d : ℕ) → bit_xor (bit_xor a b) (bit_xor c d) ≡ bit_xor (bit_xor a c) (bit_xor b d)
+xor_crossed : (a b c d : ℕ) → bit_xor (bit_xor a b) (bit_xor c d) ≡ bit_xor (bit_xor a c) (bit_xor b d)
 xor_crossed a b c d = sym (xor_assoc (bit_xor a b) c d) ∙ ap (λ t. bit_xor t d) (xor_swapped a b c) ∙ xor_assoc (bit_xor a c) b d
 
 -- what is subtracted where this bit falls out
@@ -45,7 +45,7 @@ halved-xor x y =
     ∙ ap (bit_xor (bit_xor (x / 2) (y / 2))) low
     ∙ xor_crossed (x / 2) (y / 2) (falling (x % 2)) (falling (y % 2))
 
-pub divided-xor : (s t b c : ℕ) → divided (bit_xor s t) (bit_xor b c) ≡ bit_xor (divided s b) (divided t c)
+divided-xor : (s t b c : ℕ) → divided (bit_xor s t) (bit_xor b c) ≡ bit_xor (divided s b) (divided t c)
 divided-xor s t b c =
     divided-is (bit_xor s t) (bit_xor b c)
     ∙ ap (λ x. bit_xor (x / 2) (falling (x % 2))) (xor_crossed s t b c)
@@ -65,7 +65,7 @@ remainder-xor s t [] = refl
 remainder-xor s t (bit ∷ bits) = ap (λ x. remainder x bits) (divided-xor s t 0 bit) ∙ remainder-xor (divided s 0) (divided t bit) bits
 
 -- where no 1 falls out, the register is halved
-pub divided-even : (half : ℕ) → divided (half * 2) 0 ≡ half
+divided-even : (half : ℕ) → divided (half * 2) 0 ≡ half
 unfolding falling
 divided-even half =
     let even : half * 2 % 2 ≡ 0 = omega arith in

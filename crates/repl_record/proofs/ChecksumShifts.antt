@@ -5,7 +5,7 @@ use Rattle.std.proofs.lemmas.Bool.{cases_lt, and_parts}
 use Rattle.std.specs.Int.Bits.{bit_xor, xor_shifted, xor_zero_r}
 use Rattle.repl_record.specs.Checksum.{bits_of, remainder}
 use Rattle.repl_record.specs.Shifts.{past_byte, past_bytes}
-use Rattle.repl_record.proofs.Linear.{remainder-xor, remainder-zeros}
+use Rattle.repl_record.proofs.ChecksumDivision.{remainder-xor, remainder-zeros}
 
 pub past_byte-xor : (a b : ℕ) → past_byte (bit_xor a b) ≡ bit_xor (past_byte a) (past_byte b)
 unfolding past_byte

@@ -1,12 +1,12 @@
 -- What a walker has done in a step so far, and what it answers.
 use Rattle.std.proofs.Common.{◌≡◌, ℕ, ◌+◌, ◌-◌, ◌^◌, ◌<◌, ◌≤◌, List, [], ◌++◌, length, take, drop, None, refl, sym, ap, ◌∙◌, subst, inl, inr, arith, length-append, append_assoc}
-use Rattle.std.proofs.Math.Seq.{take-add}
+use Rattle.std.proofs.Math.Seq.{take-add, take-append-add}
 use Rattle.std.proofs.lemmas.Bool.{cases_Bool, cases_lt, cond-false, cond-true}
 use Rattle.std.proofs.lemmas.List.{take-append-drop, take-take, length-take, length-drop, take_all}
 use Rattle.repl_lsn.specs.Segment.{IsSegSize}
 use Rattle.repl_page.specs.declared.ident.Ident.{Ident}
-use Rattle.repl_record.specs.declared.answer.WalkReason.{WalkReason}
 use Rattle.repl_page.specs.Page.{header_length, in_header, page_start}
+use Rattle.repl_record.specs.declared.answer.WalkReason.{WalkReason}
 use Rattle.repl_record.specs.declared.answer.WalkStep.{WalkStep}
 use Rattle.repl_record.specs.declared.answer.WalkStep.TheVariants as step
 use Rattle.repl_record.specs.declared.walker.Walker.{Walker}
@@ -15,9 +15,9 @@ use Rattle.repl_record.specs.Judging.{IsBeginning, IsFirstFault, IsWhole}
 use Rattle.repl_record.specs.Walker.{AreOn, Passes, Stands, position}
 use Rattle.repl_record.specs.Moves.{IsAtEnd, IsEnded, IsOfOneLog, Reached, renewed}
 use Rattle.repl_record.proofs.Pages.{header_is}
-use Rattle.repl_record.proofs.Begun.{begun, over_from, over_tells}
-use Rattle.repl_record.proofs.Calm.{IsCalm, take_behind}
+use Rattle.repl_record.proofs.JudgingCalm.{IsCalm}
 use Rattle.repl_record.proofs.ImageMade.{image_from_over}
+use Rattle.repl_record.proofs.WalkerAtEnds.{begun, over_from, over_tells}
 
 -- the walker has gone through so many of the bytes, and no record ended
 pub record Walked (old new : Walker) (tli : ℕ) (bytes : List ℕ) (used : ℕ) : Type 0 where
@@ -36,7 +36,7 @@ pub part_of_rest : (log bytes : List ℕ) (used taken : ℕ) → used ≤ length
 part_of_rest log bytes used taken within = append_assoc log (take used bytes) (take taken (drop used bytes)) ∙ ap (λ (t : List ℕ). log ++ t) (sym (take-add used taken bytes))
 
 -- where no record ends, the walker stands behind what it has reached
-pub stands_from : (w : Walker) (timeline : ℕ → ℕ) (from prev : ℕ) (log : List ℕ) → Reached w timeline from prev log → ¬ IsAtEnd w → Stands w timeline from prev log
+stands_from : (w : Walker) (timeline : ℕ → ℕ) (from prev : ℕ) (log : List ℕ) → Reached w timeline from prev log → ¬ IsAtEnd w → Stands w timeline from prev log
 stands_from w timeline from prev log reached none = record { keeps = reached.keeps; beginning = beginning }
   where
     beginning : IsBeginning w.ident timeline from prev log
@@ -73,7 +73,7 @@ whole_from w timeline from prev log bytes used is within some reached end =
     let n = length log + used in
     let long : length all ≡ n = omega (arith, length-append log (take used bytes), length-take used bytes) in
     let at : w.at - from ≡ n = omega (arith, k.behind, long) in
-    let front : take n (log ++ bytes) ≡ all = take_behind log bytes used in
+    let front : take n (log ++ bytes) ≡ all = take-append-add log bytes used in
     let made = image_from_over w.ident timeline from prev all is k.aligned k.prev_fits k.are_bytes reached.open_before reached.right (over_from w timeline from prev all k end) in
     let P : List ℕ → Type 0 = λ l. IsCalm w.ident timeline from prev l in
     let Image : List ℕ → Type 0 = λ l. IsImage w.ident timeline from prev made.0 l in

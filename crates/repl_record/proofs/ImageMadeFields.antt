@@ -6,15 +6,15 @@ use Rattle.repl_page.specs.Header.{field}
 use Rattle.repl_record.specs.declared.answer.WalkReason.TheVariants as why
 use Rattle.repl_record.specs.Record.{content}
 use Rattle.repl_record.specs.Judging.{IsLength, HasLength, Ends, IsRight, length_field, computed_sum}
-use Rattle.repl_record.proofs.Fronts.{FrontOf, front_of}
-use Rattle.repl_record.proofs.HeaderJudged.{same_number, field-take}
+use Rattle.repl_record.proofs.Fields.{same_number, field-take}
+use Rattle.repl_record.proofs.ContentFronts.{FrontOf, front_of}
 
 -- nothing is wrong at any front of the log
 abbrev pub IsRightUpTo : Ident → (ℕ → ℕ) → ℕ → ℕ → List ℕ → Type 0
 IsRightUpTo ident timeline from prev log = (n : ℕ) → n ≤ length log → IsRight ident timeline from prev (take n log)
 
 -- a field of a front's content is that of the log's
-front_field : (size from k place width : ℕ) (log : List ℕ) (front : FrontOf size from k log) → place + width ≤ k
+pub front_field : (size from k place width : ℕ) (log : List ℕ) (front : FrontOf size from k log) → place + width ≤ k
     → field place width (content size from (take front.m log)) ≡ field place width (content size from log)
 front_field size from k place width log front within = ap (field place width) front.content_is ∙ field-take place width k (content size from log) within
 

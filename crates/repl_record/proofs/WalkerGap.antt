@@ -1,24 +1,26 @@
 -- A walker that takes a part of the gap behind a record: what it keeps then, and what is judged.
-use Rattle.std.proofs.Common.{◌≡◌, ◌≢◌, ℕ, ◌+◌, ◌-◌, ◌%◌, ◌<◌, ◌≤◌, ◌⊎◌, ◌==◌, Bool, true, false, not, List, ◌++◌, length, take, drop, get_or, min, refl, sym, ap, ◌∙◌, subst, inl, inr, arith, length-append}
+use Rattle.std.proofs.Common.{◌≡◌, ◌≢◌, ℕ, ◌+◌, ◌-◌, ◌%◌, ◌<◌, ◌≤◌, ◌==◌, Bool, true, false, not, List, ◌++◌, length, take, drop, get_or, min, refl, sym, ap, ◌∙◌, subst, inl, inr, arith, length-append}
 use Rattle.std.specs.List.{list_any, position_or_len}
 use Rattle.std.proofs.lemmas.Bool.{both_ways, cases_lt, false_from_ne_true, not-false, not-true, eqb-false, eqb-true}
-use Rattle.std.proofs.lemmas.List.{get_or-append_right, get_or-take, length-take-le, take-append-le, take-take, drop_all}
+use Rattle.std.proofs.lemmas.List.{get_or-append_right, get_or-take, length-take-le, take-append-le, take-take}
 use Rattle.std.proofs.lemmas.List.Folds.{Any-from_list_any, list_any_at}
 use Rattle.std.proofs.lemmas.List.Sums.{fails_before_first, passes_at_first}
+use Rattle.std.proofs.Math.Seq.{take-append-add}
 use Rattle.repl_lsn.specs.Segment.{IsSegSize}
-use Rattle.repl_page.specs.Page.{page_start, header_length, in_header}
+use Rattle.repl_page.specs.Page.{header_length, in_header}
 use Rattle.repl_record.specs.declared.answer.WalkReason.TheVariants as why
 use Rattle.repl_record.specs.declared.walker.Walker.{Walker}
 use Rattle.repl_record.specs.Checksum.{checksum}
-use Rattle.repl_record.specs.Record.{AreBytes, LastIsContent, content, from_page, start_of}
+use Rattle.repl_record.specs.Record.{AreBytes, LastIsContent, start_of}
 use Rattle.repl_record.specs.Judging.{HasLength, IsFaultAt, IsFirstFault, IsLength, IsOpenBefore, IsOver, IsRight, length_field}
 use Rattle.repl_record.specs.Walker.{Keeps, Stands, so_far}
 use Rattle.repl_record.specs.Moves.{Reached, goal, total, with_gap}
-use Rattle.repl_record.proofs.Pages.{in_header_tells, not_in_header_from, place_on_page, same_header_length}
-use Rattle.repl_record.proofs.Content.{content-append, content-page}
-use Rattle.repl_record.proofs.Calm.{IsCalm, field-append, header_fault_inside, open_more, take_behind}
-use Rattle.repl_record.proofs.Goals.{goal_is, next_goal}
-use Rattle.repl_record.proofs.Standing.{AreBytes-append, AreBytes-take, not_rounded, total_is}
+use Rattle.repl_record.proofs.Fields.{field-append, AreBytes-append, AreBytes-take}
+use Rattle.repl_record.proofs.Pages.{at_page}
+use Rattle.repl_record.proofs.Content.{content-more, last_more}
+use Rattle.repl_record.proofs.JudgingCalm.{IsCalm, open_more, header_fault_last}
+use Rattle.repl_record.proofs.WalkerGoals.{goal_passed}
+use Rattle.repl_record.proofs.WalkerStands.{not_rounded, total_is, new_page, many_are}
 
 -- ---- bytes that are not zero
 
@@ -72,23 +74,11 @@ last_byte log bytes i some enough =
 
 -- ---- where a record's bytes are all there
 
-goal_passed : (count whole : ℕ) → next_goal count whole ≤ count → (24 ≤ count) × (whole ≤ count)
-goal_passed count whole passed = cases (goal_is count whole)
-  where
-    cases : ((count < 4) × (next_goal count whole ≡ 4)) ⊎ ((4 ≤ count) × (count < 16) × (next_goal count whole ≡ 16)) ⊎ ((16 ≤ count) × (count < 20) × (next_goal count whole ≡ 20)) ⊎ ((20 ≤ count) × (count < 24) × (next_goal count whole ≡ 24)) ⊎ ((24 ≤ count) × (next_goal count whole ≡ whole)) → (24 ≤ count) × (whole ≤ count)
-    cases (inl h) = absurd (omega (arith, passed, h.0, h.1))
-    cases (inr (inl h)) = absurd (omega (arith, passed, h.1, h.2))
-    cases (inr (inr (inl h))) = absurd (omega (arith, passed, h.1, h.2))
-    cases (inr (inr (inr (inl h)))) = absurd (omega (arith, passed, h.1, h.2))
-    cases (inr (inr (inr (inr h)))) = (h.0, omega (arith, passed, h.1))
-
 is_finished : {w : Walker} {timeline : ℕ → ℕ} {from prev : ℕ} {log : List ℕ} → Keeps w timeline from prev log → goal w ≤ w.count → (24 ≤ length (so_far w from log)) × (length_field (so_far w from log) ≤ length (so_far w from log))
 is_finished {w = w} {from = from} {log = log} k passed =
     let done = goal_passed w.count (total w) passed in
-    elim (cases_lt (length (so_far w from log)) 24) [
-      | inl few ↦ absurd (omega (arith, done.0, k.few few))
-      | inr many ↦ (many, omega (arith, k.many many, done.1, total_is k (omega (arith, done.0))))
-    ]
+    let many = many_are k done.0 in
+    (many, omega (arith, k.many many, done.1, total_is k (omega (arith, done.0))))
 
 -- The walker stands behind the log's bytes, which are all of a record's and a part of the gap behind it, and it takes so
 -- many of these bytes, up to the next multiple of 8 at most.
@@ -127,10 +117,7 @@ gap_part {w = w} bytes taken s is outside passed some are taken_is =
 -- it follows the record's bytes
 so_far_is : {w : Walker} {timeline : ℕ → ℕ} {from prev : ℕ} {log bytes : List ℕ} {taken : ℕ} (i : ℕ) → IsGapPart w timeline from prev log bytes taken → i ≤ taken → so_far w from (log ++ take i bytes) ≡ so_far w from log ++ take i bytes
 so_far_is {w = w} {from = from} {log = log} {bytes = bytes} i g within =
-    let size = w.ident.size in
-    let behind : w.at ≡ from + length log = g.stands.keeps.behind in
-    let part = content-page size w.at (take i bytes) g.size g.outside (omega (arith, length-take-le i bytes (omega (arith, g.enough)), g.within)) in
-    content-append size from log (take i bytes) ∙ ap (λ (p : ℕ). content size from log ++ content size p (take i bytes)) (sym behind) ∙ ap (λ (t : List ℕ). content size from log ++ t) part
+    content-more w.ident.size w.at from log (take i bytes) g.size g.stands.keeps.behind g.outside (omega (arith, length-take-le i bytes (omega (arith, g.enough)), g.within))
 
 -- of which there are more then
 length_is : {w : Walker} {timeline : ℕ → ℕ} {from prev : ℕ} {log bytes : List ℕ} {taken : ℕ} (i : ℕ) → IsGapPart w timeline from prev log bytes taken → i ≤ taken → length (so_far w from (log ++ take i bytes)) ≡ length (so_far w from log) + i
@@ -147,10 +134,8 @@ has_length i g within = subst IsLength (sym (field_is i g within)) (g.stands.kee
 -- it is none of a header
 last_is_content : {w : Walker} {timeline : ℕ → ℕ} {from prev : ℕ} {log bytes : List ℕ} {taken : ℕ} (i : ℕ) → IsGapPart w timeline from prev log bytes taken → 0 < i → i ≤ taken → LastIsContent w.ident.size from (log ++ take i bytes)
 last_is_content {w = w} {from = from} {log = log} {bytes = bytes} i g some within =
-    let size = w.ident.size in
-    let on_page : w.at % 8192 + (i - 1) < 8192 = omega (arith, g.within) in
-    let last : from + length (log ++ take i bytes) - 1 ≡ w.at + (i - 1) = omega (arith, g.stands.keeps.behind, length-append log (take i bytes), length-take-le i bytes (omega (arith, g.enough))) in
-    ap (in_header size) last ∙ not_in_header_from size (w.at + (i - 1)) (omega (arith, g.outside, place_on_page w.at (i - 1) on_page, same_header_length size w.at (i - 1) g.size on_page))
+    let counted = length-take-le i bytes (omega (arith, g.enough)) in
+    last_more w.ident.size w.at from log (take i bytes) g.size g.stands.keeps.behind g.outside (omega (arith, counted, g.within)) (omega (arith, counted))
 
 -- where its last byte is zero nothing is wrong
 right_gap : {w : Walker} {timeline : ℕ → ℕ} {from prev : ℕ} {log bytes : List ℕ} {taken : ℕ} (i : ℕ) → IsGapPart w timeline from prev log bytes taken → 0 < i → i ≤ taken → get_or bytes (i - 1) 0 ≡ 0 → IsRight w.ident timeline from prev (log ++ take i bytes)
@@ -163,7 +148,7 @@ right_gap {w = w} {timeline = timeline} {from = from} {prev = prev} {log = log} 
     count = length_is i g within
 
     right : IsRight w.ident timeline from prev longer
-    right (why.Page found) h = both_ways (in_header w.ident.size (from + length longer - 1)) (last_is_content i g some within) (header_fault_inside w.ident timeline from longer found g.size h)
+    right (why.Page found) h = header_fault_last w.ident timeline from longer found g.size h (last_is_content i g some within)
     right (why.Length found) h = absurd (omega (arith, h.0.count_is, count, g.front))
     right (why.Prev found expected) h = absurd (omega (arith, h.0.count_is, count, g.front))
     right why.Reserved h = absurd (omega (arith, h.0.count_is, count, g.front))
@@ -179,19 +164,6 @@ calm_gap {w = w} {from = from} {log = log} {bytes = bytes} i g some within zero 
 
 -- ---- where the walker gets to
 
--- only a page that starts behind the gap can have its header there
-next_page : {w : Walker} {timeline : ℕ → ℕ} {from prev : ℕ} {log bytes : List ℕ} {taken : ℕ} → IsGapPart w timeline from prev log bytes taken → in_header w.ident.size (w.at + taken) ≡ true → (w.at + taken) % 8192 ≡ 0
-next_page {w = w} {taken = taken} g inside =
-    elim (cases_lt (w.at % 8192 + taken) 8192) [
-      | inl on_page ↦ absurd (omega (arith, in_header_tells w.ident.size (w.at + taken) inside, place_on_page w.at taken on_page, same_header_length w.ident.size w.at taken g.size on_page, g.outside))
-      | inr over ↦ omega (arith, g.within)
-    ]
-
--- no byte of it is there
-new_page : (from at : ℕ) (header log : List ℕ) → at ≡ from + length log → at % 8192 ≡ 0 → take (at % 8192) header ≡ from_page from log (page_start at)
-new_page from at header log behind first =
-    ap (λ (n : ℕ). take n header) first ∙ sym (drop_all (page_start at - from) log (omega arith))
-
 keeps_gap : {w : Walker} {timeline : ℕ → ℕ} {from prev : ℕ} {log bytes : List ℕ} {taken : ℕ} → IsGapPart w timeline from prev log bytes taken → Keeps (with_gap w taken) timeline from prev (log ++ take taken bytes)
 keeps_gap {w = w} {from = from} {log = log} {bytes = bytes} {taken = taken} g =
     let k = g.stands.keeps in
@@ -201,6 +173,7 @@ keeps_gap {w = w} {from = from} {log = log} {bytes = bytes} {taken = taken} g =
     let total : length_field (so_far w from (log ++ piece)) ≡ length_field (so_far w from log) = field_is taken g (omega arith) in
     let behind : w.at + taken ≡ from + length (log ++ piece) = omega (arith, k.behind, length-append log piece, length-take-le taken bytes g.enough) in
     let many : w.count ≡ min (length (so_far w from log)) (length_field (so_far w from log)) = k.many g.front in
+    let first : in_header w.ident.size (w.at + taken) ≡ true → (w.at + taken) % 8192 ≡ 0 = at_page w.ident.size w.at taken g.size g.outside (omega (arith, g.within)) in
     record {
       not_refused = k.not_refused;
       begins = k.begins;
@@ -209,8 +182,8 @@ keeps_gap {w = w} {from = from} {log = log} {bytes = bytes} {taken = taken} g =
       behind = behind;
       aligned = k.aligned;
       are_bytes = AreBytes-append log piece k.are_bytes (AreBytes-take taken bytes g.are_bytes);
-      header_is = λ inside began. new_page from (w.at + taken) w.header (log ++ piece) behind (next_page g inside);
-      timeline_is = λ inside began after. absurd (omega (arith, after, next_page g inside));
+      header_is = λ inside began. new_page from (w.at + taken) w.header (log ++ piece) behind (first inside);
+      timeline_is = λ inside began after. absurd (omega (arith, after, first inside));
       front_is = k.front_is ∙ sym (ap (take 24) same ∙ take-append-le 24 (so_far w from log) piece g.front);
       few = λ few. absurd (omega (arith, few, count, g.front));
       many = λ more. omega (arith, many, count, total, g.all);
@@ -251,7 +224,7 @@ gap_differs {w = w} {timeline = timeline} {from = from} {prev = prev} {log = log
     let n = first.place + 1 in
     let inside : first.place < taken = omega (arith, first.within, length-take-le taken bytes g.enough) in
     let within : n ≤ taken = omega arith in
-    let same : take (length log + n) (log ++ bytes) ≡ log ++ take n bytes = take_behind log bytes n in
+    let same : take (length log + n) (log ++ bytes) ≡ log ++ take n bytes = take-append-add log bytes n in
     let byte : get_or (log ++ take n bytes) (length (log ++ take n bytes) - 1) 0 ≡ get_or (take taken bytes) first.place 0 =
     last_byte log bytes n (omega arith) (omega (arith, g.enough)) ∙ ap (λ (i : ℕ). get_or bytes i 0) (omega arith) ∙ sym (get_or-take taken bytes first.place 0 inside) in
     let Fault : List ℕ → Type 0 = λ (t : List ℕ). IsFaultAt w.ident timeline from prev t why.Padding in

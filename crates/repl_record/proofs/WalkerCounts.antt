@@ -8,9 +8,9 @@ use Rattle.repl_record.specs.Checksum.{checksum, checksum_from}
 use Rattle.repl_record.specs.Judging.{HasLength, IsLength, computed_sum, length_field}
 use Rattle.repl_record.specs.Walker.{Keeps, so_far}
 use Rattle.repl_record.specs.Moves.{full_sum, goal, put, total, with_record}
-use Rattle.repl_record.proofs.Calm.{field-append, field-same, field-take}
-use Rattle.repl_record.proofs.Goals.{goal_is}
-use Rattle.repl_record.proofs.Messages.{goes_on}
+use Rattle.repl_record.proofs.Fields.{field-append, field-take}
+use Rattle.repl_record.proofs.ChecksumPieces.{goes_on}
+use Rattle.repl_record.proofs.WalkerGoals.{goal_is}
 
 -- a walker keeps of a record what these bytes of it say
 pub record Holds (w : Walker) (bytes : List ℕ) : Type 0 where
@@ -30,11 +30,12 @@ pub record IsCounted (w : Walker) (bytes : List ℕ) : Type 0 where
 
 -- ---- fields
 
+-- what is kept of the record's first bytes has their fields
+pub field_kept : (w : Walker) (bytes : List ℕ) (place n : ℕ) → take (min w.count 24) w.front ≡ take 24 bytes → place + n ≤ min w.count 24 → field place n w.front ≡ field place n bytes
+field_kept w bytes place n same within = sym (field-take place n (min w.count 24) w.front within) ∙ ap (field place n) same ∙ field-take place n 24 bytes (omega arith)
+
 pub field_is : (w : Walker) (bytes : List ℕ) (place n : ℕ) → IsCounted w bytes → place + n ≤ length bytes → place + n ≤ 24 → field place n w.front ≡ field place n bytes
-field_is w bytes place n counted there within =
-    let m = min w.count 24 in
-    let enough : place + n ≤ m = omega (arith, counted.count_is) in
-    sym (field-take place n m w.front enough) ∙ ap (field place n) counted.holds.front_is ∙ field-take place n 24 bytes within
+field_is w bytes place n counted there within = field_kept w bytes place n counted.holds.front_is (omega (arith, counted.count_is))
 
 pub total_is : (w : Walker) (bytes : List ℕ) → IsCounted w bytes → 4 ≤ length bytes → total w ≡ length_field bytes
 total_is w bytes counted four = field_is w bytes 0 4 counted four (omega arith)
@@ -48,12 +49,9 @@ counted_from w bytes holds has_length unfinished =
           let right = has_length (omega arith) in
           let count = holds.many many in
           let whole : 24 ≤ w.count = omega (arith, right, count) in
-          let total_same : total w ≡ length_field bytes = field-same 0 4 4 w.front bytes (front_same w.front bytes 4 (min w.count 24) holds.front_is (omega arith) (omega arith)) (omega arith) in
+          let total_same : total w ≡ length_field bytes = field_kept w bytes 0 4 holds.front_is (omega arith) in
           record { holds = holds; count_is = omega (arith, goal_is w.count (total w), total_same, count, unfinished); has_length = λ four. right }
     ]
-  where
-    front_same : (front bytes : List ℕ) (k m : ℕ) → take m front ≡ take 24 bytes → k ≤ m → k ≤ 24 → take k front ≡ take k bytes
-    front_same front bytes k m same below within = sym (take-take k m front below) ∙ ap (take k) same ∙ take-take k 24 bytes within
 
 -- ---- a part more
 

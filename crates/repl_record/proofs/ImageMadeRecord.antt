@@ -1,9 +1,9 @@
 -- The bytes of a record are made of its fields: what was read of them is spelled so.
-use Rattle.std.proofs.Common.{◌≡◌, ℕ, ◌+◌, ◌≤◌, List, [], ◌∷◌, ◌++◌, length, get_or, take, drop, refl, sym, ap, ◌∙◌, arith, inl, inr}
+use Rattle.std.proofs.Common.{◌≡◌, ℕ, ◌+◌, ◌≤◌, List, [], ◌∷◌, ◌++◌, length, get_or, take, drop, refl, sym, ap, ◌∙◌, arith}
 use Rattle.std.specs.Int.{w32, w64, from_le_bytes}
-use Rattle.std.proofs.lemmas.Bool.{cases_lt}
-use Rattle.std.proofs.lemmas.List.{length-take, length-drop, get_or-drop, get_or-take, get_or_past, take-take, take-append-drop, drop-take}
+use Rattle.std.proofs.lemmas.List.{length-take, length-drop, get_or-drop, take-append-drop}
 use Rattle.std.proofs.lemmas.Nat.{le_bytes_4, le_bytes_8}
+use Rattle.std.proofs.Math.Seq.{take-add}
 use Rattle.byteorder.specs.Endian.{little_from, little_bytes, little_number}
 use Rattle.byteorder.specs.Numbers.{little_from-take, little_from-lt}
 use Rattle.repl_page.specs.Header.{field}
@@ -11,22 +11,7 @@ use Rattle.repl_record.specs.declared.record.RecordIn.{RecordIn}
 use Rattle.repl_record.specs.Checksum.{checksum}
 use Rattle.repl_record.specs.Record.{AreBytes, IsRecord, total_length, front_bytes, record_bytes}
 use Rattle.repl_record.specs.Judging.{IsLength, length_field, computed_sum}
-
-AreBytes-drop : (n : ℕ) (bytes : List ℕ) → AreBytes bytes → AreBytes (drop n bytes)
-AreBytes-drop n bytes are i = rw get_or-drop (are (n + i))
-
-pub AreBytes-take : (n : ℕ) (bytes : List ℕ) → AreBytes bytes → AreBytes (take n bytes)
-AreBytes-take n bytes are i =
-    elim (cases_lt i n) [
-      | inl inside ↦ rw (get_or-take n bytes i 0 inside) (are i)
-      | inr past ↦ rw (get_or_past (take n bytes) i 0 (omega (arith, length-take n bytes))) (omega arith)
-    ]
-
-take_parts : (m n : ℕ) (bytes : List ℕ) → take (m + n) bytes ≡ take m bytes ++ take n (drop m bytes)
-take_parts m n bytes =
-    sym (take-append-drop m (take (m + n) bytes))
-    ∙ ap (λ (t : List ℕ). t ++ drop m (take (m + n) bytes)) (take-take m (m + n) bytes (omega arith))
-    ∙ ap (λ (t : List ℕ). take m bytes ++ t) (drop-take m n bytes)
+use Rattle.repl_record.proofs.Fields.{AreBytes-drop, AreBytes-take}
 
 joined : {a b c d : List ℕ} → a ≡ b → c ≡ d → a ++ c ≡ b ++ d
 joined {b = b} {c = c} first second = ap (λ (t : List ℕ). t ++ c) first ∙ ap (λ (t : List ℕ). b ++ t) second
@@ -87,9 +72,9 @@ front_is : (prev : ℕ) (bytes : List ℕ) → AreBytes bytes → 24 ≤ length 
     → front_bytes prev (item_of bytes) ≡ take 20 bytes
 front_is prev bytes are enough length_is prev_is reserved =
     let first : little_bytes 4 (total_length (item_of bytes)) ≡ take 4 bytes = ap (little_bytes 4) (total_is bytes enough ∙ sym length_is) ∙ four_at 0 bytes are (omega arith) in
-    let second = joined first (four_at 4 bytes are (omega arith)) ∙ sym (take_parts 4 4 bytes) in
-    let third = joined second (ap (little_bytes 8) (sym prev_is) ∙ eight_at 8 bytes are (omega arith)) ∙ sym (take_parts 8 8 bytes) in
-    joined third (flags_at bytes (omega arith) reserved) ∙ sym (take_parts 16 4 bytes)
+    let second = joined first (four_at 4 bytes are (omega arith)) ∙ sym (take-add 4 4 bytes) in
+    let third = joined second (ap (little_bytes 8) (sym prev_is) ∙ eight_at 8 bytes are (omega arith)) ∙ sym (take-add 8 8 bytes) in
+    joined third (flags_at bytes (omega arith) reserved) ∙ sym (take-add 16 4 bytes)
 
 pub record_is : (prev : ℕ) (bytes : List ℕ) → AreBytes bytes → 24 ≤ length bytes → length_field bytes ≡ length bytes → field 8 8 bytes ≡ prev → field 18 2 bytes ≡ 0 → field 20 4 bytes ≡ computed_sum bytes
     → bytes ≡ record_bytes prev (item_of bytes)
@@ -97,7 +82,7 @@ record_is prev bytes are enough length_is prev_is reserved sum_is =
     let front = front_is prev bytes are enough length_is prev_is reserved in
     let sum : little_bytes 4 (checksum (drop 24 bytes ++ front_bytes prev (item_of bytes))) ≡ take 4 (drop 20 bytes) =
     ap (λ (t : List ℕ). little_bytes 4 (checksum (drop 24 bytes ++ t))) front ∙ ap (little_bytes 4) (sym sum_is) ∙ four_at 20 bytes are (omega arith) in
-    let head : front_bytes prev (item_of bytes) ++ little_bytes 4 (checksum (drop 24 bytes ++ front_bytes prev (item_of bytes))) ≡ take 24 bytes = joined front sum ∙ sym (take_parts 20 4 bytes) in
+    let head : front_bytes prev (item_of bytes) ++ little_bytes 4 (checksum (drop 24 bytes ++ front_bytes prev (item_of bytes))) ≡ take 24 bytes = joined front sum ∙ sym (take-add 20 4 bytes) in
     sym (take-append-drop 24 bytes) ∙ ap (λ (t : List ℕ). t ++ drop 24 bytes) (sym head)
 
 pub item_is_record : (bytes : List ℕ) → AreBytes bytes → IsLength (length bytes) → IsRecord (item_of bytes)

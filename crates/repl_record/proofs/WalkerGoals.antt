@@ -1,5 +1,5 @@
 -- Up to how many of a record's bytes nothing more is judged of it.
-use Rattle.std.proofs.Common.{◌≡◌, ℕ, ◌<◌, ◌≤◌, ◌⊎◌, ◌∙◌, if◌then◌else◌, nat_lt, inl, inr}
+use Rattle.std.proofs.Common.{◌≡◌, ℕ, ◌<◌, ◌≤◌, ◌⊎◌, ◌∙◌, if◌then◌else◌, nat_lt, inl, inr, arith}
 use Rattle.std.proofs.lemmas.Bool.{cases_lt, cond-true, cond-false, lt-ltb, le-ltb}
 
 -- a record of which so many bytes are there, of a length
@@ -34,3 +34,7 @@ goal_is count whole =
                 ]
           ]
     ]
+
+-- where it is passed, the record's bytes are all there
+pub goal_passed : (count whole : ℕ) → next_goal count whole ≤ count → (24 ≤ count) × (whole ≤ count)
+goal_passed count whole passed = (omega (arith, passed, goal_is count whole), omega (arith, passed, goal_is count whole))

@@ -9,7 +9,7 @@ use Rattle.repl_record.specs.declared.answer.WalkStep.TheVariants as step
 use Rattle.repl_record.specs.Record.{IsImage, start_of}
 use Rattle.repl_record.specs.Judging.{IsBeginning}
 use Rattle.repl_record.specs.Log.{RecordEnd, origin, next, IsPrefixOfRecords, IsWholeEnd}
-use Rattle.repl_record.proofs.OneAnswer.{answered, same_answer, same_end}
+use Rattle.repl_record.proofs.LogAnswers.{answered, same_answer, same_end}
 
 -- an image has at least one byte
 image_some : (ident : Ident) (timeline : ℕ → ℕ) (from prev : ℕ) (item : RecordIn) (log : List ℕ) (n : ℕ) → IsSegSize ident.size → from % 8 ≡ 0 → n ≤ length log → IsImage ident timeline from prev item (take n log) → 0 < n

@@ -1,31 +1,22 @@
 -- Where records end in a log that is cut, and in one that goes on.
-use Rattle.std.proofs.Common.{◌≡◌, ℕ, ◌+◌, ◌-◌, ◌≤◌, List, ◌++◌, length, take, drop, sym, ap, ◌∙◌, subst, arith, length-append}
-use Rattle.std.proofs.lemmas.List.{length-take, length-drop, take-take, take-append-le, drop-append-le, drop-take}
+use Rattle.std.proofs.Common.{ℕ, ◌+◌, ◌-◌, ◌≤◌, List, ◌++◌, take, sym, subst, arith, length-append}
+use Rattle.std.proofs.lemmas.List.{length-take}
 use Rattle.repl_page.specs.declared.ident.Ident.{Ident}
 use Rattle.repl_record.specs.Record.{IsImage}
 use Rattle.repl_record.specs.Log.{RecordEnd, origin, next}
+use Rattle.repl_record.proofs.Fields.{part_of_front, part_of_more}
 
 -- no record ends before the log begins
 from_le : (ident : Ident) (timeline : ℕ → ℕ) (from prev : ℕ) (log : List ℕ) (end last : ℕ) → RecordEnd ident timeline from prev log end last → from ≤ end
 from_le ident timeline from prev log end last origin = omega arith
 from_le ident timeline from prev log _ _ (next end last item n before fits image) = let below = from_le ident timeline from prev log end last before in omega arith
 
--- what stands between two places of a front
-part_of_front : (c place n : ℕ) (log : List ℕ) → place + n ≤ c → take n (drop place (take c log)) ≡ take n (drop place log)
-part_of_front c place n log within =
-    let split : c ≡ place + (c - place) = omega arith in
-    ap (λ (k : ℕ). take n (drop place (take k log))) split ∙ ap (take n) (drop-take place (c - place) log) ∙ take-take n (c - place) (drop place log) (omega arith)
-
-part_of_more : (place n : ℕ) (log more : List ℕ) → place + n ≤ length log → take n (drop place (log ++ more)) ≡ take n (drop place log)
-part_of_more place n log more within =
-    ap (take n) (drop-append-le place log more (omega arith)) ∙ take-append-le n (drop place log) more (omega (arith, length-drop place log))
-
 pub kept_by_cut : (ident : Ident) (timeline : ℕ → ℕ) (from prev : ℕ) (log : List ℕ) (c end last : ℕ)
     → RecordEnd ident timeline from prev log end last → end ≤ from + c → RecordEnd ident timeline from prev (take c log) end last
 kept_by_cut ident timeline from prev log c end last origin within = origin
 kept_by_cut ident timeline from prev log c _ _ (next end last item n before fits image) within =
     let below = from_le ident timeline from prev log end last before in
-    let same = sym (part_of_front c (end - from) n log (omega arith)) in
+    let same = sym (part_of_front (end - from) n c log (omega arith)) in
     next end last item n (kept_by_cut ident timeline from prev log c end last before (omega arith)) (omega (arith, length-take c log)) (subst (IsImage ident timeline end last item) same image)
 
 pub only_by_cut : (ident : Ident) (timeline : ℕ → ℕ) (from prev : ℕ) (log : List ℕ) (c end last : ℕ)
@@ -34,7 +25,7 @@ only_by_cut ident timeline from prev log c end last origin = (origin, omega arit
 only_by_cut ident timeline from prev log c _ _ (next end last item n before fits image) =
     let below = from_le ident timeline from prev (take c log) end last before in
     let cut = length-take c log in
-    let same = part_of_front c (end - from) n log (omega arith) in
+    let same = part_of_front (end - from) n c log (omega arith) in
     (next end last item n (only_by_cut ident timeline from prev log c end last before).0 (omega arith) (subst (IsImage ident timeline end last item) same image), omega arith)
 
 pub kept_by_more : (ident : Ident) (timeline : ℕ → ℕ) (from prev : ℕ) (log more : List ℕ) (end last : ℕ)

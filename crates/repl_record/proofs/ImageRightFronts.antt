@@ -1,60 +1,16 @@
 -- Fronts of a record's image: the bytes that are there of the record, and where it is over.
-use Rattle.std.proofs.Common.{◌≡◌, ℕ, ◌+◌, ◌-◌, ◌%◌, ◌<◌, ◌≤◌, false, List, [], ◌∷◌, ◌++◌, length, take, drop, get_or, replicate, refl, sym, ap, ◌∙◌, subst, inl, inr, arith, length-append}
+use Rattle.std.proofs.Common.{◌≡◌, ℕ, ◌+◌, ◌-◌, ◌%◌, ◌<◌, ◌≤◌, false, List, ◌++◌, length, take, get_or, replicate, refl, sym, ap, ◌∙◌, subst, inl, inr, arith, length-append}
 use Rattle.std.proofs.lemmas.Bool.{cases_lt}
-use Rattle.std.proofs.lemmas.List.{drop_all, drop_more, get_or-append_right, get_or-replicate, length-replicate, length-take-le, length-drop, take-append-le, take-take, take_all}
+use Rattle.std.proofs.lemmas.List.{get_or-append_right, get_or-replicate, length-replicate, length-take-le, take-append-le, take_all}
 use Rattle.repl_lsn.specs.Segment.{IsSegSize}
 use Rattle.repl_page.specs.Page.{in_header}
 use Rattle.repl_page.specs.declared.ident.Ident.{Ident}
 use Rattle.repl_record.specs.declared.record.RecordIn.{RecordIn}
 use Rattle.repl_record.specs.Record.{IsImage, LastIsContent, content, record_bytes, total_length}
 use Rattle.repl_record.specs.Judging.{IsOver, length_field}
-use Rattle.repl_record.proofs.Content.{content-append, content-byte, content-nil, content-page, content-take, length-content, take-content}
-use Rattle.repl_record.proofs.ImageFields.{IsBegun, length-record_bytes, length_begun}
-use Rattle.repl_record.proofs.Pages.{header_is, same_eight}
-
--- ---- how many bytes are there
-
--- of a front there are no more
-pub content_front : (size from n : ℕ) (bytes : List ℕ) → length (content size from (take n bytes)) ≤ length (content size from bytes)
-content_front size from n bytes =
-    let front = content size from (take n bytes) in
-    let behind = content size (from + length (take n bytes)) (drop n bytes) in
-    omega (arith, ap length (content-take size from n bytes), length-append front behind)
-
--- without the last byte, which is none of a header, there is one less
-content_last : (size from : ℕ) (bytes : List ℕ) → 0 < length bytes → LastIsContent size from bytes → length (content size from (take (length bytes - 1) bytes)) < length (content size from bytes)
-content_last size from bytes some last =
-    let n = length bytes - 1 in
-    let front = take n bytes in
-    let all : length front ≡ n = length-take-le n bytes (omega arith) in
-    let place : from + length bytes - 1 ≡ from + length front = omega arith in
-    let none : drop (n + 1) bytes ≡ [] = drop_all (n + 1) bytes (omega arith) in
-    let one : drop n bytes ≡ get_or bytes n 0 ∷ [] = drop_more bytes n 0 (omega arith) ∙ ap (λ (t : List ℕ). get_or bytes n 0 ∷ t) none in
-    let counted : content size (from + length front) (drop n bytes) ≡ get_or bytes n 0 ∷ [] =
-    ap (content size (from + length front)) one
-    ∙ content-byte size (from + length front) (get_or bytes n 0) [] (subst (λ (p : ℕ). in_header size p ≡ false) place last)
-    ∙ ap (λ (t : List ℕ). get_or bytes n 0 ∷ t) (content-nil size (from + length front + 1)) in
-    omega (arith, ap length (content-take size from n bytes), length-append (content size from front) (content size (from + length front) (drop n bytes)), ap length counted)
-
--- without one or more there are fewer
-content_short : (size from n : ℕ) (bytes : List ℕ) → n < length bytes → LastIsContent size from bytes → length (content size from (take n bytes)) < length (content size from bytes)
-content_short size from n bytes below last =
-    let m = length bytes - 1 in
-    let same : take n (take m bytes) ≡ take n bytes = take-take n m bytes (omega arith) in
-    omega (arith, ap (λ (t : List ℕ). length (content size from t)) same, content_front size from n (take m bytes), content_last size from bytes (omega arith) last)
-
--- before a page there are eight at least
-pub content_before : (size from page : ℕ) (bytes : List ℕ) → IsSegSize size → page % 8192 ≡ 0 → from + 8 ≤ page → page ≤ from + length bytes → 8 ≤ length (content size from (take (page - from) bytes))
-content_before size from page bytes is is_page behind within =
-    let n = page - from in
-    let front = take n bytes in
-    let all : length front ≡ n = length-take-le n bytes (omega arith) in
-    let first : length (take (n - 8) front) ≡ n - 8 = length-take-le (n - 8) front (omega arith) in
-    let place : from + length (take (n - 8) front) ≡ page - 8 = omega arith in
-    let eight : length (drop (n - 8) front) ≡ 8 = omega (arith, length-drop (n - 8) front) in
-    let counted : content size (from + length (take (n - 8) front)) (drop (n - 8) front) ≡ drop (n - 8) front =
-    content-page size (from + length (take (n - 8) front)) (drop (n - 8) front) is (omega (arith, header_is size (from + length (take (n - 8) front)))) (omega arith) in
-    omega (arith, ap length (content-take size from (n - 8) front), length-append (content size from (take (n - 8) front)) (content size (from + length (take (n - 8) front)) (drop (n - 8) front)), ap length counted)
+use Rattle.repl_record.proofs.Pages.{same_eight}
+use Rattle.repl_record.proofs.Content.{content-append, length-content, take-content, length-content-front, length-content-short}
+use Rattle.repl_record.proofs.ImageRightFields.{IsBegun, length-record_bytes, length_begun}
 
 -- ---- the record's bytes in an image
 
@@ -85,12 +41,12 @@ image_begun ident timeline from prev m item log is =
 pub image_front : (ident : Ident) (timeline : ℕ → ℕ) (from prev m : ℕ) (item : RecordIn) (log : List ℕ) → (is : IsImage ident timeline from prev item log) → m ≤ length is.front → length (content ident.size from (take m log)) ≤ total_length item
 image_front ident timeline from prev m item log is within =
     let same : take m log ≡ take m is.front = ap (take m) is.parts ∙ take-append-le m is.front (replicate is.gap 0) within in
-    omega (arith, ap (λ (t : List ℕ). length (content ident.size from t)) same, content_front ident.size from m is.front, front_length ident timeline from prev item log is)
+    omega (arith, ap (λ (t : List ℕ). length (content ident.size from t)) same, length-content-front ident.size from m is.front, front_length ident timeline from prev item log is)
 
 image_short : (ident : Ident) (timeline : ℕ → ℕ) (from prev m : ℕ) (item : RecordIn) (log : List ℕ) → (is : IsImage ident timeline from prev item log) → m < length is.front → length (content ident.size from (take m log)) < total_length item
 image_short ident timeline from prev m item log is below =
     let same : take m log ≡ take m is.front = ap (take m) is.parts ∙ take-append-le m is.front (replicate is.gap 0) (omega arith) in
-    omega (arith, ap (λ (t : List ℕ). length (content ident.size from t)) same, content_short ident.size from m is.front below is.last, front_length ident timeline from prev item log is)
+    omega (arith, ap (λ (t : List ℕ). length (content ident.size from t)) same, length-content-short ident.size from m is.front below is.last, front_length ident timeline from prev item log is)
 
 -- behind it there are zeros
 pub image_zero : (ident : Ident) (timeline : ℕ → ℕ) (from prev i : ℕ) (item : RecordIn) (log : List ℕ) → (is : IsImage ident timeline from prev item log) → length is.front ≤ i → i < length log → get_or log i 0 ≡ 0

@@ -14,7 +14,7 @@ use Rattle.repl_record.specs.Checksum.{checksum}
 use Rattle.repl_record.specs.Record.{IsRecord, IsImage, HeadersAreSpelled, LastIsContent, content, from_page, front_bytes, record_bytes, remaining, total_length}
 use Rattle.repl_record.specs.Laying.{AreFields, IsLaid, content_of}
 use Rattle.repl_record.proofs.Content.{content-nil, length-content}
-use Rattle.repl_record.proofs.Growth.{old_header}
+use Rattle.repl_record.proofs.LayingBlocks.{old_header}
 
 -- ---- headers are such that fit
 
@@ -57,7 +57,7 @@ agrees_spelled header n bytes written fits spelled =
 -- ---- the whole
 
 -- no page begins among fewer than eight zeros up to a multiple of 8
-pub headers_padded : (place : Place) (front : List ℕ) (gap : ℕ) → IsLaid place front → gap < 8 → place.at % 8 ≡ 0 → length (front ++ replicate gap 0) % 8 ≡ 0
+headers_padded : (place : Place) (front : List ℕ) (gap : ℕ) → IsLaid place front → gap < 8 → place.at % 8 ≡ 0 → length (front ++ replicate gap 0) % 8 ≡ 0
     → HeadersAreSpelled place.ident (λ _. place.tli) place.total place.at (front ++ replicate gap 0)
 headers_padded place front gap laid few aligned rounded page begins above below =
     let counted : length (front ++ replicate gap 0) ≡ length front + gap = length-append front (replicate gap 0) ∙ ap (λ (n : ℕ). length front + n) (length-replicate gap 0) in

@@ -1,36 +1,25 @@
 -- The log from a record's image on has one answer, and an image is answered by its end.
-use Rattle.std.proofs.Common.{◌≡◌, ℕ, ◌+◌, ◌-◌, ◌%◌, ◌<◌, ◌≤◌, true, List, length, take, refl, sym, ap, ◌∙◌, subst, inl, inr, arith}
-use Rattle.std.proofs.lemmas.Bool.{cases_lt, cases_order, false≢true}
+use Rattle.std.proofs.Common.{◌≡◌, ℕ, ◌+◌, ◌-◌, ◌%◌, ◌≤◌, List, length, take, refl, sym, ap, ◌∙◌, subst, inl, inr, arith}
+use Rattle.std.proofs.lemmas.Bool.{cases_lt, cases_order}
 use Rattle.std.proofs.lemmas.List.{length-take-le, take-take, take_all}
 use Rattle.repl_lsn.specs.Segment.{IsSegSize}
 use Rattle.repl_page.specs.declared.fault.PageFault.{PageFault}
 use Rattle.repl_page.specs.declared.ident.Ident.{Ident}
-use Rattle.repl_page.specs.Page.{header_length, in_header}
 use Rattle.repl_page.specs.Header.{IsPageFault, header_of}
 use Rattle.repl_record.specs.declared.record.RecordIn.{RecordIn}
 use Rattle.repl_record.specs.declared.answer.WalkReason.{WalkReason}
 use Rattle.repl_record.specs.declared.answer.WalkReason.TheVariants as why
 use Rattle.repl_record.specs.declared.answer.WalkStep.{WalkStep}
 use Rattle.repl_record.specs.declared.answer.WalkStep.TheVariants as step
-use Rattle.repl_record.specs.Record.{IsImage, LastIsContent, content, from_page, remaining, start_of}
+use Rattle.repl_record.specs.Record.{IsImage, content, from_page, remaining, start_of}
 use Rattle.repl_record.specs.Judging.{Answers, IsBeginning, IsFaultAt, IsFirstFault, IsHeaderFault, IsOpenBefore, IsOver, IsRight, IsSameAnswer, IsWhole, length_field, place_of}
-use Rattle.repl_record.proofs.ImageParts.{front_some, image_length, image_over}
+use Rattle.repl_record.proofs.Pages.{header_is}
+use Rattle.repl_record.proofs.Headers.{one_fault}
+use Rattle.repl_record.proofs.JudgingCalm.{header_fault_last}
+use Rattle.repl_record.proofs.ImageRightFronts.{front_some, image_length, image_over}
 use Rattle.repl_record.proofs.ImageRight.{image_open, image_right}
-use Rattle.repl_record.proofs.PageFaults.{one_fault}
-use Rattle.repl_record.proofs.Pages.{header_is, in_header_from, same_header_length, place_on_page}
 
 -- ---- one reason
-
--- where a header ends the last byte is one of it
-header_last : (ident : Ident) (timeline : ℕ → ℕ) (from : ℕ) (log : List ℕ) (fault : PageFault) → IsSegSize ident.size → IsHeaderFault ident timeline from log fault → ¬ LastIsContent ident.size from log
-header_last ident timeline from log fault size_is is last =
-    let size = ident.size in
-    let i = header_length size is.page - 1 in
-    let place : from + length log - 1 ≡ is.page + i = omega (arith, is.ended, header_is size is.page) in
-    let on_page : is.page % 8192 + i < 8192 = omega (arith, is.is_page, header_is size is.page) in
-    let inside : in_header size (is.page + i) ≡ true =
-    in_header_from size (is.page + i) (omega (arith, place_on_page is.page i on_page, same_header_length size is.page i size_is on_page, is.is_page, header_is size is.page)) in
-    false≢true (sym last ∙ ap (in_header size) place ∙ inside)
 
 -- only one header can end there
 one_header_fault : (ident : Ident) (timeline : ℕ → ℕ) (from : ℕ) (log : List ℕ) (a b : PageFault) → IsHeaderFault ident timeline from log a → IsHeaderFault ident timeline from log b → a ≡ b
@@ -43,16 +32,16 @@ one_header_fault ident timeline from log a b first second =
 -- the counts of bytes tell the other faults apart
 one_reason : (ident : Ident) (timeline : ℕ → ℕ) (from prev : ℕ) (log : List ℕ) (a b : WalkReason) → IsSegSize ident.size → IsFaultAt ident timeline from prev log a → IsFaultAt ident timeline from prev log b → a ≡ b
 one_reason ident timeline from prev log (why.Page a) (why.Page b) size_is first second = ap why.Page (one_header_fault ident timeline from log a b first second)
-one_reason ident timeline from prev log (why.Page a) (why.Length b) size_is first second = absurd (header_last ident timeline from log a size_is first second.0.last)
-one_reason ident timeline from prev log (why.Page a) (why.Prev b c) size_is first second = absurd (header_last ident timeline from log a size_is first second.0.last)
-one_reason ident timeline from prev log (why.Page a) why.Reserved size_is first second = absurd (header_last ident timeline from log a size_is first second.0.last)
-one_reason ident timeline from prev log (why.Page a) (why.Checksum b c) size_is first second = absurd (header_last ident timeline from log a size_is first second.0.last)
-one_reason ident timeline from prev log (why.Page a) why.Padding size_is first second = absurd (header_last ident timeline from log a size_is first second.0)
-one_reason ident timeline from prev log (why.Length a) (why.Page b) size_is first second = absurd (header_last ident timeline from log b size_is second first.0.last)
-one_reason ident timeline from prev log (why.Prev a c) (why.Page b) size_is first second = absurd (header_last ident timeline from log b size_is second first.0.last)
-one_reason ident timeline from prev log why.Reserved (why.Page b) size_is first second = absurd (header_last ident timeline from log b size_is second first.0.last)
-one_reason ident timeline from prev log (why.Checksum a c) (why.Page b) size_is first second = absurd (header_last ident timeline from log b size_is second first.0.last)
-one_reason ident timeline from prev log why.Padding (why.Page b) size_is first second = absurd (header_last ident timeline from log b size_is second first.0)
+one_reason ident timeline from prev log (why.Page a) (why.Length b) size_is first second = absurd (header_fault_last ident timeline from log a size_is first second.0.last)
+one_reason ident timeline from prev log (why.Page a) (why.Prev b c) size_is first second = absurd (header_fault_last ident timeline from log a size_is first second.0.last)
+one_reason ident timeline from prev log (why.Page a) why.Reserved size_is first second = absurd (header_fault_last ident timeline from log a size_is first second.0.last)
+one_reason ident timeline from prev log (why.Page a) (why.Checksum b c) size_is first second = absurd (header_fault_last ident timeline from log a size_is first second.0.last)
+one_reason ident timeline from prev log (why.Page a) why.Padding size_is first second = absurd (header_fault_last ident timeline from log a size_is first second.0)
+one_reason ident timeline from prev log (why.Length a) (why.Page b) size_is first second = absurd (header_fault_last ident timeline from log b size_is second first.0.last)
+one_reason ident timeline from prev log (why.Prev a c) (why.Page b) size_is first second = absurd (header_fault_last ident timeline from log b size_is second first.0.last)
+one_reason ident timeline from prev log why.Reserved (why.Page b) size_is first second = absurd (header_fault_last ident timeline from log b size_is second first.0.last)
+one_reason ident timeline from prev log (why.Checksum a c) (why.Page b) size_is first second = absurd (header_fault_last ident timeline from log b size_is second first.0.last)
+one_reason ident timeline from prev log why.Padding (why.Page b) size_is first second = absurd (header_fault_last ident timeline from log b size_is second first.0)
 one_reason ident timeline from prev log (why.Length a) (why.Length b) size_is first second = ap why.Length (first.1 ∙ sym second.1)
 one_reason ident timeline from prev log (why.Prev a b) (why.Prev c d) size_is first second = ap (λ t. why.Prev t b) (first.2 ∙ sym second.2) ∙ ap (why.Prev c) (first.3 ∙ sym second.3)
 one_reason ident timeline from prev log why.Reserved why.Reserved size_is first second = refl

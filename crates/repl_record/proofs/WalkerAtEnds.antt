@@ -1,6 +1,5 @@
 -- A walker at the beginning of a record's image, and at its end.
-use Rattle.std.proofs.Common.{◌≡◌, ℕ, ◌-◌, ◌%◌, ◌^◌, ◌<◌, ◌≤◌, min, zero, suc, List, [], length, take, None, refl, sym, ap, ◌∙◌, inl, inr, arith}
-use Rattle.std.proofs.lemmas.Bool.{cases_lt}
+use Rattle.std.proofs.Common.{◌≡◌, ℕ, ◌%◌, ◌^◌, ◌<◌, ◌≤◌, min, zero, suc, List, [], length, take, None, refl, sym, ap, ◌∙◌, arith}
 use Rattle.std.proofs.lemmas.List.{drop_all, length-take}
 use Rattle.repl_page.specs.declared.ident.Ident.{Ident}
 use Rattle.repl_page.specs.Page.{page_start}
@@ -9,10 +8,10 @@ use Rattle.repl_record.specs.declared.walker.Walker.{Walker}
 use Rattle.repl_record.specs.Checksum.{checksum, message, remainder}
 use Rattle.repl_record.specs.Judging.{IsBeginning, IsOver, IsRight, length_field}
 use Rattle.repl_record.specs.Walker.{Keeps, Stands, so_far}
-use Rattle.repl_record.specs.Moves.{IsAtEnd, total}
+use Rattle.repl_record.specs.Moves.{IsAtEnd}
 use Rattle.repl_record.proofs.Pages.{header_is}
 use Rattle.repl_record.proofs.Content.{content-nil}
-use Rattle.repl_record.proofs.Calm.{field-same}
+use Rattle.repl_record.proofs.WalkerStands.{many_are, total_is, new_page}
 
 -- ---- the beginning
 
@@ -49,7 +48,7 @@ begun w timeline prev not_refused count sum at aligned follows fits =
         behind = omega arith;
         aligned = aligned;
         are_bytes = λ i. omega arith;
-        header_is = λ inside above. ap (λ (m : ℕ). take m w.header) (first w.at w.from at above) ∙ sym (drop_all (page_start w.at - w.from) [] (omega arith));
+        header_is = λ inside above. new_page w.from w.at w.header [] (omega arith) (first w.at w.from at above);
         timeline_is = λ inside above begun. absurd (omega arith);
         front_is = no_front ∙ ap (take 24) (sym none);
         few = λ less. omega (arith, ap length none);
@@ -69,24 +68,11 @@ begun w timeline prev not_refused count sum at aligned follows fits =
 
 -- ---- the end
 
-many_from : (w : Walker) (bytes : List ℕ) → (length bytes < 24 → w.count ≡ length bytes) → 24 ≤ w.count → 24 ≤ length bytes
-many_from w bytes few whole =
-    elim (cases_lt (length bytes) 24) [
-      | inl less ↦ absurd (omega (arith, few less))
-      | inr many ↦ many
-    ]
-
-total_same : (w : Walker) (bytes : List ℕ) → take (min w.count 24) w.front ≡ take 24 bytes → 24 ≤ w.count → total w ≡ length_field bytes
-total_same w bytes front whole = field-same 0 4 24 w.front bytes (ap (λ (m : ℕ). take m w.front) (all_24 w.count whole) ∙ front) (omega arith)
-  where
-    all_24 : (n : ℕ) → 24 ≤ n → 24 ≡ min n 24
-    all_24 n many = omega arith
-
 pub over_from : (w : Walker) (timeline : ℕ → ℕ) (from prev : ℕ) (log : List ℕ) → Keeps w timeline from prev log → IsAtEnd w → IsOver w.ident.size from log
 over_from w timeline from prev log k end =
     let bytes = so_far w from log in
-    let many = many_from w bytes k.few end.whole in
-    let all : length_field bytes ≤ length bytes = omega (arith, k.many many, total_same w bytes k.front_is end.whole, end.all) in
+    let many = many_are k end.whole in
+    let all : length_field bytes ≤ length bytes = omega (arith, k.many many, total_is k (omega (arith, end.whole)), end.all) in
     record {
       right = k.has_length (omega arith);
       all = all;
@@ -101,6 +87,6 @@ over_tells w timeline from prev log k over =
     let whole : 24 ≤ w.count = omega (arith, k.many many, over.right, over.all) in
     record {
       whole = whole;
-      all = omega (arith, k.many many, total_same w bytes k.front_is whole, over.all);
+      all = omega (arith, k.many many, total_is k (omega arith), over.all);
       rounded = omega (arith, k.behind, over.rounded);
     }

@@ -1,26 +1,19 @@
 -- Between a record's last byte and the end of its image stand fewer than eight bytes, all of the log's and none of a
 -- header, and all zero where nothing is wrong.
-use Rattle.std.proofs.Common.{◌≡◌, ◌≢◌, ℕ, ◌+◌, ◌-◌, ◌%◌, ◌<◌, ◌≤◌, false, List, [], ◌∷◌, ◌++◌, length, get_or, take, drop, replicate, suc, refl, sym, ap, ◌∙◌, subst, inl, inr, arith, length-append}
+use Rattle.std.proofs.Common.{◌≡◌, ◌≢◌, ℕ, ◌+◌, ◌-◌, ◌%◌, ◌<◌, ◌≤◌, false, List, [], ◌∷◌, ◌++◌, length, get_or, take, drop, replicate, suc, refl, sym, ap, ◌∙◌, subst, inl, inr, arith}
 use Rattle.std.proofs.lemmas.Bool.{cases_lt, cases_eq}
-use Rattle.std.proofs.lemmas.List.{length-take-le, length-drop, take-take, take-append-drop, take_more, get_or-drop, get_or-take}
+use Rattle.std.proofs.lemmas.List.{length-take-le, length-drop, take-append-drop, get_or-drop, get_or-take}
 use Rattle.repl_lsn.specs.Segment.{IsSegSize}
 use Rattle.repl_page.specs.declared.ident.Ident.{Ident}
 use Rattle.repl_page.specs.Page.{in_header}
 use Rattle.repl_record.specs.declared.answer.WalkReason.TheVariants as why
 use Rattle.repl_record.specs.Record.{content}
 use Rattle.repl_record.specs.Judging.{IsLength, HasLength, IsOver, IsRight, length_field}
+use Rattle.repl_record.proofs.Fields.{same_number, field-take}
 use Rattle.repl_record.proofs.Pages.{same_eight}
-use Rattle.repl_record.proofs.Content.{content-append, content-byte, content-nil, content-take, take-content}
-use Rattle.repl_record.proofs.HeaderJudged.{same_number, field-take}
+use Rattle.repl_record.proofs.Content.{take-content, length-content-take, length-content-next}
 
 -- ---- fronts of the log
-
--- a longer front has no less content
-length-content-take : (size from m n : ℕ) (log : List ℕ) → m ≤ n → length (content size from (take m log)) ≤ length (content size from (take n log))
-length-content-take size from m n log within =
-    let shorter : length (content size from (take m (take n log))) ≡ length (content size from (take m log)) = ap (λ (t : List ℕ). length (content size from t)) (take-take m n log within) in
-    let parts = ap length (content-take size from m (take n log)) ∙ length-append (content size from (take m (take n log))) (content size (from + length (take m (take n log))) (drop m (take n log))) in
-    omega (arith, shorter, parts)
 
 -- each front with the field has the same length in it
 pub length_field-take : (size from n : ℕ) (log : List ℕ) → 4 ≤ length (content size from (take n log)) → length_field (content size from (take n log)) ≡ length_field (content size from log)
@@ -86,18 +79,6 @@ gap_is size from m log is has going within all some last =
 
 -- ---- its bytes
 
-one_more : (size from i : ℕ) (log : List ℕ) → i < length log → in_header size (from + i) ≡ false → length (content size from (take (i + 1) log)) ≡ length (content size from (take i log)) + 1
-one_more size from i log inside outside =
-    let byte = get_or log i 0 in
-    let front = take i log in
-    let here = ap (λ (k : ℕ). in_header size (from + k)) (length-take-le i log (omega arith)) ∙ outside in
-    let single : length (content size (from + length front) (byte ∷ [])) ≡ 1 =
-    ap length (content-byte size (from + length front) byte [] here) ∙ ap (λ (t : List ℕ). length (byte ∷ t)) (content-nil size (from + length front + 1)) in
-    ap (λ (t : List ℕ). length (content size from t)) (take_more log i 0 inside)
-    ∙ ap length (content-append size from front (byte ∷ []))
-    ∙ length-append (content size from front) (content size (from + length front) (byte ∷ []))
-    ∙ omega (arith, single)
-
 pub zero_in_gap : (ident : Ident) (timeline : ℕ → ℕ) (from prev m : ℕ) (log : List ℕ) → HasLength (content ident.size from log)
     → ((n : ℕ) → n ≤ length log → IsRight ident timeline from prev (take n log))
     → length_field (content ident.size from log) ≤ length (content ident.size from (take m log)) → IsGap ident.size from m log
@@ -106,7 +87,7 @@ zero_in_gap ident timeline from prev m log has right all gap i behind inside =
     let n = i + 1 in
     let outside = gap.outside i behind inside in
     let long = length-take-le n log (omega arith) in
-    let more = one_more ident.size from i log inside outside in
+    let more = length-content-next ident.size from i log inside outside in
     let enough = length-content-take ident.size from m i log behind in
     let same = length_field-take ident.size from n log (omega (arith, has.0)) in
     let place : from + length (take n log) - 1 ≡ from + i = omega arith in

@@ -1,30 +1,22 @@
 -- Bytes of the log at whose ends nothing is judged.
-use Rattle.std.proofs.Common.{◌≡◌, ◌≢◌, ℕ, ◌+◌, ◌-◌, ◌%◌, ◌<◌, ◌≤◌, true, List, [], ◌∷◌, ◌++◌, length, take, drop, suc, refl, sym, ap, ◌∙◌, subst, inl, inr, arith}
+use Rattle.std.proofs.Common.{◌≡◌, ◌≢◌, ℕ, ◌+◌, ◌-◌, ◌%◌, ◌<◌, ◌≤◌, true, List, ◌++◌, length, take, sym, ap, ◌∙◌, subst, inl, inr, arith}
 use Rattle.std.proofs.lemmas.Bool.{cases_lt, both_ways}
-use Rattle.std.proofs.lemmas.List.{take_at, take_all, take-append-le, drop-take}
-use Rattle.byteorder.specs.Endian.{little_number}
-use Rattle.byteorder.specs.Numbers.{little_from-take}
+use Rattle.std.proofs.lemmas.List.{take-append-le}
+use Rattle.std.proofs.Math.Seq.{take-append-add}
 use Rattle.repl_lsn.specs.Segment.{IsSegSize}
 use Rattle.repl_page.specs.declared.ident.Ident.{Ident}
 use Rattle.repl_page.specs.declared.fault.PageFault.{PageFault}
 use Rattle.repl_page.specs.Page.{header_length, in_header}
-use Rattle.repl_page.specs.Header.{field}
 use Rattle.repl_record.specs.declared.answer.WalkReason.TheVariants as why
 use Rattle.repl_record.specs.Record.{LastIsContent, content}
 use Rattle.repl_record.specs.Judging.{IsBeginning, IsHeaderFault, IsOpenBefore, IsOver, IsRight, length_field}
-use Rattle.repl_record.proofs.Pages.{header_is, in_header_from, in_header_tells, place_on_page, same_header_length}
+use Rattle.repl_record.proofs.Pages.{header_is, in_header_tells, place_on_page, same_header_length, still_in_header}
 
 -- no record ends with the log's last byte, and nothing is wrong with it
 abbrev pub IsCalm : Ident → (ℕ → ℕ) → ℕ → ℕ → List ℕ → Type 0
 IsCalm ident timeline from prev log = (¬ IsOver ident.size from log) × IsRight ident timeline from prev log
 
 -- ---- parts of a longer log
-
-pub take_behind : (log piece : List ℕ) (i : ℕ) → take (length log + i) (log ++ piece) ≡ log ++ take i piece
-take_behind [] piece i = ap (λ (n : ℕ). take n piece) (omega arith)
-take_behind (x ∷ xs) piece i =
-    let next : suc (length xs) + i ≡ suc (length xs + i) = omega arith in
-    ap (λ (n : ℕ). take n (x ∷ (xs ++ piece))) next ∙ ap (λ (t : List ℕ). x ∷ t) (take_behind xs piece i)
 
 -- where the log is the beginning of a record, and a piece behind it is calm up to a byte
 pub open_more : (ident : Ident) (timeline : ℕ → ℕ) (from prev : ℕ) (log piece : List ℕ) (k : ℕ) → IsBeginning ident timeline from prev log
@@ -36,22 +28,24 @@ open_more ident timeline from prev log piece k beginning calm m below =
       | inl inside ↦ subst Calm (sym (take-append-le m log piece (omega arith))) (beginning m inside)
       | inr behind ↦
           let i = m - length log in
-          let same : take m (log ++ piece) ≡ log ++ take i piece = ap (λ (n : ℕ). take n (log ++ piece)) (omega arith) ∙ take_behind log piece i in
+          let same : take m (log ++ piece) ≡ log ++ take i piece = ap (λ (n : ℕ). take n (log ++ piece)) (omega arith) ∙ take-append-add log piece i in
           subst Calm (sym same) (calm i (omega arith) (omega arith))
     ]
 
 -- ---- where nothing is judged
 
 -- a header that ends with the last byte has that byte in it
-pub header_fault_inside : (ident : Ident) (timeline : ℕ → ℕ) (from : ℕ) (log : List ℕ) (fault : PageFault) → IsSegSize ident.size → IsHeaderFault ident timeline from log fault → in_header ident.size (from + length log - 1) ≡ true
+header_fault_inside : (ident : Ident) (timeline : ℕ → ℕ) (from : ℕ) (log : List ℕ) (fault : PageFault) → IsSegSize ident.size → IsHeaderFault ident timeline from log fault → in_header ident.size (from + length log - 1) ≡ true
 header_fault_inside ident timeline from log fault is h =
     let size = ident.size in
     let two = header_is size h.page in
     let before = header_length size h.page - 1 in
-    let on_page : h.page % 8192 + before < 8192 = omega (arith, two, h.is_page) in
     let at : from + length log - 1 ≡ h.page + before = omega (arith, two, h.ended) in
-    let inside : in_header size (h.page + before) ≡ true = in_header_from size (h.page + before) (omega (arith, two, h.is_page, place_on_page h.page before on_page, same_header_length size h.page before is on_page)) in
-    ap (in_header size) at ∙ inside
+    ap (in_header size) at ∙ still_in_header size h.page before is (omega (arith, two, h.is_page))
+
+-- so it is no byte of the record
+pub header_fault_last : (ident : Ident) (timeline : ℕ → ℕ) (from : ℕ) (log : List ℕ) (fault : PageFault) → IsSegSize ident.size → IsHeaderFault ident timeline from log fault → ¬ LastIsContent ident.size from log
+header_fault_last ident timeline from log fault is h last = both_ways (in_header ident.size (from + length log - 1)) last (header_fault_inside ident timeline from log fault is h)
 
 -- behind a header no byte is in it
 pub header_fault_behind : (ident : Ident) (timeline : ℕ → ℕ) (from : ℕ) (log : List ℕ) (fault : PageFault) → IsSegSize ident.size → IsHeaderFault ident timeline from log fault → in_header ident.size (from + length log) ≡ true → ⊥
@@ -77,11 +71,11 @@ calm_header ident timeline from prev log is inside none =
     right why.Padding h = both_ways (in_header ident.size (from + length log - 1)) h.0 inside
 
 -- a part of a record that ends with no byte of which something is judged
-pub right_record : (ident : Ident) (timeline : ℕ → ℕ) (from prev : ℕ) (log : List ℕ) → IsSegSize ident.size → LastIsContent ident.size from log
+pub calm_record : (ident : Ident) (timeline : ℕ → ℕ) (from prev : ℕ) (log : List ℕ) → IsSegSize ident.size → LastIsContent ident.size from log
     → length (content ident.size from log) ≢ 4 → length (content ident.size from log) ≢ 16 → length (content ident.size from log) ≢ 20
     → (24 ≤ length (content ident.size from log) → length (content ident.size from log) < length_field (content ident.size from log))
     → IsCalm ident timeline from prev log
-right_record ident timeline from prev log is last four sixteen twenty less = (over, right)
+calm_record ident timeline from prev log is last four sixteen twenty less = (over, right)
   where
     count : ℕ
     count = length (content ident.size from log)
@@ -90,7 +84,7 @@ right_record ident timeline from prev log is last four sixteen twenty less = (ov
     over h = absurd (omega (arith, h.right, h.all, less (omega (arith, h.right, h.all))))
 
     right : IsRight ident timeline from prev log
-    right (why.Page fault) h = both_ways (in_header ident.size (from + length log - 1)) last (header_fault_inside ident timeline from log fault is h)
+    right (why.Page fault) h = header_fault_last ident timeline from log fault is h last
     right (why.Length found) h = four h.0.count_is
     right (why.Prev found expected) h = sixteen h.0.count_is
     right why.Reserved h = twenty h.0.count_is
@@ -98,14 +92,3 @@ right_record ident timeline from prev log is last four sixteen twenty less = (ov
     right why.Padding h = absurd (omega (arith, h.1, h.2, less (omega (arith, h.1, h.2))))
 
 -- ---- fields of a front
-
-pub field-take : (place n k : ℕ) (bytes : List ℕ) → place + n ≤ k → field place n (take k bytes) ≡ field place n bytes
-field-take place n k bytes within =
-    let whole : take k bytes ≡ take (place + (k - place)) bytes = ap (λ (m : ℕ). take m bytes) (omega arith) in
-    ap (field place n) whole ∙ ap (little_number n) (drop-take place (k - place) bytes) ∙ little_from-take 0 n (k - place) (drop place bytes) (omega arith)
-
-pub field-same : (place n k : ℕ) (xs ys : List ℕ) → take k xs ≡ take k ys → place + n ≤ k → field place n xs ≡ field place n ys
-field-same place n k xs ys same within = sym (field-take place n k xs within) ∙ ap (field place n) same ∙ field-take place n k ys within
-
-pub field-append : (place n : ℕ) (xs ys : List ℕ) → place + n ≤ length xs → field place n (xs ++ ys) ≡ field place n xs
-field-append place n xs ys within = field-same place n (length xs) (xs ++ ys) xs (take_at xs ys (length xs) refl ∙ sym (take_all (length xs) xs (omega arith))) within

@@ -7,7 +7,7 @@ use Rattle.std.proofs.lemmas.List.{get_or-append_right, get_or_append_left}
 use Rattle.repl_record.specs.Checksum.{remainder}
 use Rattle.repl_record.specs.Shifts.{past_byte, past_bytes}
 use Rattle.repl_record.specs.declared.checksum_tables.TheConstants.{LEFT_BEHIND}
-use Rattle.repl_record.proofs.Shifts.{past_bytes-last}
+use Rattle.repl_record.proofs.ChecksumShifts.{past_bytes-last}
 
 -- each entry is what stands at its place among those before, moved on by one byte of zeros
 unfoldable follows : List ℕ → List ℕ → Bool

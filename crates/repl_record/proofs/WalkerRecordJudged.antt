@@ -1,57 +1,22 @@
--- What a walker keeps when it has taken a part of a record, and what is judged with the part's last byte.
-use Rattle.std.proofs.Common.{◌≡◌, ℕ, ◌+◌, ◌-◌, ◌%◌, ◌<◌, ◌≤◌, true, List, ◌++◌, length, take, refl, sym, ap, ◌∙◌, subst, inl, inr, arith, length-append}
-use Rattle.std.proofs.lemmas.Bool.{cases_lt, cases_eq, both_ways}
-use Rattle.std.proofs.lemmas.List.{take-take, drop_all, length-take}
-use Rattle.repl_page.specs.Page.{page_start, in_header}
+-- A walker that has taken a part of a record: what is judged with the part's last byte, and where the walker gets to.
+use Rattle.std.proofs.Common.{◌≡◌, ℕ, ◌+◌, ◌<◌, ◌≤◌, List, ◌++◌, length, take, refl, sym, ◌∙◌, subst, inl, inr, arith, length-append}
+use Rattle.std.proofs.lemmas.Bool.{cases_eq}
+use Rattle.std.proofs.lemmas.List.{take-take, length-take}
+use Rattle.std.proofs.Math.Seq.{take-append-add}
 use Rattle.repl_record.specs.declared.answer.WalkReason.{WalkReason}
 use Rattle.repl_record.specs.declared.answer.WalkReason.TheVariants as why
 use Rattle.repl_record.specs.declared.walker.Walker.{Walker}
 use Rattle.repl_record.specs.Record.{AreBytes, start_of}
 use Rattle.repl_record.specs.Judging.{HasLength, IsFaultAt, IsFirstFault, IsLength, IsOpenBefore, IsRight, place_of}
-use Rattle.repl_record.specs.Walker.{Keeps, so_far}
+use Rattle.repl_record.specs.Walker.{so_far}
 use Rattle.repl_record.specs.Moves.{IsFine, IsWrong, Reached, with_record}
-use Rattle.repl_record.proofs.Pages.{in_header_tells, place_on_page, same_header_length}
-use Rattle.repl_record.proofs.Calm.{IsCalm, header_fault_inside, open_more, take_behind}
-use Rattle.repl_record.proofs.Grown.{IsCounted, field_is, full_sum_is, total_is}
-use Rattle.repl_record.proofs.RecordMade.{AreBytes-take}
-use Rattle.repl_record.proofs.RecordMoves.{AreBytes-append, Takes, calm_inside, counted_taken, last_taken}
-
--- behind bytes on one page the position is in a header at its page's first byte alone
-pub at_page : (size at n : ℕ) → Rattle.repl_lsn.specs.Segment.IsSegSize size → Rattle.repl_page.specs.Page.header_length size at ≤ at % 8192 → at % 8192 + n ≤ 8192 → in_header size (at + n) ≡ true → (at + n) % 8192 ≡ 0
-at_page size at n is outside on_page inside =
-    elim (cases_lt (at % 8192 + n) 8192) [
-      | inl within ↦ absurd (omega (arith, in_header_tells size (at + n) inside, place_on_page at n within, same_header_length size at n is within))
-      | inr end ↦ omega arith
-    ]
-
-pub keeps_taken : (w : Walker) (timeline : ℕ → ℕ) (from prev : ℕ) (log piece : List ℕ) → Takes w timeline from prev log piece
-    → (4 ≤ length (so_far w from (log ++ piece)) → HasLength (so_far w from (log ++ piece))) → Keeps (with_record w piece) timeline from prev (log ++ piece)
-keeps_taken w timeline from prev log piece t right =
-    let k = t.stands.keeps in
-    let holds = (counted_taken w timeline from prev log piece t).holds in
-    let at = w.at + length piece in
-    let behind : at ≡ from + length (log ++ piece) = omega (arith, k.behind, length-append log piece) in
-    let first : in_header w.ident.size at ≡ true → at % 8192 ≡ 0 = at_page w.ident.size w.at (length piece) t.size t.outside t.on_page in
-    record {
-      not_refused = k.not_refused;
-      begins = k.begins;
-      follows = k.follows;
-      prev_fits = k.prev_fits;
-      behind = behind;
-      aligned = k.aligned;
-      are_bytes = AreBytes-append log piece k.are_bytes t.are_bytes;
-      header_is = λ inside above. ap (λ (m : ℕ). take m w.header) (first inside) ∙ sym (drop_all (page_start at - from) (log ++ piece) (omega (arith, first inside, behind)));
-      timeline_is = λ inside above begun. absurd (omega (arith, first inside));
-      front_is = holds.front_is;
-      few = holds.few;
-      many = holds.many;
-      sum_is = holds.sum_is;
-      has_length = right;
-      in_gap = λ four all. last_taken w timeline from prev log piece t;
-    }
+use Rattle.repl_record.proofs.Fields.{AreBytes-take}
+use Rattle.repl_record.proofs.JudgingCalm.{IsCalm, open_more, header_fault_last}
+use Rattle.repl_record.proofs.WalkerCounts.{IsCounted, field_is, full_sum_is, total_is}
+use Rattle.repl_record.proofs.WalkerRecord.{IsRecordPart, calm_inside, counted_taken, last_taken, keeps_taken}
 
 -- the length is right where nothing is wrong
-pub length_right : (w : Walker) (bytes : List ℕ) → IsCounted w bytes → IsFine w → 4 ≤ length bytes → HasLength bytes
+length_right : (w : Walker) (bytes : List ℕ) → IsCounted w bytes → IsFine w → 4 ≤ length bytes → HasLength bytes
 length_right w bytes c fine four =
     elim (cases_eq (length bytes) 4) [
       | inl is ↦ subst IsLength (total_is w bytes c four) (fine.length_is (omega (arith, c.count_is)))
@@ -59,7 +24,7 @@ length_right w bytes c fine four =
     ]
 
 -- what is fine with a walker is right with the bytes that it stands for
-right_taken : (w : Walker) (timeline : ℕ → ℕ) (from prev : ℕ) (log piece : List ℕ) → Takes w timeline from prev log piece → IsFine (with_record w piece) → IsRight w.ident timeline from prev (log ++ piece)
+right_taken : (w : Walker) (timeline : ℕ → ℕ) (from prev : ℕ) (log piece : List ℕ) → IsRecordPart w timeline from prev log piece → IsFine (with_record w piece) → IsRight w.ident timeline from prev (log ++ piece)
 right_taken w timeline from prev log piece t fine = right
   where
     bytes : List ℕ
@@ -69,7 +34,7 @@ right_taken w timeline from prev log piece t fine = right
     c = counted_taken w timeline from prev log piece t
 
     right : IsRight w.ident timeline from prev (log ++ piece)
-    right (why.Page fault) h = both_ways (in_header w.ident.size (from + length (log ++ piece) - 1)) (last_taken w timeline from prev log piece t) (header_fault_inside w.ident timeline from (log ++ piece) fault t.size h)
+    right (why.Page fault) h = header_fault_last w.ident timeline from (log ++ piece) fault t.size h (last_taken w timeline from prev log piece t)
     right (why.Length found) h = h.2 (subst IsLength (sym h.1) (length_right (with_record w piece) (so_far w from (log ++ piece)) c fine (omega (arith, h.0.count_is))))
     right (why.Prev found expected) h =
         let field_8 = field_is (with_record w piece) (so_far w from (log ++ piece)) 8 8 c (omega (arith, h.0.count_is)) (omega arith) in
@@ -85,7 +50,7 @@ right_taken w timeline from prev log piece t fine = right
     right why.Padding h = absurd (omega (arith, h.1, h.2, c.count_is, c.holds.many (omega (arith, h.1, h.2))))
 
 -- what is wrong with a walker is wrong with the bytes that it stands for
-fault_taken : (w : Walker) (timeline : ℕ → ℕ) (from prev : ℕ) (log piece : List ℕ) (reason : WalkReason) → Takes w timeline from prev log piece → IsWrong (with_record w piece) reason → IsFaultAt w.ident timeline from prev (log ++ piece) reason
+fault_taken : (w : Walker) (timeline : ℕ → ℕ) (from prev : ℕ) (log piece : List ℕ) (reason : WalkReason) → IsRecordPart w timeline from prev log piece → IsWrong (with_record w piece) reason → IsFaultAt w.ident timeline from prev (log ++ piece) reason
 fault_taken w timeline from prev log piece reason t = wrong reason
   where
     c : IsCounted (with_record w piece) (so_far w from (log ++ piece))
@@ -112,7 +77,7 @@ fault_taken w timeline from prev log piece reason t = wrong reason
 -- ---- of bytes of which a part is taken
 
 -- before the last of them nothing is judged
-calm_before : (w : Walker) (timeline : ℕ → ℕ) (from prev : ℕ) (log bytes : List ℕ) (taken : ℕ) → taken ≤ length bytes → Takes w timeline from prev log (take taken bytes)
+calm_before : (w : Walker) (timeline : ℕ → ℕ) (from prev : ℕ) (log bytes : List ℕ) (taken : ℕ) → taken ≤ length bytes → IsRecordPart w timeline from prev log (take taken bytes)
     → (i : ℕ) → 0 < i → i < taken → IsCalm w.ident timeline from prev (log ++ take i bytes)
 calm_before w timeline from prev log bytes taken within t i some less =
     let all = length-take taken bytes in
@@ -128,7 +93,7 @@ calm_before w timeline from prev log bytes taken within t i some less =
       are_bytes = subst AreBytes (take-take i taken bytes (omega arith)) (AreBytes-take i (take taken bytes) t.are_bytes);
     }) (omega (arith, t.fits, all))
 
-pub record_reached : (w : Walker) (timeline : ℕ → ℕ) (from prev : ℕ) (log bytes : List ℕ) (taken : ℕ) → taken ≤ length bytes → Takes w timeline from prev log (take taken bytes) → IsFine (with_record w (take taken bytes))
+pub record_reached : (w : Walker) (timeline : ℕ → ℕ) (from prev : ℕ) (log bytes : List ℕ) (taken : ℕ) → taken ≤ length bytes → IsRecordPart w timeline from prev log (take taken bytes) → IsFine (with_record w (take taken bytes))
     → Reached (with_record w (take taken bytes)) timeline from prev (log ++ take taken bytes)
 record_reached w timeline from prev log bytes taken within t fine =
     let piece = take taken bytes in
@@ -150,7 +115,7 @@ place_taken w size from log why.Reserved h = refl
 place_taken w size from log (why.Checksum found computed) h = refl
 place_taken w size from log why.Padding h = refl
 
-pub record_refused : (w : Walker) (timeline : ℕ → ℕ) (from prev : ℕ) (log bytes : List ℕ) (taken at : ℕ) (reason : WalkReason) → taken ≤ length bytes → Takes w timeline from prev log (take taken bytes) → IsWrong (with_record w (take taken bytes)) reason
+pub record_refused : (w : Walker) (timeline : ℕ → ℕ) (from prev : ℕ) (log bytes : List ℕ) (taken at : ℕ) (reason : WalkReason) → taken ≤ length bytes → IsRecordPart w timeline from prev log (take taken bytes) → IsWrong (with_record w (take taken bytes)) reason
     → at ≡ start_of w.ident.size from → IsFirstFault w.ident timeline from prev (log ++ bytes) at reason
 record_refused w timeline from prev log bytes taken at reason within t wrong place =
     let Fault : List ℕ → Type 0 = λ part. IsFaultAt w.ident timeline from prev part reason in
@@ -159,6 +124,6 @@ record_refused w timeline from prev log bytes taken at reason within t wrong pla
       n = n;
       within = omega (arith, length-append log bytes);
       first = open_more w.ident timeline from prev log bytes taken t.stands.beginning (calm_before w timeline from prev log bytes taken within t);
-      fault = subst Fault (sym (take_behind log bytes taken)) (fault_taken w timeline from prev log (take taken bytes) reason t wrong);
+      fault = subst Fault (sym (take-append-add log bytes taken)) (fault_taken w timeline from prev log (take taken bytes) reason t wrong);
       place = place ∙ place_taken (with_record w (take taken bytes)) w.ident.size from (take n (log ++ bytes)) reason wrong;
     }

@@ -1,36 +1,20 @@
 -- A record's image grows by what is due of a header and by a block of the record's bytes behind it.
-use Rattle.std.proofs.Common.{◌≡◌, ℕ, ◌+◌, ◌-◌, ◌%◌, ◌<◌, ◌≤◌, ◌⊎◌, ◌==◌, Bool, true, false, cond, Some, None, List, [], ◌++◌, length, take, drop, refl, sym, ap, ◌∙◌, subst, inl, inr, arith, append-nil, append_assoc, length-append, length-drop}
+use Rattle.std.proofs.Common.{◌≡◌, ℕ, ◌+◌, ◌-◌, ◌%◌, ◌<◌, ◌≤◌, ◌⊎◌, ◌==◌, Bool, cond, List, [], ◌++◌, length, take, drop, sym, ap, ◌∙◌, subst, inl, inr, arith, append-nil, append_assoc, length-append, length-drop}
 use Rattle.std.proofs.lemmas.Bool.{cases_lt, cases_eq, eq-eqb, ne_eqb}
-use Rattle.std.proofs.lemmas.List.{take_at, take_rest, take-append-drop, length-take-le, drop_at, take-append-le, drop-append-le, length-take, nil_from_length}
+use Rattle.std.proofs.lemmas.List.{take_at, take_rest, take-append-drop, length-take-le, drop_at, length-take, nil_from_length}
 use Rattle.repl_lsn.specs.Segment.{IsSegSize}
-use Rattle.repl_page.specs.declared.header.LongPart.{LongPart}
 use Rattle.repl_page.specs.declared.ident.Ident.{Ident}
-use Rattle.repl_page.specs.Page.{page_start, header_length, in_header, in_first_page}
-use Rattle.repl_page.specs.Header.{header_of, header_bytes, long_bytes_of}
+use Rattle.repl_page.specs.Page.{page_start, header_length}
+use Rattle.repl_page.specs.Header.{header_of, header_bytes}
 use Rattle.repl_record.specs.declared.laying.Place.{Place}
 use Rattle.repl_record.specs.Record.{content, from_page, remaining, HeadersAreSpelled}
 use Rattle.repl_record.specs.Laying.{IsLaid, content_of, due_header, left_over}
-use Rattle.repl_record.proofs.Pages.{header_is, same_header_length, same_page_start, place_on_page, not_in_header_from}
-use Rattle.repl_record.proofs.Content.{content-append, content-header, content-nil, content-page}
-
--- ---- the length of a header
-
-length-long : (b : Bool) (long : LongPart) → 24 + length (long_bytes_of (cond b (Some long) None)) ≡ cond b 40 24
-length-long true long = refl
-length-long false long = refl
-
-pub length-header_bytes : (ident : Ident) (timeline page left : ℕ) → length (header_bytes (header_of ident timeline page left)) ≡ header_length ident.size page
-length-header_bytes ident timeline page left =
-    let long = header_of ident timeline page left in
-    let whole : length (header_bytes long) ≡ 24 + length (long_bytes_of long.long) = omega arith in
-    whole ∙ length-long (in_first_page ident.size page) _
+use Rattle.repl_record.proofs.Fields.{part_of_more}
+use Rattle.repl_record.proofs.Pages.{header_is, same_header_length, same_page_start, place_on_page, length_of_page}
+use Rattle.repl_record.proofs.Headers.{length-header_bytes, remaining-append}
+use Rattle.repl_record.proofs.Content.{content-append, content-header, content-nil, content-more, last_more}
 
 -- ---- headers of what is longer
-
--- what is left on a page does not change with what follows
-same_remaining : (size total from : ℕ) (log more : List ℕ) (page : ℕ) → page < from + length log → remaining size total from (log ++ more) page ≡ remaining size total from log page
-same_remaining size total from log more page below =
-    ap (λ (front : List ℕ). cond (page == from) 0 (total - length (content size from front))) (take-append-le (page - from) log more (omega arith))
 
 -- a header stays spelled
 pub old_header : (ident : Ident) (timeline total from : ℕ) (log more : List ℕ) (page : ℕ) → from ≤ page → page < from + length log
@@ -40,10 +24,9 @@ old_header ident timeline total from log more page above below spelled =
     let n = header_length ident.size page in
     let whole = ap length spelled ∙ length-header_bytes ident timeline page (remaining ident.size total from log page) in
     let room : n ≤ length (drop (page - from) log) = omega (arith, whole, length-take n (drop (page - from) log)) in
-    ap (take n) (drop-append-le (page - from) log more (omega arith))
-    ∙ take-append-le n (drop (page - from) log) more room
+    part_of_more (page - from) n log more (omega (arith, room, length-drop (page - from) log))
     ∙ spelled
-    ∙ ap (λ (left : ℕ). header_bytes (header_of ident timeline page left)) (sym (same_remaining ident.size total from log more page below))
+    ∙ ap (λ (left : ℕ). header_bytes (header_of ident timeline page left)) (sym (remaining-append ident.size total from page log more below))
 
 -- ---- the header that is due
 
@@ -91,7 +74,7 @@ new_header place done log block begins is =
 -- ---- positions behind the header that is due
 
 -- where the log goes on: with r bytes of a header of n behind it, and so many due
-pub record IsBehind (size position due : ℕ) : Type 0 where
+record IsBehind (size position due : ℕ) : Type 0 where
   pub same : header_length size (position + due) ≡ header_length size position
   pub start : page_start (position + due) ≡ page_start position
   pub place : (position + due) % 8192 ≡ position % 8192 + due
@@ -101,9 +84,7 @@ pub record IsBehind (size position due : ℕ) : Type 0 where
 behind_header : (size position due : ℕ) → IsSegSize size → due ≡ header_length size (page_start position) - position % 8192 → IsBehind size position due
 behind_header size position due is due_is =
     let r = position % 8192 in
-    let to_page : page_start position + r ≡ position = omega arith in
-    let first : (page_start position % 8192) + r < 8192 = omega arith in
-    let limit : header_length size position ≡ header_length size (page_start position) = ap (header_length size) (sym to_page) ∙ same_header_length size (page_start position) r is first in
+    let limit = length_of_page size position is in
     let within : r + due < 8192 = omega (arith, header_is size (page_start position)) in
     record {
       same = same_header_length size position due is within;
@@ -121,26 +102,13 @@ no_content size position header is behind =
       | inr within ↦ content-header size position header is within
     ]
 
--- of the block behind it all is
-block_content : (size position due : ℕ) (block : List ℕ) → IsSegSize size → IsBehind size position due → (position + due) % 8192 + length block ≤ 8192 → content size (position + due) block ≡ block
-block_content size position due block is behind fits = content-page size (position + due) block is (omega (arith, behind.same, behind.outside, behind.place)) fits
-
--- its last byte too
-last_outside : (size position due count : ℕ) → IsSegSize size → IsBehind size position due → (position + due) % 8192 + count ≤ 8192 → 0 < count → in_header size (position + due + count - 1) ≡ false
-last_outside size position due count is behind fits some =
-    let i = count - 1 in
-    let same : position + due + count - 1 ≡ position + due + i = omega arith in
-    let on_page : (position + due) % 8192 + i < 8192 = omega arith in
-    ap (in_header size) same
-    ∙ not_in_header_from size (position + due + i) (omega (arith, behind.same, behind.outside, behind.place, same_header_length size (position + due) i is on_page, place_on_page (position + due) i on_page))
-
 -- ---- a block more
 
 -- what is laid, with what is due of a header and a block behind it
 abbrev pub with_block : Place → ℕ → List ℕ → List ℕ → List ℕ
 with_block place done log block = (log ++ due_header place done log) ++ block
 
-pub content-with_block : (place : Place) (done : ℕ) (log block : List ℕ) → IsSegSize place.ident.size
+content-with_block : (place : Place) (done : ℕ) (log block : List ℕ) → IsSegSize place.ident.size
     → (place.at + length (log ++ due_header place done log)) % 8192 + length block ≤ 8192
     → content_of place (with_block place done log block) ≡ content_of place log ++ block
 content-with_block place done log block is fits =
@@ -151,8 +119,7 @@ content-with_block place done log block is fits =
     let along : place.at + length (log ++ header) ≡ position + length header = omega (arith, length-append log header) in
     let front : content_of place (log ++ header) ≡ content_of place log =
     content-append size place.at log header ∙ ap (λ (t : List ℕ). content_of place log ++ t) (no_content size position header is behind) ∙ append-nil (content_of place log) in
-    let back : content size (place.at + length (log ++ header)) block ≡ block = ap (λ (p : ℕ). content size p block) along ∙ block_content size position (length header) block is behind (omega (arith, along)) in
-    content-append size place.at (log ++ header) block ∙ ap (λ (t : List ℕ). t ++ content size (place.at + length (log ++ header)) block) front ∙ ap (λ (t : List ℕ). content_of place log ++ t) back
+    content-more size (position + length header) place.at (log ++ header) block is (sym along) (omega (arith, behind.same, behind.outside, behind.place)) (omega (arith, along)) ∙ ap (λ (t : List ℕ). t ++ block) front
 
 -- the headers of the pages that begin before the block's end
 headers-with_block : (place : Place) (done : ℕ) (log block : List ℕ) → IsSegSize place.ident.size → IsLaid place log → done ≡ length (content_of place log)
@@ -177,7 +144,7 @@ headers-with_block place done log block is laid done_is fits page begins above b
     ] in
     subst P (sym grouped) spelled
 
-pub IsLaid-with_block : (place : Place) (done : ℕ) (log block : List ℕ) → IsSegSize place.ident.size → IsLaid place log → done ≡ length (content_of place log) → 0 < length block
+IsLaid-with_block : (place : Place) (done : ℕ) (log block : List ℕ) → IsSegSize place.ident.size → IsLaid place log → done ≡ length (content_of place log) → 0 < length block
     → (place.at + length (log ++ due_header place done log)) % 8192 + length block ≤ 8192
     → IsLaid place (with_block place done log block)
 IsLaid-with_block place done log block is laid done_is some fits =
@@ -186,10 +153,9 @@ IsLaid-with_block place done log block is laid done_is some fits =
     let position = place.at + length log in
     let behind = behind_header size position (length header) is (length-due_header place done log) in
     let along : place.at + length (log ++ header) ≡ position + length header = omega (arith, length-append log header) in
-    let end : place.at + length (with_block place done log block) - 1 ≡ position + length header + length block - 1 = omega (arith, length-append log header, length-append (log ++ header) block) in
     record {
       headers = headers-with_block place done log block is laid done_is fits;
-      last = inr (ap (in_header size) end ∙ last_outside size position (length header) (length block) is behind (omega (arith, along)) some);
+      last = inr (last_more size (position + length header) place.at (log ++ header) block is (sym along) (omega (arith, behind.same, behind.outside, behind.place)) (omega (arith, along)) some);
     }
 
 -- of a piece that goes behind what was laid before, only the rest is not laid

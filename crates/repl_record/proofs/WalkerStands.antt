@@ -1,38 +1,23 @@
 -- A walker that stands behind bytes of the log: what it knows of them.
-use Rattle.std.proofs.Common.{◌≡◌, ◌≢◌, ℕ, ◌+◌, ◌-◌, ◌%◌, ◌<◌, ◌≤◌, true, false, List, ◌++◌, length, take, min, refl, sym, ap, ◌∙◌, subst, inl, inr, arith}
+use Rattle.std.proofs.Common.{◌≡◌, ◌≢◌, ℕ, ◌+◌, ◌-◌, ◌%◌, ◌<◌, ◌≤◌, true, false, List, length, take, sym, ap, ◌∙◌, subst, inl, inr, arith}
 use Rattle.std.proofs.lemmas.Bool.{cases_lt, both_ways}
-use Rattle.std.proofs.lemmas.List.{take_all, get_or_append_left, get_or-append_right, get_or-take, get_or_past, length-take}
+use Rattle.std.proofs.lemmas.List.{take_all, drop_all}
 use Rattle.repl_lsn.specs.Segment.{IsSegSize}
-use Rattle.repl_page.specs.Page.{in_header}
-use Rattle.repl_page.specs.Header.{field}
+use Rattle.repl_page.specs.Page.{in_header, page_start}
 use Rattle.repl_record.specs.declared.walker.Walker.{Walker}
-use Rattle.repl_record.specs.Record.{AreBytes}
+use Rattle.repl_record.specs.Record.{from_page}
 use Rattle.repl_record.specs.Judging.{IsOver, length_field}
 use Rattle.repl_record.specs.Walker.{Keeps, Stands, so_far}
 use Rattle.repl_record.specs.Moves.{total}
 use Rattle.repl_record.proofs.Pages.{same_eight}
 use Rattle.repl_record.proofs.Content.{length-content}
-use Rattle.repl_record.proofs.Calm.{field-take}
+use Rattle.repl_record.proofs.WalkerCounts.{field_kept}
 
 -- ---- bytes
 
-pub AreBytes-append : (xs ys : List ℕ) → AreBytes xs → AreBytes ys → AreBytes (xs ++ ys)
-AreBytes-append xs ys first rest i =
-    elim (cases_lt i (length xs)) [
-      | inl inside ↦ omega (arith, get_or_append_left xs ys 0 i inside, first i)
-      | inr behind ↦ omega (arith, get_or-append_right xs ys (length xs) i 0 refl behind, rest (i - length xs))
-    ]
-
-pub AreBytes-take : (n : ℕ) (xs : List ℕ) → AreBytes xs → AreBytes (take n xs)
-AreBytes-take n xs are i =
-    elim (cases_lt i n) [
-      | inl inside ↦ omega (arith, get_or-take n xs i 0 inside, are i)
-      | inr behind ↦ omega (arith, get_or_past (take n xs) i 0 (omega (arith, length-take n xs)))
-    ]
-
 -- ---- a record of which all bytes are there
 
-pub not_over : {w : Walker} {timeline : ℕ → ℕ} {from prev : ℕ} {log : List ℕ} → Stands w timeline from prev log → ¬ IsOver w.ident.size from log
+not_over : {w : Walker} {timeline : ℕ → ℕ} {from prev : ℕ} {log : List ℕ} → Stands w timeline from prev log → ¬ IsOver w.ident.size from log
 not_over {w = w} {from = from} {log = log} s over =
     (s.beginning (length log) (omega arith)).0 (subst (IsOver w.ident.size from) (sym (take_all (length log) log (omega arith))) over)
 
@@ -42,7 +27,7 @@ not_rounded s four all rounded =
     not_over s (record { right = s.keeps.has_length four; all = all; last = s.keeps.in_gap four all; rounded = omega (arith, s.keeps.behind, rounded) })
 
 -- no header of a page is next
-pub not_in_header : {w : Walker} {timeline : ℕ → ℕ} {from prev : ℕ} {log : List ℕ} → IsSegSize w.ident.size → Stands w timeline from prev log → 4 ≤ length (so_far w from log) → length_field (so_far w from log) ≤ length (so_far w from log) → in_header w.ident.size w.at ≡ false
+not_in_header : {w : Walker} {timeline : ℕ → ℕ} {from prev : ℕ} {log : List ℕ} → IsSegSize w.ident.size → Stands w timeline from prev log → 4 ≤ length (so_far w from log) → length_field (so_far w from log) ≤ length (so_far w from log) → in_header w.ident.size w.at ≡ false
 not_in_header {w = w} {from = from} {log = log} is s four all =
     let size = w.ident.size in
     let some : 0 < length log = omega (arith, length-content size from log) in
@@ -71,4 +56,19 @@ count_is {w = w} {from = from} {log = log} k less =
 -- the length that it wrote down is the record's
 pub total_is : {w : Walker} {timeline : ℕ → ℕ} {from prev : ℕ} {log : List ℕ} → Keeps w timeline from prev log → 4 ≤ w.count → total w ≡ length_field (so_far w from log)
 total_is {w = w} {from = from} {log = log} k four =
-    sym (field-take 0 4 (min w.count 24) w.front (omega arith)) ∙ ap (field 0 4) k.front_is ∙ field-take 0 4 24 (so_far w from log) (omega arith)
+    field_kept w (so_far w from log) 0 4 k.front_is (omega arith)
+
+-- where the first 24 bytes are counted, they are there
+pub many_are : {w : Walker} {timeline : ℕ → ℕ} {from prev : ℕ} {log : List ℕ} → Keeps w timeline from prev log → 24 ≤ w.count → 24 ≤ length (so_far w from log)
+many_are {w = w} {from = from} {log = log} k whole =
+    elim (cases_lt (length (so_far w from log)) 24) [
+      | inl few ↦ absurd (omega (arith, k.few few))
+      | inr many ↦ many
+    ]
+
+-- ---- a page that begins
+
+-- no byte of its header is there
+pub new_page : (from at : ℕ) (header log : List ℕ) → at ≡ from + length log → at % 8192 ≡ 0 → take (at % 8192) header ≡ from_page from log (page_start at)
+new_page from at header log behind first =
+    ap (λ (n : ℕ). take n header) first ∙ sym (drop_all (page_start at - from) log (omega arith))

@@ -9,8 +9,8 @@ use Rattle.byteorder.specs.Endian.{little_from}
 use Rattle.byteorder.specs.Numbers.{little_from-cons, little_from-lt, little_number-reads_back}
 use Rattle.repl_record.specs.Checksum.{bits_of, remainder, message}
 use Rattle.repl_record.specs.Shifts.{past_byte, past_bytes}
-use Rattle.repl_record.proofs.Messages.{message-append, remainder-append, remainder-byte}
-use Rattle.repl_record.proofs.Shifts.{past_byte-xor, past_byte-high, past_byte-split, past_bytes-split, past_bytes-xor, remainder-byte_in}
+use Rattle.repl_record.proofs.ChecksumPieces.{message-append, remainder-append, remainder-byte}
+use Rattle.repl_record.proofs.ChecksumShifts.{past_byte-xor, past_byte-high, past_byte-split, past_bytes-split, past_bytes-xor, remainder-byte_in}
 
 -- a number of which one byte is divided
 past_byte-number : (register byte others : ℕ) → byte < 256 → past_byte (bit_xor register (byte + 256 * others)) ≡ bit_xor (past_byte (bit_xor register byte)) others
@@ -22,7 +22,7 @@ past_byte-number register byte others fits =
     ∙ ap (bit_xor (past_byte (bit_xor register byte))) (past_byte-high others)
 
 -- so many bytes are divided as one number that is added to the register
-pub remainder-number : (n register : ℕ) (bytes : List ℕ) → n ≤ length bytes → ((i : ℕ) → slice_index bytes i < 256)
+remainder-number : (n register : ℕ) (bytes : List ℕ) → n ≤ length bytes → ((i : ℕ) → slice_index bytes i < 256)
     → remainder register (message (take n bytes)) ≡ past_bytes n (bit_xor register (little_from 0 n bytes))
 unfolding remainder message past_bytes
 remainder-number zero register bytes enough are_bytes = sym (xor_zero_r register)

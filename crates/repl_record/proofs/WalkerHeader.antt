@@ -1,15 +1,14 @@
 -- A walker that takes a part of a page's header: what it keeps then, and what is judged.
-use Rattle.std.proofs.Common.{◌≡◌, ℕ, ◌+◌, ◌-◌, ◌%◌, ◌<◌, ◌≤◌, ◌⊎◌, ◌==◌, true, cond, Option, Some, None, List, ◌++◌, length, take, drop, min, sym, ap, ◌∙◌, subst, inl, inr, arith, length-append, length-drop}
+use Rattle.std.proofs.Common.{◌≡◌, ℕ, ◌+◌, ◌-◌, ◌%◌, ◌<◌, ◌≤◌, ◌⊎◌, ◌==◌, true, cond, List, ◌++◌, length, take, drop, min, sym, ap, ◌∙◌, subst, inl, inr, arith, length-append, length-drop}
 use Rattle.std.proofs.lemmas.Bool.{cases_eq, cond-true, cond-false, eq-eqb, ne_eqb}
-use Rattle.std.proofs.lemmas.List.{append-nil, drop-append-le, length-take, length-take-le, take-append-drop, take-append-le, take_all, take_at}
+use Rattle.std.proofs.lemmas.List.{drop-append-le, length-take-le, take-append-le, take_all, take_at}
+use Rattle.std.proofs.Math.Seq.{take-append-add}
 use Rattle.repl_lsn.specs.Segment.{IsSegSize}
 use Rattle.repl_page.specs.declared.fault.PageFault.{PageFault}
-use Rattle.repl_page.specs.declared.fault.PageFault.TheVariants as fault
 use Rattle.repl_page.specs.declared.header.PageHeader.{PageHeader}
-use Rattle.repl_page.specs.declared.header.LongPart.{LongPart}
 use Rattle.repl_page.specs.declared.ident.Ident.{Ident}
 use Rattle.repl_page.specs.Page.{page_start, header_length, in_header}
-use Rattle.repl_page.specs.Header.{Agrees, AgreesBehind, AgreesLong, AgreesShort, IsFaultBehind, IsLongFault, IsPageFault, IsShortFault, header_of, judged}
+use Rattle.repl_page.specs.Header.{Agrees, IsPageFault, header_of}
 use Rattle.repl_record.specs.declared.answer.WalkReason.TheVariants as why
 use Rattle.repl_record.specs.declared.walker.Walker.{Walker}
 use Rattle.repl_record.specs.Checksum.{checksum}
@@ -17,60 +16,18 @@ use Rattle.repl_record.specs.Record.{AreBytes, content, from_page, remaining}
 use Rattle.repl_record.specs.Judging.{HasLength, IsFirstFault, IsHeaderFault, IsOpenBefore, length_field}
 use Rattle.repl_record.specs.Walker.{AreOn, Keeps, Stands, so_far}
 use Rattle.repl_record.specs.Moves.{Reached, due_header, put, total, with_header}
-use Rattle.repl_record.proofs.Pages.{header_is, in_header_from, page_start_is_page, place_on_page, same_header_length, same_page_start}
-use Rattle.repl_record.proofs.Content.{content-append, content-header, content-page, content-take}
-use Rattle.repl_record.proofs.Calm.{IsCalm, calm_header, header_fault_behind, open_more, take_behind}
-use Rattle.repl_record.proofs.Standing.{AreBytes-append, AreBytes-take, count_is, total_is, unfinished}
-
--- ---- positions in a header
-
--- so many bytes on it is in the header yet
-still_in_header : (size at i : ℕ) → IsSegSize size → at % 8192 + i < header_length size at → in_header size (at + i) ≡ true
-still_in_header size at i is within =
-    let on_page : at % 8192 + i < 8192 = omega (arith, header_is size at) in
-    in_header_from size (at + i) (omega (arith, place_on_page at i on_page, same_header_length size at i is on_page))
-
--- a page whose header ends here is the one in whose header the position was
-page_of_end : (size at i page : ℕ) → page % 8192 ≡ 0 → at % 8192 + i ≤ header_length size at → at + i ≡ page + header_length size page → page ≡ page_start at
-page_of_end size at i page is_page within ended = omega (arith, header_is size at, header_is size page)
-
--- a page has one header
-length_of_page : (size at : ℕ) → IsSegSize size → header_length size (page_start at) ≡ header_length size at
-length_of_page size at is =
-    let on_page : page_start at % 8192 + at % 8192 < 8192 = omega arith in
-    sym (same_header_length size (page_start at) (at % 8192) is on_page) ∙ ap (header_length size) (omega arith)
-
--- ---- what the bytes of a header add to a record: nothing
-
-content-append-header : (size from at : ℕ) (log piece : List ℕ) → IsSegSize size → at ≡ from + length log → at % 8192 + length piece ≤ header_length size at → content size from (log ++ piece) ≡ content size from log
-content-append-header size from at log piece is behind within =
-    let Within : ℕ → Type 0 = λ (p : ℕ). p % 8192 + length piece ≤ header_length size p in
-    content-append size from log piece ∙ ap (λ (t : List ℕ). content size from log ++ t) (content-header size (from + length log) piece is (subst Within behind within)) ∙ append-nil (content size from log)
-
--- where a header is begun, the record's bytes are those before its page
-content-before_page : (size from page : ℕ) (log : List ℕ) → IsSegSize size → page % 8192 ≡ 0 → from ≤ page → page ≤ from + length log → from + length log ≤ page + header_length size page → content size from log ≡ content size from (take (page - from) log)
-content-before_page size from page log is is_page began ended within =
-    let n = page - from in
-    let behind : page ≡ from + length (take n log) = omega (arith, length-take-le n log (omega arith)) in
-    ap (content size from) (sym (take-append-drop n log)) ∙ content-append-header size from page (take n log) (drop n log) is behind (omega (arith, length-drop n log))
-
--- eight bytes before a page are of records
-eight_before_page : (size from page : ℕ) (log : List ℕ) → IsSegSize size → page % 8192 ≡ 0 → from % 8 ≡ 0 → from < page → page ≤ from + length log → 8 ≤ length (content size from (take (page - from) log))
-eight_before_page size from page log is is_page aligned after within =
-    let n = page - from in
-    let front = take n log in
-    let k = n - 8 in
-    let place : from + length (take k front) ≡ page - 8 = omega (arith, length-take k front, length-take n log) in
-    let eight : length (drop k front) ≡ 8 = omega (arith, length-drop k front, length-take n log) in
-    let here : content size (page - 8) (drop k front) ≡ drop k front = content-page size (page - 8) (drop k front) is (omega (arith, header_is size (page - 8))) (omega arith) in
-    let last : content size (from + length (take k front)) (drop k front) ≡ drop k front = ap (λ (p : ℕ). content size p (drop k front)) place ∙ here in
-    omega (arith, ap length (content-take size from k front), length-append (content size from (take k front)) (content size (from + length (take k front)) (drop k front)), ap length last)
+use Rattle.repl_record.proofs.Fields.{AreBytes-append, AreBytes-take}
+use Rattle.repl_record.proofs.Pages.{header_is, in_header_from, page_start_is_page, place_on_page, same_page_start, still_in_header, page_of_end, length_of_page}
+use Rattle.repl_record.proofs.Headers.{no_fault}
+use Rattle.repl_record.proofs.Content.{content-append-header, content-before_page, eight_before_page}
+use Rattle.repl_record.proofs.JudgingCalm.{IsCalm, calm_header, header_fault_behind, open_more}
+use Rattle.repl_record.proofs.WalkerStands.{count_is, total_is, unfinished}
 
 -- ---- a part of a header
 
 -- The walker stands behind the log's bytes in a page's header, and this piece is the next part of it. The page is on
 -- this timeline, if it begins here.
-pub record IsNextPart (w : Walker) (tli : ℕ) (timeline : ℕ → ℕ) (from prev : ℕ) (log piece : List ℕ) : Type 0 where
+pub record IsHeaderPart (w : Walker) (tli : ℕ) (timeline : ℕ → ℕ) (from prev : ℕ) (log piece : List ℕ) : Type 0 where
   pub stands : Stands w timeline from prev log
   pub size : IsSegSize w.ident.size
   pub some : 0 < length piece
@@ -83,10 +40,10 @@ last_in_header : (size from at : ℕ) (log piece : List ℕ) → IsSegSize size 
 last_in_header size from at log piece is behind some within = ap (in_header size) (omega (arith, length-append log piece)) ∙ still_in_header size at (length piece - 1) is (omega arith)
 
 -- as much of the bytes as the header has room for
-pub next_part : {w : Walker} {timeline : ℕ → ℕ} {from prev : ℕ} {log : List ℕ} (tli : ℕ) (bytes : List ℕ) (taken : ℕ) → Stands w timeline from prev log → AreOn timeline tli w.at (length bytes) → IsSegSize w.ident.size
+pub header_part : {w : Walker} {timeline : ℕ → ℕ} {from prev : ℕ} {log : List ℕ} (tli : ℕ) (bytes : List ℕ) (taken : ℕ) → Stands w timeline from prev log → AreOn timeline tli w.at (length bytes) → IsSegSize w.ident.size
     → w.at % 8192 < header_length w.ident.size w.at → 0 < length bytes → AreBytes bytes → taken ≡ min (header_length w.ident.size w.at - w.at % 8192) (length bytes)
-    → IsNextPart w tli timeline from prev log (take taken bytes)
-next_part {w = w} tli bytes taken s on is inside some are taken_is =
+    → IsHeaderPart w tli timeline from prev log (take taken bytes)
+header_part {w = w} tli bytes taken s on is inside some are taken_is =
     let all : length (take taken bytes) ≡ taken = length-take-le taken bytes (omega arith) in
     record {
       stands = s;
@@ -116,7 +73,7 @@ calm_part {w = w} {timeline = timeline} {from = from} {prev = prev} {log = log} 
         ]
 
 -- up to the piece's last byte nothing is judged
-open_part : {w : Walker} {tli : ℕ} {timeline : ℕ → ℕ} {from prev : ℕ} {log : List ℕ} (bytes : List ℕ) (taken : ℕ) → taken ≤ length bytes → IsNextPart w tli timeline from prev log (take taken bytes)
+open_part : {w : Walker} {tli : ℕ} {timeline : ℕ → ℕ} {from prev : ℕ} {log : List ℕ} (bytes : List ℕ) (taken : ℕ) → taken ≤ length bytes → IsHeaderPart w tli timeline from prev log (take taken bytes)
     → IsOpenBefore w.ident timeline from prev (log ++ bytes) (length log + taken)
 open_part {w = w} {timeline = timeline} {from = from} {prev = prev} {log = log} bytes taken enough h =
     open_more w.ident timeline from prev log bytes taken h.stands.beginning calm
@@ -127,22 +84,22 @@ open_part {w = w} {timeline = timeline} {from = from} {prev = prev} {log = log} 
         let all : length (take taken bytes) ≡ taken = length-take-le taken bytes enough in
         calm_part (take i bytes) h.size h.stands (omega arith) (omega (arith, h.within)) (inl (omega (arith, h.within)))
 
-open_whole : {w : Walker} {tli : ℕ} {timeline : ℕ → ℕ} {from prev : ℕ} {log piece : List ℕ} → IsNextPart w tli timeline from prev log piece → IsOpenBefore w.ident timeline from prev (log ++ piece) (length (log ++ piece))
+open_whole : {w : Walker} {tli : ℕ} {timeline : ℕ → ℕ} {from prev : ℕ} {log piece : List ℕ} → IsHeaderPart w tli timeline from prev log piece → IsOpenBefore w.ident timeline from prev (log ++ piece) (length (log ++ piece))
 open_whole {w = w} {tli = tli} {timeline = timeline} {from = from} {prev = prev} {log = log} {piece = piece} h =
-    let Next : List ℕ → Type 0 = λ (t : List ℕ). IsNextPart w tli timeline from prev log t in
+    let Next : List ℕ → Type 0 = λ (t : List ℕ). IsHeaderPart w tli timeline from prev log t in
     let Open : ℕ → Type 0 = λ (n : ℕ). IsOpenBefore w.ident timeline from prev (log ++ piece) n in
     subst Open (sym (length-append log piece)) (open_part piece (length piece) (omega arith) (subst Next (sym (take_all (length piece) piece (omega arith))) h))
 
 -- a record's bytes are as before
-so_far_is : {w : Walker} {tli : ℕ} {timeline : ℕ → ℕ} {from prev : ℕ} {log piece : List ℕ} → IsNextPart w tli timeline from prev log piece → so_far w from (log ++ piece) ≡ so_far w from log
+so_far_is : {w : Walker} {tli : ℕ} {timeline : ℕ → ℕ} {from prev : ℕ} {log piece : List ℕ} → IsHeaderPart w tli timeline from prev log piece → so_far w from (log ++ piece) ≡ so_far w from log
 so_far_is {w = w} {from = from} {log = log} {piece = piece} h = content-append-header w.ident.size from w.at log piece h.size h.stands.keeps.behind h.within
 
 -- the record has bytes to come
-is_unfinished : {w : Walker} {tli : ℕ} {timeline : ℕ → ℕ} {from prev : ℕ} {log piece : List ℕ} → IsNextPart w tli timeline from prev log piece → 4 ≤ length (so_far w from log) → length (so_far w from log) < length_field (so_far w from log)
+is_unfinished : {w : Walker} {tli : ℕ} {timeline : ℕ → ℕ} {from prev : ℕ} {log piece : List ℕ} → IsHeaderPart w tli timeline from prev log piece → 4 ≤ length (so_far w from log) → length (so_far w from log) < length_field (so_far w from log)
 is_unfinished {w = w} h four = unfinished h.size h.stands (in_header_from w.ident.size w.at (omega (arith, h.within, h.some))) four
 
 -- what is written down of the header is what the log has of it
-header_so_far : {w : Walker} {tli : ℕ} {timeline : ℕ → ℕ} {from prev : ℕ} {log piece : List ℕ} → IsNextPart w tli timeline from prev log piece → from ≤ page_start w.at
+header_so_far : {w : Walker} {tli : ℕ} {timeline : ℕ → ℕ} {from prev : ℕ} {log piece : List ℕ} → IsHeaderPart w tli timeline from prev log piece → from ≤ page_start w.at
     → take (w.at % 8192 + length piece) (put w.header (w.at % 8192) piece) ≡ from_page from (log ++ piece) (page_start w.at)
 header_so_far {w = w} {from = from} {log = log} {piece = piece} h began =
     let place = w.at % 8192 in
@@ -154,7 +111,7 @@ header_so_far {w = w} {from = from} {log = log} {piece = piece} h began =
     take_at (take place w.header ++ piece) (drop (place + length piece) w.header) (place + length piece) (sym whole)
     ∙ ap (λ (t : List ℕ). t ++ piece) old ∙ sym (drop-append-le n log piece (omega arith))
 
-timeline_so_far : {w : Walker} {tli : ℕ} {timeline : ℕ → ℕ} {from prev : ℕ} {log piece : List ℕ} → IsNextPart w tli timeline from prev log piece → from ≤ page_start w.at
+timeline_so_far : {w : Walker} {tli : ℕ} {timeline : ℕ → ℕ} {from prev : ℕ} {log piece : List ℕ} → IsHeaderPart w tli timeline from prev log piece → from ≤ page_start w.at
     → (with_header w tli piece).page_timeline ≡ timeline (page_start w.at)
 timeline_so_far {w = w} {tli = tli} {timeline = timeline} h began =
     elim (cases_eq (w.at % 8192) 0) [
@@ -162,7 +119,7 @@ timeline_so_far {w = w} {tli = tli} {timeline = timeline} h began =
       | inr later ↦ cond-false (w.at % 8192 == 0) tli w.page_timeline (ne_eqb (w.at % 8192) 0 later) ∙ h.stands.keeps.timeline_is (in_header_from w.ident.size w.at (omega (arith, h.within, h.some))) began (omega arith)
     ]
 
-keeps_header : {w : Walker} {tli : ℕ} {timeline : ℕ → ℕ} {from prev : ℕ} {log piece : List ℕ} → IsNextPart w tli timeline from prev log piece → Keeps (with_header w tli piece) timeline from prev (log ++ piece)
+keeps_header : {w : Walker} {tli : ℕ} {timeline : ℕ → ℕ} {from prev : ℕ} {log piece : List ℕ} → IsHeaderPart w tli timeline from prev log piece → Keeps (with_header w tli piece) timeline from prev (log ++ piece)
 keeps_header {w = w} {tli = tli} {timeline = timeline} {from = from} {prev = prev} {log = log} {piece = piece} h =
     let k = h.stands.keeps in
     let same : so_far w from (log ++ piece) ≡ so_far w from log = so_far_is h in
@@ -192,18 +149,18 @@ keeps_header {w = w} {tli = tli} {timeline = timeline} {from = from} {prev = pre
 -- ---- the header that is due
 
 -- where the record had bytes before the page, these are all it has
-before_page : {w : Walker} {tli : ℕ} {timeline : ℕ → ℕ} {from prev : ℕ} {log piece : List ℕ} → IsNextPart w tli timeline from prev log piece → from < page_start w.at
+before_page : {w : Walker} {tli : ℕ} {timeline : ℕ → ℕ} {from prev : ℕ} {log piece : List ℕ} → IsHeaderPart w tli timeline from prev log piece → from < page_start w.at
     → (so_far w from log ≡ content w.ident.size from (take (page_start w.at - from) log)) × (8 ≤ length (so_far w from log))
 before_page {w = w} {from = from} {log = log} h after =
     let k = h.stands.keeps in
     let size = w.ident.size in
     let page = page_start w.at in
     let same : so_far w from log ≡ content size from (take (page - from) log) = content-before_page size from page log h.size (page_start_is_page w.at) (omega arith) (omega (arith, k.behind)) (omega (arith, k.behind, h.within, length_of_page size w.at h.size)) in
-    let eight = eight_before_page size from page log h.size (page_start_is_page w.at) k.aligned after (omega (arith, k.behind)) in
+    let eight = eight_before_page size from page log h.size (page_start_is_page w.at) (omega (arith, after, k.aligned)) (omega (arith, k.behind)) in
     (same, omega (arith, ap length same, eight))
 
 -- how much of the record is on the page and later
-remaining_is : {w : Walker} {tli : ℕ} {timeline : ℕ → ℕ} {from prev : ℕ} {log piece : List ℕ} → IsNextPart w tli timeline from prev log piece → from ≤ page_start w.at
+remaining_is : {w : Walker} {tli : ℕ} {timeline : ℕ → ℕ} {from prev : ℕ} {log piece : List ℕ} → IsHeaderPart w tli timeline from prev log piece → from ≤ page_start w.at
     → cond (page_start w.at == w.from) 0 (total w - w.count) ≡ remaining w.ident.size (length_field (so_far w from (log ++ piece))) from (log ++ piece) (page_start w.at)
 remaining_is {w = w} {from = from} {log = log} {piece = piece} h began =
     let k = h.stands.keeps in
@@ -225,31 +182,27 @@ remaining_is {w = w} {from = from} {log = log} {piece = piece} h began =
 abbrev pub due_on : Ident → (ℕ → ℕ) → ℕ → List ℕ → ℕ → PageHeader
 due_on ident timeline from log page = header_of ident (timeline page) page (remaining ident.size (length_field (content ident.size from log)) from log page)
 
-due_is : {w : Walker} {tli : ℕ} {timeline : ℕ → ℕ} {from prev : ℕ} {log piece : List ℕ} → IsNextPart w tli timeline from prev log piece → from ≤ page_start w.at
+due_is : {w : Walker} {tli : ℕ} {timeline : ℕ → ℕ} {from prev : ℕ} {log piece : List ℕ} → IsHeaderPart w tli timeline from prev log piece → from ≤ page_start w.at
     → due_header (with_header w tli piece) (page_start w.at) ≡ due_on w.ident timeline from (log ++ piece) (page_start w.at)
 due_is {w = w} {tli = tli} {timeline = timeline} h began =
     ap (λ (t : ℕ). header_of w.ident t (page_start w.at) (cond (page_start w.at == w.from) 0 (total w - w.count))) (timeline_so_far h began)
     ∙ ap (header_of w.ident (timeline (page_start w.at)) (page_start w.at)) (remaining_is h began)
 
 -- the record had bytes before the page, or it begins with the page
-is_within : {w : Walker} {tli : ℕ} {timeline : ℕ → ℕ} {from prev : ℕ} {log piece : List ℕ} → IsNextPart w tli timeline from prev log piece → from ≤ page_start w.at
+is_within : {w : Walker} {tli : ℕ} {timeline : ℕ → ℕ} {from prev : ℕ} {log piece : List ℕ} → IsHeaderPart w tli timeline from prev log piece → from ≤ page_start w.at
     → (page_start w.at ≡ from) ⊎ (HasLength (so_far w from (log ++ piece)) × (length (so_far w from (log ++ piece)) < length_field (so_far w from (log ++ piece))))
 is_within {w = w} {from = from} {log = log} {piece = piece} h began =
     let k = h.stands.keeps in
-    let size = w.ident.size in
-    let page = page_start w.at in
     let Within : List ℕ → Type 0 = λ (t : List ℕ). HasLength t × (length t < length_field t) in
-    elim (cases_eq page from) [
+    elim (cases_eq (page_start w.at) from) [
       | inl first ↦ inl first
       | inr later ↦
-          let same = content-before_page size from page log h.size (page_start_is_page w.at) began (omega (arith, k.behind)) (omega (arith, k.behind, h.within, length_of_page size w.at h.size)) in
-          let eight = eight_before_page size from page log h.size (page_start_is_page w.at) k.aligned (omega arith) (omega (arith, k.behind)) in
-          let four : 4 ≤ length (so_far w from log) = omega (arith, eight, ap length same) in
+          let four : 4 ≤ length (so_far w from log) = omega (arith, (before_page h (omega arith)).1) in
           inr (subst Within (sym (so_far_is h)) (k.has_length four, is_unfinished h four))
     ]
 
 -- what is so of the header that is due and of the one written down is so of what the log has on the page
-pub on_log : {w new : Walker} {tli page : ℕ} {timeline : ℕ → ℕ} {from prev : ℕ} {log piece : List ℕ} (P : PageHeader → List ℕ → Type 0) → IsNextPart w tli timeline from prev log piece → from ≤ page_start w.at
+pub on_log : {w new : Walker} {tli page : ℕ} {timeline : ℕ → ℕ} {from prev : ℕ} {log piece : List ℕ} (P : PageHeader → List ℕ → Type 0) → IsHeaderPart w tli timeline from prev log piece → from ≤ page_start w.at
     → w.at % 8192 + length piece ≡ header_length w.ident.size w.at → new ≡ with_header w tli piece → page ≡ page_start w.at
     → P (due_header new page) (take (header_length new.ident.size page) new.header)
     → P (due_on w.ident timeline from (log ++ piece) (page_start w.at)) (from_page from (log ++ piece) (page_start w.at))
@@ -261,50 +214,17 @@ on_log {w = w} {new = new} {tli = tli} {timeline = timeline} {from = from} {log 
     let whole = ap (λ (n : ℕ). take n (put w.header (w.at % 8192) piece)) (length_of_page w.ident.size w.at h.size ∙ sym ended) ∙ header_so_far h began in
     subst (P (due_on w.ident timeline from (log ++ piece) start)) whole due
 
--- ---- a header with a fault agrees with nothing
-
-no_long_fault : (long : LongPart) (bytes : List ℕ) (found : PageFault) → AgreesLong long bytes → ¬ IsLongFault long bytes found
-no_long_fault long bytes (fault.SysId found expected) a h = h.1 (h.0.0 ∙ a.system ∙ sym h.0.1)
-no_long_fault long bytes (fault.SegSize found expected) a h = h.1 (h.0.0 ∙ a.segment ∙ sym h.0.1)
-no_long_fault long bytes (fault.BlockSize found expected) a h = h.1 (h.0.0 ∙ a.page ∙ sym h.0.1)
-no_long_fault long bytes (fault.Magic found expected) a h = h
-no_long_fault long bytes (fault.Info found expected) a h = h
-no_long_fault long bytes (fault.Timeline found expected) a h = h
-no_long_fault long bytes (fault.Address found expected) a h = h
-no_long_fault long bytes (fault.RemLen found expected) a h = h
-
-no_short_fault : (header : PageHeader) (bytes : List ℕ) (found : PageFault) → AgreesShort header bytes → ¬ IsShortFault header bytes found
-no_short_fault header bytes (fault.Magic found expected) a h = h.1 (h.0.0 ∙ a.magic ∙ sym h.0.1)
-no_short_fault header bytes (fault.Info found expected) a h = h.1 (ap judged h.0.0 ∙ a.info ∙ ap judged (sym h.0.1))
-no_short_fault header bytes (fault.Timeline found expected) a h = h.1 (h.0.0 ∙ a.timeline ∙ sym h.0.1)
-no_short_fault header bytes (fault.Address found expected) a h = h.1 (h.0.0 ∙ a.address ∙ sym h.0.1)
-no_short_fault header bytes (fault.RemLen found expected) a h = h.1 (h.0.0 ∙ a.remaining ∙ sym h.0.1)
-no_short_fault header bytes (fault.SysId found expected) a h = h
-no_short_fault header bytes (fault.SegSize found expected) a h = h
-no_short_fault header bytes (fault.BlockSize found expected) a h = h
-
-no_fault_behind : (long : Option LongPart) (bytes : List ℕ) (found : PageFault) → AgreesBehind long bytes → ¬ IsFaultBehind long bytes found
-no_fault_behind None bytes found a h = h
-no_fault_behind (Some long) bytes found a h = no_long_fault long bytes found a h
-
-no_page_fault : (header : PageHeader) (bytes : List ℕ) (found : PageFault) → Agrees header bytes → ¬ IsPageFault header bytes found
-no_page_fault header bytes found a h =
-    elim h [
-      | inl short ↦ no_short_fault header bytes found a.short short
-      | inr long ↦ no_fault_behind header.long (drop 24 bytes) found a.long long.1
-    ]
-
 -- ---- where the walker gets to
 
 -- nothing is judged with the piece's last byte
-pub header_goes_on : {w : Walker} {tli : ℕ} {timeline : ℕ → ℕ} {from prev : ℕ} {log piece : List ℕ} → IsNextPart w tli timeline from prev log piece
+pub header_goes_on : {w : Walker} {tli : ℕ} {timeline : ℕ → ℕ} {from prev : ℕ} {log piece : List ℕ} → IsHeaderPart w tli timeline from prev log piece
     → (w.at % 8192 + length piece < header_length w.ident.size w.at) ⊎ (page_start w.at < from)
     → Reached (with_header w tli piece) timeline from prev (log ++ piece)
 header_goes_on {piece = piece} h unjudged =
     record { keeps = keeps_header h; open_before = open_whole h; right = (calm_part piece h.size h.stands h.some h.within unjudged).1 }
 
 -- the header is the one that is due
-pub header_agrees : {w : Walker} {tli : ℕ} {timeline : ℕ → ℕ} {from prev : ℕ} {log piece : List ℕ} → IsNextPart w tli timeline from prev log piece
+pub header_agrees : {w : Walker} {tli : ℕ} {timeline : ℕ → ℕ} {from prev : ℕ} {log piece : List ℕ} → IsHeaderPart w tli timeline from prev log piece
     → Agrees (due_on w.ident timeline from (log ++ piece) (page_start w.at)) (from_page from (log ++ piece) (page_start w.at))
     → Reached (with_header w tli piece) timeline from prev (log ++ piece)
 header_agrees {w = w} {timeline = timeline} {from = from} {prev = prev} {log = log} {piece = piece} h agrees =
@@ -319,35 +239,28 @@ header_agrees {w = w} {timeline = timeline} {from = from} {prev = prev} {log = l
         let ended : w.at + length piece ≡ f.page + header_length w.ident.size f.page = omega (arith, length-append log piece, h.stands.keeps.behind, f.ended) in
         let one = page_of_end w.ident.size w.at (length piece) f.page f.is_page h.within ended in
         let Fault : ℕ → Type 0 = λ (p : ℕ). IsPageFault (due_on w.ident timeline from (log ++ piece) p) (from_page from (log ++ piece) p) found in
-        no_page_fault (due_on w.ident timeline from (log ++ piece) page) (from_page from (log ++ piece) page) found agrees (subst Fault one f.fault)
+        no_fault (due_on w.ident timeline from (log ++ piece) page) (from_page from (log ++ piece) page) found (subst Fault one f.fault) agrees
 
 -- it has a fault
-header_fault : {w : Walker} {tli : ℕ} {timeline : ℕ → ℕ} {from prev : ℕ} {log piece : List ℕ} (found : PageFault) → IsNextPart w tli timeline from prev log piece → from ≤ page_start w.at → w.at % 8192 + length piece ≡ header_length w.ident.size w.at
+header_fault : {w : Walker} {tli : ℕ} {timeline : ℕ → ℕ} {from prev : ℕ} {log piece : List ℕ} (found : PageFault) → IsHeaderPart w tli timeline from prev log piece → from ≤ page_start w.at → w.at % 8192 + length piece ≡ header_length w.ident.size w.at
     → IsPageFault (due_on w.ident timeline from (log ++ piece) (page_start w.at)) (from_page from (log ++ piece) (page_start w.at)) found
     → IsHeaderFault w.ident timeline from (log ++ piece) found
 header_fault {w = w} {from = from} {log = log} {piece = piece} found h began ended fault =
-    let Within : List ℕ → Type 0 = λ (t : List ℕ). HasLength t × (length t < length_field t) in
     record {
       page = page_start w.at;
       is_page = page_start_is_page w.at;
       began = began;
       ended = omega (arith, length-append log piece, h.stands.keeps.behind, ended, length_of_page w.ident.size w.at h.size);
-      within =
-          elim (cases_eq (page_start w.at) from) [
-            | inl first ↦ inl first
-            | inr later ↦
-                let four : 4 ≤ length (so_far w from log) = omega (arith, (before_page h (omega arith)).1) in
-                inr (subst Within (sym (so_far_is h)) (h.stands.keeps.has_length four, is_unfinished h four))
-          ];
+      within = is_within h began;
       fault = fault;
     }
 
-pub header_differs : {w : Walker} {tli : ℕ} {page : ℕ} {timeline : ℕ → ℕ} {from prev : ℕ} {log : List ℕ} (bytes : List ℕ) (taken : ℕ) (found : PageFault) → page ≡ page_start w.at → taken ≤ length bytes → IsNextPart w tli timeline from prev log (take taken bytes)
+pub header_differs : {w : Walker} {tli : ℕ} {page : ℕ} {timeline : ℕ → ℕ} {from prev : ℕ} {log : List ℕ} (bytes : List ℕ) (taken : ℕ) (found : PageFault) → page ≡ page_start w.at → taken ≤ length bytes → IsHeaderPart w tli timeline from prev log (take taken bytes)
     → from ≤ page_start w.at → w.at % 8192 + length (take taken bytes) ≡ header_length w.ident.size w.at
     → IsPageFault (due_on w.ident timeline from (log ++ take taken bytes) (page_start w.at)) (from_page from (log ++ take taken bytes) (page_start w.at)) found
     → IsFirstFault w.ident timeline from prev (log ++ bytes) page (why.Page found)
 header_differs {w = w} {timeline = timeline} {from = from} {log = log} bytes taken found page_is enough h began ended fault =
-    let same : take (length log + taken) (log ++ bytes) ≡ log ++ take taken bytes = take_behind log bytes taken in
+    let same : take (length log + taken) (log ++ bytes) ≡ log ++ take taken bytes = take-append-add log bytes taken in
     let Fault : List ℕ → Type 0 = λ (t : List ℕ). IsHeaderFault w.ident timeline from t found in
     record {
       n = length log + taken;
