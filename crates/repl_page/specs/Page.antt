@@ -1,6 +1,10 @@
 -- Where the headers of the log's pages stand (after PostgreSQL 17 manual, section "WAL Internals").
-use Rattle.std.specs.Prelude.{ℕ, ◌-◌, ◌%◌, Bool, nat_lt, if◌then◌else◌}
+use Rattle.std.specs.Prelude.{◌≡◌, ℕ, ◌-◌, ◌%◌, Bool, nat_lt, if◌then◌else◌}
 use Rattle.repl_page.specs.declared.header.TheConstants.{PAGE_SIZE}
+
+-- a page begins at the address
+abbrev pub IsPage : ℕ → Type 0
+IsPage address = address % PAGE_SIZE ≡ 0
 
 -- the address of the page in which the position is
 abbrev pub page_start : ℕ → ℕ

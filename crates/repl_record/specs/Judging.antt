@@ -4,7 +4,7 @@
 use Rattle.std.specs.Prelude.{◌≡◌, ◌≢◌, ℕ, ◌+◌, ◌-◌, ◌%◌, ◌<◌, ◌≤◌, ◌⊎◌, List, ◌++◌, length, take, drop, get_or}
 use Rattle.repl_page.specs.declared.ident.Ident.{Ident}
 use Rattle.repl_page.specs.declared.fault.PageFault.{PageFault}
-use Rattle.repl_page.specs.Page.{page_start, header_length}
+use Rattle.repl_page.specs.Page.{IsPage, page_start, header_length}
 use Rattle.repl_page.specs.Header.{IsPageFault, header_of, field}
 use Rattle.repl_record.specs.declared.record.RecordIn.{RecordIn}
 use Rattle.repl_record.specs.declared.record.TheConstants.{BODY_LIMIT}
@@ -41,7 +41,7 @@ pub record Ends (size from count : ℕ) (log : List ℕ) : Type 0 where
 -- the header of a page that began in the log ends, and its fields differ from what is due there
 pub record IsHeaderFault (ident : Ident) (timeline : ℕ → ℕ) (from : ℕ) (log : List ℕ) (why : PageFault) : Type 0 where
   pub page : ℕ
-  pub is_page : page % 8192 ≡ 0
+  pub is_page : IsPage page
   pub began : from ≤ page
   pub ended : from + length log ≡ page + header_length ident.size page
   pub within : (page ≡ from) ⊎ (HasLength (content ident.size from log) × (length (content ident.size from log) < length_field (content ident.size from log)))

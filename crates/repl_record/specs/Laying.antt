@@ -1,4 +1,4 @@
--- A record's image while it is being laid out.
+-- A record's image while it is being laid out. Private clauses cite this.
 use Rattle.std.specs.Prelude.{◌≡◌, ℕ, ◌+◌, ◌-◌, ◌%◌, ◌^◌, ◌<◌, ◌==◌, ◌⊎◌, List, length, drop, if◌then◌else◌}
 use Rattle.repl_lsn.specs.Segment.{IsSegSize}
 use Rattle.repl_page.specs.declared.ident.Ident.{Ident}

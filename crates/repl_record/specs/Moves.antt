@@ -1,5 +1,6 @@
--- How a walker moves on: by a part of a page's header, of a record, or of the gap behind it.
+-- How a walker moves on: by a part of a page's header, of a record, or of the gap behind it. Private clauses cite this.
 use Rattle.std.specs.Prelude.{◌≡◌, ◌≢◌, ℕ, ◌+◌, ◌-◌, ◌%◌, ◌<◌, ◌≤◌, ◌==◌, List, ◌++◌, length, take, drop, nat_lt, if◌then◌else◌, Result, Ok, Err, Some}
+use Rattle.repl_page.specs.declared.header.TheConstants.{PAGE_SIZE}
 use Rattle.repl_page.specs.declared.header.PageHeader.{PageHeader}
 use Rattle.repl_page.specs.Header.{header_of, field}
 use Rattle.repl_record.specs.declared.answer.WalkReason.{WalkReason}
@@ -43,8 +44,8 @@ put list at piece = take at list ++ piece ++ drop (at + length piece) list
 abbrev pub with_header : Walker → ℕ → List ℕ → Walker
 with_header w tli piece = record w {
   at = w.at + length piece;
-  header = put w.header (w.at % 8192) piece;
-  page_timeline = if w.at % 8192 == 0 then tli else w.page_timeline;
+  header = put w.header (w.at % PAGE_SIZE) piece;
+  page_timeline = if w.at % PAGE_SIZE == 0 then tli else w.page_timeline;
 }
 
 -- behind a part of a record, which ends before or with its first 24 bytes, or begins behind them

@@ -3,7 +3,7 @@
 use Rattle.std.specs.Prelude.{◌≡◌, ℕ, ◌+◌, ◌-◌, ◌%◌, ◌^◌, ◌<◌, ◌≤◌, ◌==◌, false, List, [], ◌∷◌, ◌++◌, length, take, drop, get_or, replicate, if◌then◌else◌}
 use Rattle.byteorder.specs.Endian.{little_bytes}
 use Rattle.repl_page.specs.declared.ident.Ident.{Ident}
-use Rattle.repl_page.specs.Page.{page_start, header_length, in_header}
+use Rattle.repl_page.specs.Page.{IsPage, page_start, header_length, in_header}
 use Rattle.repl_page.specs.Header.{Agrees, header_of, header_bytes}
 use Rattle.repl_record.specs.declared.record.RecordIn.{RecordIn}
 use Rattle.repl_record.specs.declared.record.TheConstants.{BODY_LIMIT}
@@ -62,13 +62,13 @@ remaining size total from log page = if page == from then 0 else total - length 
 -- the header of each page that starts in the log from this position on is the one of this record's image
 abbrev pub HeadersAgree : Ident → (ℕ → ℕ) → ℕ → ℕ → List ℕ → Type 0
 HeadersAgree ident timeline total from log =
-    (page : ℕ) → page % 8192 ≡ 0 → from ≤ page → page < from + length log
+    (page : ℕ) → IsPage page → from ≤ page → page < from + length log
     → Agrees (header_of ident (timeline page) page (remaining ident.size total from log page)) (from_page from log page)
 
 -- the same, and the header is spelled with nothing else in it
 abbrev pub HeadersAreSpelled : Ident → (ℕ → ℕ) → ℕ → ℕ → List ℕ → Type 0
 HeadersAreSpelled ident timeline total from log =
-    (page : ℕ) → page % 8192 ≡ 0 → from ≤ page → page < from + length log
+    (page : ℕ) → IsPage page → from ≤ page → page < from + length log
     → take (header_length ident.size page) (from_page from log page) ≡ header_bytes (header_of ident (timeline page) page (remaining ident.size total from log page))
 
 -- The bytes, which are those of the log from a position up to another, are the image of this record behind one that

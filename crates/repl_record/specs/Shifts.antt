@@ -1,4 +1,4 @@
--- The register moved on by whole bytes of zeros, from which the tables are made.
+-- The register moved on by whole bytes of zeros, from which the tables are made. Private clauses cite this.
 use Rattle.std.specs.Prelude.{ℕ, zero, suc}
 use Rattle.repl_record.specs.Checksum.{bits_of, remainder}
 

@@ -1,6 +1,8 @@
 -- What a walker stands for: the log's bytes since the image of the present record began.
 use Rattle.std.specs.Prelude.{◌≡◌, ℕ, ◌+◌, ◌%◌, ◌^◌, ◌<◌, ◌≤◌, true, List, [], ◌++◌, length, take, drop, min, Some, None}
-use Rattle.repl_page.specs.Page.{page_start, in_header}
+use Rattle.repl_page.specs.declared.header.TheConstants.{PAGE_SIZE}
+use Rattle.repl_page.specs.declared.ident.Ident.{Ident}
+use Rattle.repl_page.specs.Page.{IsPage, page_start, in_header}
 use Rattle.repl_record.specs.declared.answer.WalkReason.{WalkReason}
 use Rattle.repl_record.specs.declared.answer.WalkStep.{WalkStep}
 use Rattle.repl_record.specs.declared.answer.WalkStep.TheVariants as step
@@ -12,6 +14,10 @@ use Rattle.repl_record.specs.Judging.{HasLength, IsBeginning, length_field}
 -- the position of the next byte
 abbrev pub position : Walker → ℕ
 position w = w.at
+
+-- what the pages of its log have in common
+abbrev pub identity : Walker → Ident
+identity w = w.ident
 
 -- the record's bytes among these
 abbrev pub so_far : Walker → ℕ → List ℕ → List ℕ
@@ -27,7 +33,7 @@ pub record Keeps (w : Walker) (timeline : ℕ → ℕ) (from prev : ℕ) (log : 
   pub aligned : from % 8 ≡ 0
   pub are_bytes : AreBytes log
   -- the header of the page in which the position is, if that page began behind `from`
-  pub header_is : in_header w.ident.size w.at ≡ true → from ≤ page_start w.at → take (w.at % 8192) w.header ≡ from_page from log (page_start w.at)
+  pub header_is : in_header w.ident.size w.at ≡ true → from ≤ page_start w.at → take (w.at % PAGE_SIZE) w.header ≡ from_page from log (page_start w.at)
   pub timeline_is : in_header w.ident.size w.at ≡ true → from ≤ page_start w.at → page_start w.at < w.at → w.page_timeline ≡ timeline (page_start w.at)
   -- the record's first 24 bytes, how many it has so far, and the checksum of its body
   pub front_is : take (min w.count 24) w.front ≡ take 24 (so_far w from log)
@@ -49,7 +55,7 @@ Refuses w at reason = w.refused ≡ Some (record { at = at; why = reason })
 
 -- each page that starts in so many bytes from this position on is on this timeline
 abbrev pub AreOn : (ℕ → ℕ) → ℕ → ℕ → ℕ → Type 0
-AreOn timeline tli from count = (page : ℕ) → page % 8192 ≡ 0 → from ≤ page → page < from + count → timeline page ≡ tli
+AreOn timeline tli from count = (page : ℕ) → IsPage page → from ≤ page → page < from + count → timeline page ≡ tli
 
 -- where the walker stands after an answer: behind the record that ended, or behind all bytes, or it refuses
 abbrev pub GoesOn : Walker → (ℕ → ℕ) → ℕ → ℕ → List ℕ → List ℕ → WalkStep → Type 0

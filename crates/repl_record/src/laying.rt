@@ -6,17 +6,15 @@ ghost use Rattle.repl_record.specs.Checksum.{checksum};
 ghost use Rattle.repl_record.specs.Laying.{AreFields, IsLaid, content_of, due_header};
 
 use crate::checksum::crc32c;
-use crate::record::{BODY_LIMIT, Laid, RecordIn, RecordRefusal};
+use crate::record::{BODY_LIMIT, HEAD_LENGTH, Laid, RecordIn, RecordRefusal};
 use byteorder::{ByteOrder, LittleEndian};
 use bytes::Bytes;
 use repl_lsn::{Lsn, Tli};
 use repl_page::{HEADER_LIMIT, Ident, PAGE_SIZE, header_size, write_header, written_agrees};
 use std::alloc::{AllocError, Global};
 
-/// How many bytes of a record stand before its checksum, and how many before its body.
+/// How many bytes of a record stand before its checksum.
 const FRONT_LENGTH: usize = 20;
-
-const HEAD_LENGTH: usize = 24;
 
 /// What images are rounded up to a multiple of.
 const ROUNDING: usize = 8;
@@ -215,7 +213,7 @@ fn position_behind(place: &Place, out: &Vec<u8>) -> Lsn
 /// How many bytes the page has from their end on.
 fn room_on_page(place: &Place, out: &Vec<u8>) -> usize
     requires { place.now.at ≤ 2 ^ 62 }
-    ensures { result + (place.now.at + length out.now.items) % 8192 ≡ 8192 }
+    ensures { result + (place.now.at + length out.now.items) % PAGE_SIZE ≡ PAGE_SIZE }
 {
     let page_size = u64::from(PAGE_SIZE);
     let room = page_size - position_behind(place, out).0 % page_size;

@@ -9,8 +9,8 @@ ghost use Rattle.repl_record.specs.Moves.{Moved, Took, IsOfOneLog, IsAtEnd, IsEn
 
 use crate::answer::{WalkReason, WalkStep};
 use crate::checksum::crc32c;
-use crate::record::BODY_LIMIT;
-use crate::walker::{FRONT_LENGTH, Refusal, Walker};
+use crate::record::{BODY_LIMIT, HEAD_LENGTH};
+use crate::walker::{Refusal, Walker};
 use byteorder::{ByteOrder, LittleEndian};
 use repl_lsn::{Lsn, Tli};
 use repl_page::{PAGE_SIZE, PageFault, check_header, header_size};
@@ -40,7 +40,7 @@ impl Walker {
 
     /// Where on its page the next byte stands.
     fn place(&self) -> usize
-        ensures { result ≡ self.now.at % 8192 }
+        ensures { result ≡ self.now.at % PAGE_SIZE }
     {
         (self.at.0 % PAGE) as usize
     }
@@ -59,7 +59,7 @@ impl Walker {
         requires some { 0 < length bytes.now }
         requires room { position self.old + length bytes.now ≤ 2 ^ 63 }
         requires size { IsSegSize self.old.ident.size }
-        requires inside { self.old.at % 8192 < header_length self.old.ident.size self.old.at }
+        requires inside { self.old.at % PAGE_SIZE < header_length self.old.ident.size self.old.at }
         ensures moved { (timeline : ℕ → ℕ) (from prev : ℕ) (log : List ℕ) → Stands self.old timeline from prev log → AreOn timeline tli (position self.old) (length bytes.now)
             → Moved self.old self.new timeline from prev log bytes.now result }
         ensures took { Took self.old self.new bytes.now result }
@@ -84,7 +84,7 @@ impl Walker {
 
     /// Writes a part of a page's header down.
     fn keep_header(&mut self, tli: Tli, piece: &[u8])
-        requires fits { self.old.at % 8192 + length piece.now ≤ 40 }
+        requires fits { self.old.at % PAGE_SIZE + length piece.now ≤ 40 }
         requires room { position self.old + length piece.now ≤ 2 ^ 63 }
         ensures { self.new ≡ with_header self.old tli piece.now }
     {
@@ -136,7 +136,7 @@ impl Walker {
         requires some { 0 < length bytes.now }
         requires room { position self.old + length bytes.now ≤ 2 ^ 63 }
         requires size { IsSegSize self.old.ident.size }
-        requires outside { header_length self.old.ident.size self.old.at ≤ self.old.at % 8192 }
+        requires outside { header_length self.old.ident.size self.old.at ≤ self.old.at % PAGE_SIZE }
         requires unfinished { self.old.count < goal self.old }
         ensures moved { (timeline : ℕ → ℕ) (from prev : ℕ) (log : List ℕ) → Stands self.old timeline from prev log
             → Moved self.old self.new timeline from prev log bytes.now result }
@@ -164,7 +164,7 @@ impl Walker {
         ensures { self.new ≡ with_record self.old piece.now }
     {
         let count = self.count as usize;
-        if count < FRONT_LENGTH {
+        if count < HEAD_LENGTH {
             self.front[count..count + piece.len()].copy_from_slice(piece);
         } else {
             self.sum = crc32c(self.sum, piece);
@@ -182,7 +182,7 @@ impl Walker {
             4 => self.judge_length(),
             16 => self.judge_prev(),
             20 => self.judge_reserved(),
-            count if count >= FRONT_LENGTH as u32 && count == self.total() => self.judge_sum(),
+            count if count >= HEAD_LENGTH as u32 && count == self.total() => self.judge_sum(),
             _ => Ok(()),
         }
     }
@@ -193,7 +193,7 @@ impl Walker {
         ensures wrong { IfErr result (λ why. (why ≡ WalkReason.Length (total self.now)) × ¬ IsLength (total self.now)) }
     {
         let found = self.total();
-        if (FRONT_LENGTH..=BODY_LIMIT + FRONT_LENGTH).contains(&(found as usize)) {
+        if (HEAD_LENGTH..=BODY_LIMIT + HEAD_LENGTH).contains(&(found as usize)) {
             Ok(())
         } else {
             Err(WalkReason::Length { found })
@@ -247,7 +247,7 @@ impl Walker {
         requires some { 0 < length bytes.now }
         requires room { position self.old + length bytes.now ≤ 2 ^ 63 }
         requires size { IsSegSize self.old.ident.size }
-        requires outside { header_length self.old.ident.size self.old.at ≤ self.old.at % 8192 }
+        requires outside { header_length self.old.ident.size self.old.at ≤ self.old.at % PAGE_SIZE }
         requires finished { goal self.old ≤ self.old.count }
         ensures moved { (timeline : ℕ → ℕ) (from prev : ℕ) (log : List ℕ) → Stands self.old timeline from prev log
             → Moved self.old self.new timeline from prev log bytes.now result }
@@ -288,7 +288,7 @@ impl Walker {
     pub(crate) fn is_over(&self) -> bool
         ensures { IsTrue result ↔ IsAtEnd self.now }
     {
-        self.count >= FRONT_LENGTH as u32 && self.count == self.total() && self.at.0 % 8 == 0
+        self.count >= HEAD_LENGTH as u32 && self.count == self.total() && self.at.0 % 8 == 0
     }
 
     /// Begins the next record behind the present one, which ended with the last of so many bytes, and tells its end.

@@ -6,6 +6,9 @@ use thiserror::Error;
 /// The most bytes that a record's body has.
 pub const BODY_LIMIT: usize = 1_048_576;
 
+/// How many bytes a record has before its body.
+pub(crate) const HEAD_LENGTH: usize = 24;
+
 /// What a record says.
 #[derive(Debug, Drop)]
 pub struct RecordIn {

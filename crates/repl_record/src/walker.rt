@@ -1,14 +1,12 @@
 ghost use Rattle.std.specs.Prelude.{◌≡◌, ◌+◌, ◌%◌, ◌^◌, ◌<◌, ◌≤◌, ◌++◌, ℕ, List, [], length};
 ghost use Rattle.repl_record.specs.declared.answer.WalkReason.{WalkReason};
 ghost use Rattle.repl_record.specs.Judging.{Answers};
-ghost use Rattle.repl_record.specs.Walker.{position, Stands, Refuses, AreOn, GoesOn, Passes};
+ghost use Rattle.repl_record.specs.Walker.{identity, position, Stands, Refuses, AreOn, GoesOn, Passes};
 
 use crate::answer::{WalkReason, WalkStep};
+use crate::record::HEAD_LENGTH;
 use repl_lsn::{Lsn, Tli};
 use repl_page::{HEADER_LIMIT, Ident};
-
-/// How many bytes a record has before its body.
-pub(crate) const FRONT_LENGTH: usize = 24;
 
 /// What a walker that met a fault answers from then on.
 #[derive(Clone, Copy, Debug)]
@@ -33,7 +31,7 @@ pub struct Walker {
     /// The timeline that is due in it.
     pub(crate) page_timeline: Tli,
     /// The record's first bytes, as far as they are there.
-    pub(crate) front: [u8; FRONT_LENGTH],
+    pub(crate) front: [u8; HEAD_LENGTH],
     /// How many of the record's bytes are there.
     pub(crate) count: u32,
     /// The checksum of those of its body.
@@ -47,7 +45,7 @@ impl Walker {
     pub fn new(at: Lsn, prev: Lsn, ident: Ident) -> Walker
         requires { at % 8 ≡ 0 }
         ensures stands { (timeline : ℕ → ℕ) → Stands result timeline at prev [] }
-        ensures ident { result.ident ≡ ident }
+        ensures ident { identity result ≡ ident }
     {
         let _fits = prev.0;
         Walker {
@@ -57,7 +55,7 @@ impl Walker {
             at,
             header: [0; HEADER_LIMIT],
             page_timeline: Tli(1),
-            front: [0; FRONT_LENGTH],
+            front: [0; HEAD_LENGTH],
             count: 0,
             sum: 0,
             refused: None,
@@ -77,12 +75,12 @@ impl Walker {
         requires { position self.old + length bytes.now ≤ 2 ^ 63 }
         // What is answered is so of all bytes since the record's image began.
         ensures answers { (timeline : ℕ → ℕ) (from prev : ℕ) (log : List ℕ) → Stands self.old timeline from prev log → AreOn timeline tli (position self.old) (length bytes.now)
-            → Answers self.old.ident timeline from prev (log ++ bytes.now) result }
+            → Answers (identity self.old) timeline from prev (log ++ bytes.now) result }
         // The walker stands behind them, or behind the record that ended, or it refuses.
         ensures goes_on { (timeline : ℕ → ℕ) (from prev : ℕ) (log : List ℕ) → Stands self.old timeline from prev log → AreOn timeline tli (position self.old) (length bytes.now)
             → GoesOn self.new timeline from prev log bytes.now result }
         ensures again { (at : ℕ) (reason : WalkReason) → Refuses self.old at reason → (result ≡ WalkStep.Bad at reason) × Refuses self.new at reason }
-        ensures ident { self.new.ident ≡ self.old.ident }
+        ensures ident { identity self.new ≡ identity self.old }
         ensures passes { Passes self.old self.new (length bytes.now) result }
     {
         if let Some(refusal) = self.refused {
