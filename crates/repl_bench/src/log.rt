@@ -1,13 +1,8 @@
+use crate::records::{FAR, ORIGIN};
 use repl_lsn::{Lsn, SegSize, Tli};
 use repl_record::{Ident, WalkReason, WalkStep, Walker};
 use std::alloc::Global;
 use std::io::Read;
-
-/// Where the log begins.
-const ORIGIN: Lsn = Lsn(0x100_0000);
-
-/// A position that no log here reaches.
-const FAR: u64 = 1 << 62;
 
 /// How many bytes are read at once, so that records are cut anywhere.
 const PIECE: usize = 10_007;

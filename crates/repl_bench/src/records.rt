@@ -6,13 +6,13 @@ use repl_record::{Ident, RecordIn, WalkStep, Walker, crc32c, lay_out};
 use std::alloc::Global;
 
 /// Where the logs begin.
-const ORIGIN: Lsn = Lsn(0x100_0000);
+pub const ORIGIN: Lsn = Lsn(0x100_0000);
 
 /// How many records a log has that is walked.
 const RECORDS: usize = 128;
 
 /// A position that no log here reaches.
-const FAR: u64 = 1 << 62;
+pub const FAR: u64 = 1 << 62;
 
 /// The checksum of so many zeros, each time going on from the one before.
 pub fn checksums(alloc: Global, bytes: usize, rounds: u64) -> Option<u64> {

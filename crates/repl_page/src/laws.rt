@@ -8,7 +8,8 @@ pub fn written_agrees()
     ensures { (header : PageHeader) (rest : List ℕ) → IsHeader header → Agrees header (header_bytes header ++ rest) }
 {}
 
-/// Bytes agree with one header at most, but for flags that are not judged.
+/// Two headers with which the same bytes agree differ in nothing that is judged. Where one of them has a long part and
+/// the other none, nothing is said of it.
 pub fn one_header()
     ensures { (a b : PageHeader) (bytes : List ℕ) → Agrees a bytes → Agrees b bytes → SayTheSame a b }
 {}
