@@ -10,7 +10,7 @@ use Rattle.std.proofs.lemmas.List.Concat.{flat_map-cons}
 use Rattle.std.proofs.lemmas.Nat.{be_bytes_2, be_bytes_4, from_be_bytes-to_be_bytes_2, from_be_bytes-to_be_bytes_4}
 use Rattle.repl_text.specs.Text.{IsText}
 use Rattle.repl_message.specs.Message.{int16, int32, string, ended}
-use Rattle.repl_message.specs.Reading.{◌>>=◌, at_zero, ok_or_left, string_at, whole, number}
+use Rattle.repl_message.specs.Decoding.{◌>>=◌, at_zero, ok_or_left, string_at, whole, number}
 
 abbrev pub IsBytes : List ℕ → Type 0
 IsBytes bytes = (i : ℕ) → get_or bytes i 0 < 256

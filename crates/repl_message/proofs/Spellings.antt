@@ -10,7 +10,7 @@ use Rattle.std.proofs.lemmas.List.{take_at, drop_at}
 use Rattle.repl_text.specs.Text.{IsText}
 use Rattle.repl_message.specs.declared.back.TheConstants.{LIST_LIMIT}
 use Rattle.repl_message.specs.Message.{int16, int32, signed16, signed32, string, counted, ended, framed}
-use Rattle.repl_message.specs.Reading.{string_at}
+use Rattle.repl_message.specs.Decoding.{string_at}
 use Rattle.repl_message.proofs.FieldLaws.{IsWide, wide16, wide32, wide_again, ok_is, string_again, ended-cons}
 
 -- no spelling of a value that fits is the beginning of another's

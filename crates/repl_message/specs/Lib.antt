@@ -1,4 +1,4 @@
 pub mod Lists
 pub mod Message
-pub mod Reading
+pub mod Decoding
 pub mod Encoding

@@ -7,6 +7,8 @@ use std::marker::Model;
 /// The most entries of a list that a message counts by an Int16, read as unsigned.
 pub const LIST_LIMIT: usize = 65_535;
 
+const _: () = prove!(LIST_LIMIT == 65_535);
+
 /// Whether a transaction is open, as ReadyForQuery tells it.
 #[derive(Clone, Copy, Debug, PartialEq, Eq)]
 pub enum TransactionStatus {

@@ -5,6 +5,12 @@
 //! beginning of another of its side. `encode_startup`, `encode_front` and `encode_back` append a message.
 //! The types hold only what can be spelled, but for the limits on a message's length. Stands on `repl_text`
 //! and on the kit's `bytes` and `thiserror`.
+//!
+//! ```text
+//! let mut out = Vec::new(alloc);
+//! encode_front(&Front::Query(Text::literal(alloc, "IDENTIFY_SYSTEM")?), &mut out)?;
+//! assert_eq!(rt; out.as_slice(), b"Q\0\0\0\x14IDENTIFY_SYSTEM\0".as_slice());
+//! ```
 #![tactic(auto)]
 
 mod back;
@@ -34,6 +40,3 @@ pub use message::{
 };
 pub use repl_text::Text;
 pub use startup::{CANCEL_REQUEST, GSS_REQUEST, PROTOCOL_3_0, Pair, Pairs, SSL_REQUEST, Startup};
-
-#[cfg(test)]
-mod encode_tests;

@@ -6,14 +6,22 @@ use std::marker::Model;
 /// The code of protocol version 3.0.
 pub const PROTOCOL_3_0: u32 = 196_608;
 
+const _: () = prove!(PROTOCOL_3_0 == 196_608);
+
 /// The code that asks to cancel.
 pub const CANCEL_REQUEST: u32 = 80_877_102;
+
+const _: () = prove!(CANCEL_REQUEST == 80_877_102);
 
 /// The code that asks for TLS.
 pub const SSL_REQUEST: u32 = 80_877_103;
 
+const _: () = prove!(SSL_REQUEST == 80_877_103);
+
 /// The code that asks for GSS encryption.
 pub const GSS_REQUEST: u32 = 80_877_104;
+
+const _: () = prove!(GSS_REQUEST == 80_877_104);
 
 /// A parameter of a startup packet: a name, which is not empty, and its value.
 #[derive(Debug, Drop)]

@@ -1,13 +1,9 @@
 -- Texts that are written out.
-use Rattle.std.proofs.Common.{◌≡◌, ℕ, Bool, true, ◌&&◌, nat_lt, ◌<◌, List, [], ◌∷◌}
+use Rattle.std.proofs.Common.{◌≡◌, ℕ, true, ◌&&◌, nat_lt, ◌<◌, List, [], ◌∷◌}
 use Rattle.std.proofs.lemmas.Bool.{and_parts, ltb-true}
 use Rattle.std.proofs.lemmas.List.Elements.{All-nil, All-cons}
 use Rattle.repl_text.specs.Text.{IsText}
-
--- a test that computes
-abbrev pub is_text_by_test : List ℕ → Bool
-is_text_by_test [] = true
-is_text_by_test (b ∷ bs) = (nat_lt 0 b && nat_lt b 256) && is_text_by_test bs
+pub use Rattle.repl_text.specs.Text.{is_text_by_test}
 
 pub text_from_test : (bytes : List ℕ) → is_text_by_test bytes ≡ true → IsText bytes
 text_from_test [] e = All-nil (λ (c : ℕ). (0 < c) × (c < 256))

@@ -1,5 +1,8 @@
-ghost use Rattle.std.specs.Prelude.{◌≡◌, ℕ, ◌↔◌, length, IsTrue, IsSome, IfSome, IfOk, IfErr, Contains, ◌==◌};
-ghost use Rattle.repl_text.specs.Text.{IsText};
+ghost use Rattle.std.specs.Prelude.{◌≡◌, ℕ, ◌↔◌, length, IsTrue, IsSome, IfSome, IfOk, ◌==◌};
+ghost use Rattle.std.specs.Cmp.Lexicographic.{pointwise};
+ghost use Rattle.std.specs.Cmp.Rules.{comparing};
+ghost use Rattle.std.proofs.Common.{rules};
+ghost use Rattle.repl_text.specs.Text.{IsText, is_text_by_test};
 
 use std::alloc::{AllocError, Global};
 use std::marker::Model;
@@ -21,6 +24,23 @@ impl Model for Text {
     ghost view = { λ t. t.bytes.items };
 
     ghost invariant = { λ t. IsText t.bytes.items };
+}
+
+/// Texts are equal where their bytes are.
+impl PartialEq for Text {
+    ghost eq = { pointwise ◌==◌ };
+
+    ghost laws = { Prim.search (comparing, rules) };
+
+    fn eq(&self, other: &Text) -> bool
+        ensures { IsTrue result ↔ (self.now ≡ other.now) }
+    {
+        self.as_slice() == other.as_slice()
+    }
+}
+
+impl Eq for Text {
+    ghost laws = { Prim.search (comparing, rules) };
 }
 
 /// Whether the bytes hold no zero byte.
@@ -51,6 +71,15 @@ impl Text {
         Ok(Text {
             bytes: Vec::from_slice(alloc, bytes)?,
         })
+    }
+
+    /// The text of a literal, in which no zero byte stands. Takes memory for it.
+    pub fn literal(alloc: Global, text: &str) -> Result<Text, AllocError>
+        requires { IsTrue (is_text_by_test text.now) }
+        ensures made { IfOk result (λ made. made ≡ text.now) }
+        ensures text { IsText text.now }
+    {
+        Text::copied(alloc, text.as_bytes())
     }
 
     /// The bytes.

@@ -6,7 +6,7 @@ use Rattle.std.proofs.lemmas.List.{append-nil, length-append, length-drop, nil_f
 use Rattle.repl_text.specs.Text.{IsText}
 use Rattle.repl_message.specs.declared.startup.Pair.{Pair}
 use Rattle.repl_message.specs.Message.{int32, string, pair, ended, AreBytes, FitsPair}
-use Rattle.repl_message.specs.Reading.{string_at, whole, number}
+use Rattle.repl_message.specs.Decoding.{string_at, whole, number}
 use Rattle.repl_wire.specs.Judging.{pairs_at, parameters_of, text_of, nothing_of, bytes_of, two_numbers_of}
 use Rattle.repl_message.proofs.FieldLaws.{IsBytes, IsBytes-rest, bind_ok, ok_is, guard_ended, whole_takes, Takes-then, Takes-all, int32_takes, int32_again, string_takes, string_again}
 use Rattle.repl_wire.proofs.PairLaws.{pairs_take, pairs_again, length-pairs}

@@ -11,7 +11,7 @@ use Rattle.repl_message.specs.declared.message.Phase.{Phase}
 use Rattle.repl_message.specs.declared.message.Phase.TheVariants as phase
 use Rattle.repl_message.specs.declared.message.TheConstants.{STARTUP_LEAST, STARTUP_LIMIT, MESSAGE_LIMIT, COPY_DATA_LIMIT}
 use Rattle.repl_message.specs.Message.{after}
-use Rattle.repl_message.specs.Reading.{number}
+use Rattle.repl_message.specs.Decoding.{number}
 use Rattle.repl_message.specs.Encoding.{capped}
 use Rattle.repl_wire.specs.declared.fault.WireFault.{WireFault}
 use Rattle.repl_wire.specs.declared.taking.Taken.{Taken}

@@ -9,7 +9,7 @@ use Rattle.std.proofs.lemmas.List.Elements.{All-nil}
 use Rattle.repl_text.specs.Text.{IsText}
 use Rattle.repl_message.specs.declared.back.Field.{Field}
 use Rattle.repl_message.specs.Message.{int16, int32, signed16, signed32, string, FitsField}
-use Rattle.repl_message.specs.Reading.{◌>>=◌, string_at}
+use Rattle.repl_message.specs.Decoding.{◌>>=◌, string_at}
 use Rattle.repl_message.proofs.FieldLaws.{bind_ok, ok_is}
 use Rattle.repl_message.proofs.Spellings.{signed16_one, signed32_one}
 use Rattle.repl_wire.specs.Judging.{int16_at, int32_at, field_at}

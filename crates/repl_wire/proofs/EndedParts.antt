@@ -7,7 +7,7 @@ use Rattle.repl_text.specs.Text.{IsText}
 use Rattle.repl_message.specs.declared.startup.Pair.{Pair}
 use Rattle.repl_message.specs.declared.back.ErrorField.{ErrorField}
 use Rattle.repl_message.specs.Message.{string, pair, ended, FitsPair, FitsErrorField}
-use Rattle.repl_message.specs.Reading.{◌>>=◌, string_at}
+use Rattle.repl_message.specs.Decoding.{◌>>=◌, string_at}
 use Rattle.repl_message.proofs.FieldLaws.{IsBytes-rest, bind_ok, ok_is, string_first}
 use Rattle.repl_wire.specs.Judging.{pairs_at, coded_at}
 use Rattle.repl_wire.specs.Places.{pair_fields, coded_fields}

@@ -6,7 +6,7 @@ use Rattle.std.proofs.lemmas.List.{append-nil, length-append, length-take, take-
 use Rattle.std.proofs.lemmas.List.Elements.{All-nil}
 use Rattle.repl_text.specs.Text.{IsText}
 use Rattle.repl_message.specs.Message.{int16, int32, string, column, AreBytes, FitsColumn}
-use Rattle.repl_message.specs.Reading.{at_zero, ok_or_left, string_at, number}
+use Rattle.repl_message.specs.Decoding.{at_zero, ok_or_left, string_at, number}
 use Rattle.repl_message.proofs.FieldLaws.{IsBytes, IsBytes-rest, IsBytes-take, IsBytes-drop, bind_ok, ok_is, int16_takes, int32_takes, string_takes, string_again}
 use Rattle.repl_message.proofs.Spellings.{int16_one, int32_one, string_one, bytes_one}
 use Rattle.repl_wire.specs.Judging.{byte_at, int16_at, int32_at, column_at}

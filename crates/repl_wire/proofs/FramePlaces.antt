@@ -9,7 +9,7 @@ use Rattle.repl_wire.specs.declared.fault.WireFault.TheVariants as fault
 use Rattle.repl_wire.specs.declared.taking.Taken.{Taken}
 use Rattle.repl_wire.specs.declared.taking.Taken.TheVariants as taken
 use Rattle.repl_message.specs.Message.{int32, framed}
-use Rattle.repl_message.specs.Reading.{number}
+use Rattle.repl_message.specs.Decoding.{number}
 use Rattle.repl_wire.specs.Judging.{frame_of, on_frame, read_as}
 use Rattle.repl_message.proofs.FieldLaws.{int32_again}
 use Rattle.repl_message.proofs.Spellings.{framed_one, bytes_one}

@@ -4,7 +4,7 @@ use Rattle.std.proofs.lemmas.Bool.{ltb-false, le-ltb, or_parts}
 use Rattle.std.proofs.lemmas.List.{take_at, take-take, drop-take, length-append, length-take, length-drop}
 use Rattle.repl_wire.specs.declared.fault.WireFault.{WireFault}
 use Rattle.repl_message.specs.Message.{int32, framed}
-use Rattle.repl_message.specs.Reading.{number}
+use Rattle.repl_message.specs.Decoding.{number}
 use Rattle.repl_wire.specs.Judging.{frame_of}
 use Rattle.repl_message.proofs.FieldLaws.{IsBytes, IsBytes-take, IsBytes-drop, int32_takes, int32_again}
 

@@ -4,7 +4,7 @@ use Rattle.std.proofs.Common.{◌≡◌, ◌≢◌, ℕ, ◌<◌, Bool, true, fa
 use Rattle.std.specs.List.{concat}
 use Rattle.std.proofs.lemmas.Bool.{eqb-false}
 use Rattle.std.proofs.lemmas.List.{length-append}
-use Rattle.repl_message.specs.Reading.{◌>>=◌, whole}
+use Rattle.repl_message.specs.Decoding.{◌>>=◌, whole}
 use Rattle.repl_message.proofs.FieldLaws.{IsBytes}
 use Rattle.repl_wire.specs.Places.{LeavesAt}
 

@@ -20,3 +20,4 @@ pub mod DescriptionParts
 pub mod PlainBodies
 pub mod BackPlaces
 pub mod PlaceLaws
+pub mod Sent

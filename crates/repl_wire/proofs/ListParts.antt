@@ -3,7 +3,7 @@ use Rattle.std.proofs.Common.{◌≡◌, ℕ, zero, suc, ◌^◌, ◌<◌, ◌�
 use Rattle.std.specs.List.{AllByRecursion, concat, flat_map}
 use Rattle.repl_message.specs.declared.back.TheConstants.{LIST_LIMIT}
 use Rattle.repl_message.specs.Message.{int16}
-use Rattle.repl_message.specs.Reading.{◌>>=◌}
+use Rattle.repl_message.specs.Decoding.{◌>>=◌}
 use Rattle.repl_message.proofs.FieldLaws.{bind_ok, ok_is}
 use Rattle.repl_wire.specs.Judging.{int16_at, entries_at, counted_at}
 use Rattle.repl_wire.proofs.FieldSpellings.{concat-append}

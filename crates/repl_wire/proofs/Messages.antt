@@ -17,7 +17,7 @@ use Rattle.repl_message.specs.declared.message.TheConstants.{STARTUP_LEAST, STAR
 use Rattle.repl_wire.specs.declared.taking.Taken.{Taken}
 use Rattle.repl_wire.specs.declared.taking.Taken.TheVariants as taken
 use Rattle.repl_message.specs.Message.{int32, pair, ended, framed, startup_body, front_kind, front_body, front_limit, front_spelling, back_body, back_spelling, spelling, FitsStartup, FitsFront, IsFront, IsBack, IsStartup, Belongs, Spells}
-use Rattle.repl_message.specs.Reading.{number}
+use Rattle.repl_message.specs.Decoding.{number}
 use Rattle.repl_wire.specs.Judging.{IsJudged, judge, judge_startup, judge_front, judge_back, judge_ended, judge_row, Row, back_row, judge_packet, judge_message, on_frame, read_as, read_packet, text_of, nothing_of, bytes_of, two_numbers_of, parameters_of, frame_of}
 use Rattle.repl_message.proofs.FieldLaws.{IsBytes, IsBytes-drop, IsBytes-rest, int32_takes, int32_again}
 use Rattle.repl_wire.proofs.Frames.{IsFrame, frame_takes, frame_again, length-framed}

@@ -10,7 +10,7 @@ use Rattle.repl_wire.specs.declared.fields.FieldFault.{FieldFault}
 use Rattle.repl_wire.specs.declared.fields.FieldFault.TheVariants as field_fault
 use Rattle.repl_message.specs.Lists.{AreNamed}
 use Rattle.repl_message.specs.Message.{string, pair, ended, FitsPair}
-use Rattle.repl_message.specs.Reading.{◌>>=◌, string_at}
+use Rattle.repl_message.specs.Decoding.{◌>>=◌, string_at}
 use Rattle.repl_wire.specs.Judging.{Fails, pairs_at}
 use Rattle.repl_message.proofs.FieldLaws.{IsBytes, IsBytes-rest, bind_ok, ok_is, Takes, Takes-then, Takes-ended, ended-cons, string_takes, string_again, string_first, string_begins}
 

@@ -14,7 +14,7 @@ use Rattle.repl_message.specs.declared.back.Back.TheVariants as back
 use Rattle.repl_message.specs.declared.back.TheConstants.{LIST_LIMIT}
 use Rattle.repl_message.specs.declared.message.TheConstants.{MESSAGE_LIMIT, COPY_DATA_LIMIT}
 use Rattle.repl_message.specs.Message.{int16, int32, string, field, column, error_field, counted, ended, status_byte, back_kind, back_body, back_limit, FitsField, FitsErrorField, FitsBack, IsBack}
-use Rattle.repl_message.specs.Reading.{◌>>=◌, string_at, whole}
+use Rattle.repl_message.specs.Decoding.{◌>>=◌, string_at, whole}
 use Rattle.repl_wire.specs.Judging.{byte_at, int16_at, int32_at, counted_at, field_at, column_at, coded_at, made, text_of, nothing_of, authentication_of, setting_of, key_of, status_of, description_of, data_row_of, tag_of, error_of, notice_of, copy_done_of, copy_both_of, Row, usual, back_row}
 use Rattle.repl_message.proofs.FieldLaws.{IsBytes, bind_ok, ok_is, whole_takes, Takes, Takes-then, Takes-all, string_again}
 use Rattle.repl_message.proofs.EntrySpellings.{IsShort, all_short}

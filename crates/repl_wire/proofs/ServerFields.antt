@@ -18,7 +18,7 @@ use Rattle.repl_wire.specs.declared.fields.FieldFault.{FieldFault}
 use Rattle.repl_wire.specs.declared.fields.FieldFault.TheVariants as field_fault
 use Rattle.repl_message.specs.Lists.{AreCoded}
 use Rattle.repl_message.specs.Message.{int16, int32, signed16, signed32, string, field, column, error_field, counted, ended, FitsField, FitsColumn, FitsErrorField}
-use Rattle.repl_message.specs.Reading.{◌>>=◌, string_at, number}
+use Rattle.repl_message.specs.Decoding.{◌>>=◌, string_at, number}
 use Rattle.repl_wire.specs.Judging.{Fails, byte_at, int16_at, int32_at, entries_at, counted_at, field_at, column_at, coded_at}
 use Rattle.repl_message.proofs.FieldLaws.{IsBytes, IsBytes-rest, IsBytes-take, IsBytes-drop, bind_ok, ok_is, Takes, Takes-then, Takes-ended, Takes-cons, ended-cons, int16_takes, int16_again, int32_takes, int32_again, string_takes, string_again}
 use Rattle.repl_message.proofs.EntrySpellings.{IsShort}

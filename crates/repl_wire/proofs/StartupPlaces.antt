@@ -14,7 +14,7 @@ use Rattle.repl_message.specs.declared.message.Message.{Message}
 use Rattle.repl_message.specs.declared.message.Message.TheVariants as message
 use Rattle.repl_message.specs.declared.message.TheConstants.{STARTUP_LEAST, STARTUP_LIMIT}
 use Rattle.repl_message.specs.Message.{int32, framed, startup_code, startup_body, startup_spelling, FitsPair, IsStartup, Spells}
-use Rattle.repl_message.specs.Reading.{whole, number}
+use Rattle.repl_message.specs.Decoding.{whole, number}
 use Rattle.repl_message.proofs.FieldLaws.{IsBytes, IsBytes-drop, int32_again}
 use Rattle.repl_message.proofs.Spellings.{bytes_one}
 use Rattle.repl_wire.specs.declared.fault.WireFault.{WireFault}

@@ -3,10 +3,11 @@
 -- bytes are there, and the body when the whole frame is there.
 use Rattle.std.specs.Prelude.{◌≡◌, ℕ, zero, suc, ◌+◌, ◌-◌, ◌||◌, List, [], ◌∷◌, length, take, drop, Option, Some, None, Result, Ok, Err, nat_lt, ◌==◌, if◌then◌else◌}
 use Rattle.std.specs.Int.{w16, w32, from_be_bytes, cast_signed}
+use Rattle.std.specs.Option.{option_map}
 use Rattle.repl_message.specs.declared.startup.Pair.{Pair}
 use Rattle.repl_message.specs.declared.startup.Startup.{Startup}
 use Rattle.repl_message.specs.declared.startup.Startup.TheVariants as startup
-use Rattle.repl_message.specs.Reading.{◌>>=◌, string_at, whole, number}
+use Rattle.repl_message.specs.Decoding.{◌>>=◌, string_at, whole, number}
 use Rattle.repl_message.specs.declared.back.TransactionStatus.TheVariants.{Idle, Open, Failed}
 use Rattle.repl_message.specs.declared.back.Field.{Field}
 use Rattle.repl_message.specs.declared.back.ErrorField.{ErrorField}
@@ -16,6 +17,8 @@ use Rattle.repl_message.specs.declared.front.Front.{Front}
 use Rattle.repl_message.specs.declared.front.Front.TheVariants as front
 use Rattle.repl_wire.specs.declared.fault.WireFault.{WireFault}
 use Rattle.repl_wire.specs.declared.fault.WireFault.TheVariants as fault
+use Rattle.repl_message.specs.declared.message.Side.{Side}
+use Rattle.repl_message.specs.declared.message.Side.TheVariants as side
 use Rattle.repl_message.specs.declared.message.Phase.{Phase}
 use Rattle.repl_message.specs.declared.message.Phase.TheVariants as phase
 use Rattle.repl_message.specs.declared.message.Message.{Message}
@@ -38,6 +41,11 @@ pairs_at (suc turns) (suc b ∷ rest) = do
   value ← string_at name.1
   others ← pairs_at turns value.1
   Ok (record { name = name.0; value = value.0 } ∷ others.0, others.1)
+
+-- what was read is made into another value
+abbrev pub made : {A B : Type 0} → (A → B) → Result A ℕ → Result B ℕ
+made make (Ok x) = Ok (make x)
+made make (Err left) = Err left
 
 -- ---- bodies
 
@@ -115,11 +123,6 @@ coded_at (suc turns) (suc code ∷ rest) = do
   others ← coded_at turns text.1
   Ok (record { code = suc code; text = text.0 } ∷ others.0, others.1)
 
--- a value that ends a body is this message
-abbrev pub made : {A B : Type 0} → (A → B) → Result A ℕ → Result B ℕ
-made make (Ok x) = Ok (make x)
-made make (Err left) = Err left
-
 unfoldable pub authentication_of : List ℕ → Result Back ℕ
 authentication_of body = do
   code ← int32_at body
@@ -188,10 +191,14 @@ frame_of place least limit bytes =
     else if nat_lt (length bytes) (number bytes) then Ok None
     else Ok (Some (drop 4 (take (number bytes) bytes)))
 
--- what is answered where a frame ends at this place, and its body is read so
+-- what is answered where a frame ends at this place, and its body is read as this message
+abbrev pub ended_at : ℕ → Result Message ℕ → Taken
+ended_at end (Ok m) = taken.Whole m end
+ended_at end (Err left) = taken.Wrong (fault.Body (end - left))
+
+-- the same where its body is read as the value of which the message is made
 abbrev pub read_as : {A : Type 0} → (A → Message) → ℕ → Result A ℕ → Taken
-read_as make end (Ok x) = taken.Whole (make x) end
-read_as make end (Err left) = taken.Wrong (fault.Body (end - left))
+read_as make end r = ended_at end (made make r)
 
 -- a startup packet's body, behind the length field: a code, and fields that are read so
 abbrev pub read_packet : {A : Type 0} → (A → Startup) → (List ℕ → Result A ℕ) → List ℕ → Taken
@@ -265,6 +272,45 @@ unfoldable pub judge_back : List ℕ → Taken
 judge_back [] = taken.Short
 judge_back (kind ∷ bytes) = judge_row (back_row kind) bytes
 
+-- ---- both sides by the type byte
+
+-- a message that is sent after the startup
+abbrev pub judge_sent : Side → List ℕ → Taken
+judge_sent side.Front bytes = judge_front bytes
+judge_sent side.Back bytes = judge_back bytes
+
+-- the least and the greatest length field of a message of the client
+abbrev pub front_lengths : ℕ → Option (ℕ × ℕ)
+front_lengths kind =
+    if kind == 81 then Some (5, MESSAGE_LIMIT)
+    else if kind == 100 then Some (4, COPY_DATA_LIMIT)
+    else if kind == 99 then Some (4, MESSAGE_LIMIT)
+    else if kind == 102 then Some (5, MESSAGE_LIMIT)
+    else if kind == 88 then Some (4, MESSAGE_LIMIT)
+    else None
+
+abbrev pub lengths_of : Side → ℕ → Option (ℕ × ℕ)
+lengths_of side.Front kind = front_lengths kind
+lengths_of side.Back kind = option_map (λ (r : Row). (r.least + 4, r.limit)) (back_row kind)
+
+-- the message of the client that a body spells
+abbrev pub front_of : ℕ → List ℕ → Result Message ℕ
+front_of kind body =
+    if kind == 81 then made (λ text. message.Front (front.Query text)) (text_of body)
+    else if kind == 100 then made (λ piece. message.Front (front.CopyData piece)) (bytes_of body)
+    else if kind == 99 then made (λ _. message.Front front.CopyDone) (nothing_of body)
+    else if kind == 102 then made (λ text. message.Front (front.CopyFail text)) (text_of body)
+    else if kind == 88 then made (λ _. message.Front front.Terminate) (nothing_of body)
+    else Err (length body)
+
+abbrev pub row_of : Option Row → List ℕ → Result Message ℕ
+row_of None body = Err (length body)
+row_of (Some r) body = made (λ m. message.Back m) (r.read body)
+
+abbrev pub message_of : Side → ℕ → List ℕ → Result Message ℕ
+message_of side.Front kind body = front_of kind body
+message_of side.Back kind body = row_of (back_row kind) body
+
 -- where the session is over, any byte is one too many
 abbrev pub judge_ended : List ℕ → Taken
 judge_ended [] = taken.Short
@@ -286,11 +332,6 @@ Fails (field_fault.Left left) read = read ≡ Err left
 abbrev pub Gives : {X Y : Type 0} → (X → Y) → Result X FieldFault → Result Y ℕ → Type 0
 Gives view (Ok x) read = read ≡ Ok (view x)
 Gives view (Err e) read = Fails e read
-
--- what is answered where a frame ends at this place, and its body is not read
-abbrev pub refusal : ℕ → FieldFault → Taken
-refusal end (field_fault.Left left) = taken.Wrong (fault.Body (end - left))
-refusal end field_fault.Memory = taken.Memory
 
 -- an answer is what judging gives, unless memory ran out
 abbrev pub IsJudged : Taken → Taken → Type 0

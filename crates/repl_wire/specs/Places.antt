@@ -17,7 +17,7 @@ use Rattle.repl_message.specs.declared.message.Message.{Message}
 use Rattle.repl_message.specs.declared.message.TheConstants.{STARTUP_LEAST, STARTUP_LIMIT}
 use Rattle.repl_message.specs.declared.startup.TheConstants.{CANCEL_REQUEST}
 use Rattle.repl_message.specs.Message.{int16, int32, signed16, signed32, string, column, status_byte, startup_code, front_kind, back_kind, FitsStartup, FitsFront, FitsBack, Spells}
-use Rattle.repl_message.specs.Reading.{number}
+use Rattle.repl_message.specs.Decoding.{number}
 use Rattle.repl_wire.specs.declared.fault.WireFault.{WireFault}
 use Rattle.repl_wire.specs.declared.fault.WireFault.TheVariants as fault
 

@@ -1,5 +1,5 @@
 ghost use Rattle.std.specs.Prelude.{◌≡◌, ◌≤◌, List, length, take, drop};
-ghost use Rattle.repl_message.specs.Reading.{string_at};
+ghost use Rattle.repl_message.specs.Decoding.{string_at};
 ghost use Rattle.repl_wire.specs.Judging.{Gives, pairs_at, parameters_of, text_of, nothing_of, bytes_of, two_numbers_of};
 
 use bytes::Bytes;
@@ -8,7 +8,7 @@ use repl_text::Text;
 use std::alloc::{AllocError, AllocFailed, Global};
 
 /// Why a body was not read.
-#[derive(Clone, Copy, Debug, PartialEq, Eq)]
+#[derive(Drop)]
 pub(crate) enum FieldFault {
     /// No body goes on with the field before which so many bytes of the body are left.
     Left(usize),
@@ -36,7 +36,7 @@ impl<T: Drop> From<AllocFailed<T>> for FieldFault {
 }
 
 /// The string at the front of a body, and the bytes after its zero byte.
-#[tactic(auto, unfolding(repl_message::specs::Reading::string_at))]
+#[tactic(auto, unfolding(repl_message::specs::Decoding::string_at))]
 pub(crate) fn string_of(alloc: Global, bytes: &[u8]) -> Result<(Text, &[u8]), FieldFault>
     ensures { Gives (λ x. (x.0, x.1.now)) result (string_at bytes.now) }
 {

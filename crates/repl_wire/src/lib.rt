@@ -4,8 +4,22 @@
 //! `take` reads a message from the front of a buffer: it answers the message and how many bytes it takes, or
 //! that more bytes are needed, or the first fault and its place. What is read is spelled so, and what is
 //! spelled so is read, whatever follows it. `FrameReader` is fed what one side sends, in pieces of any size,
-//! and gives the same messages and the same fault however they are cut. Passes on the messages themselves and their encoders, which are
-//! those of `repl_message`. Stands on `repl_message`, `repl_text` and on the kit's `bytes` and `thiserror`.
+//! and gives the same messages and the same fault however they are cut. Passes on the messages themselves and
+//! their encoders, which are those of `repl_message`. Stands on `repl_message`, `repl_text` and on the kit's
+//! `bytes` and `thiserror`.
+//!
+//! ```text
+//! let mut reader = FrameReader::new(alloc, Side::Back)?;
+//! reader.feed(piece);
+//! loop {
+//!     match reader.next(alloc) {
+//!         Step::Message(message) => handle(message)?,
+//!         Step::NeedMore => reader.feed(next_piece()?),
+//!         Step::Refused(fault) => return Err(fault.into()),
+//!         Step::Memory => return Err(AllocError.into()),
+//!     }
+//! }
+//! ```
 #![tactic(auto)]
 
 mod fault;
@@ -25,10 +39,3 @@ pub use repl_message::{
     encode_front, encode_startup, length_of, one_back, one_front, one_reading, one_startup,
 };
 pub use taking::{Taken, take};
-
-#[cfg(test)]
-mod reader_tests;
-#[cfg(test)]
-mod server_tests;
-#[cfg(test)]
-mod tests;

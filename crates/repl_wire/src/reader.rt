@@ -13,8 +13,12 @@ use std::marker::Model;
 /// The most bytes of one piece that is fed.
 pub const PIECE_LIMIT: usize = 8_192;
 
+const _: () = prove!(PIECE_LIMIT == 8_192);
+
 /// The bytes that a reader has room for: the longest message but for one byte, and one piece more.
 pub const READER_ROOM: usize = 1 + MESSAGE_LIMIT as usize + PIECE_LIMIT;
+
+const _: () = prove!(READER_ROOM == 1_056_769);
 
 /// What a reader gives next.
 #[derive(Debug, Drop)]

@@ -1,10 +1,10 @@
-ghost use Rattle.std.specs.Prelude.{◌≡◌, ℕ, ◌+◌, ◌<◌, ◌≤◌, ◌⊎◌, List, ◌++◌, length, take, IfOk, IfErr, MatchOption};
+ghost use Rattle.std.specs.Prelude.{◌≡◌, ℕ, ◌+◌, ◌<◌, ◌≤◌, ◌⊎◌, List, ◌++◌, length, take, IfOk, IfErr, IsSome, MatchOption, Result};
 ghost use Rattle.std.specs.Option.{option_copied, option_map};
 ghost use Rattle.repl_message.specs.Message.{Spells};
 ghost use Rattle.repl_wire.specs.declared.fault.WireFault.{WireFault};
 ghost use Rattle.repl_wire.specs.Places.{IsFault};
-ghost use Rattle.repl_message.specs.Reading.{number};
-ghost use Rattle.repl_wire.specs.Judging.{IsJudged, judge, judge_startup, judge_front, judge_back, Row, back_row, judge_packet, judge_message, read_as, parameters_of, text_of, nothing_of, bytes_of, two_numbers_of, frame_of, refusal};
+ghost use Rattle.repl_message.specs.Decoding.{number};
+ghost use Rattle.repl_wire.specs.Judging.{IsJudged, Gives, judge, judge_startup, judge_sent, Row, back_row, front_lengths, lengths_of, front_of, message_of, judge_packet, ended_at, made, parameters_of, nothing_of, two_numbers_of, frame_of};
 
 use crate::fault::WireFault;
 use crate::fields::{
@@ -13,9 +13,8 @@ use crate::fields::{
 use crate::server_fields::read_back;
 use repl_message::{
     CANCEL_REQUEST, COPY_DATA_LIMIT, Front, GSS_REQUEST, MESSAGE_LIMIT, Message, PROTOCOL_3_0,
-    Phase, SSL_REQUEST, STARTUP_LEAST, STARTUP_LIMIT, Startup,
+    Phase, SSL_REQUEST, STARTUP_LEAST, STARTUP_LIMIT, Side, Startup,
 };
-use repl_text::Text;
 use std::alloc::Global;
 
 /// What stands at the front of a buffer.
@@ -50,8 +49,8 @@ pub fn take(alloc: Global, phase: Phase, bytes: &[u8]) -> Taken
 {
     match phase {
         Phase::Startup => take_startup(alloc, bytes),
-        Phase::Front => take_front(alloc, bytes),
-        Phase::Back => take_back(alloc, bytes),
+        Phase::Front => take_sent(alloc, Side::Front, bytes),
+        Phase::Back => take_sent(alloc, Side::Back, bytes),
         Phase::Ended => match bytes {
             [] => Taken::Short,
             [_, ..] => Taken::Wrong(WireFault::Kind(0)),
@@ -90,13 +89,16 @@ fn frame_at(place: u64, least: u32, limit: u32, bytes: &[u8]) -> Result<Option<&
     Ok(Some(&bytes[4..length]))
 }
 
-/// The answer to a body that was not read, in a frame that ends at this place.
-fn not_read(fault: FieldFault, end: usize) -> Taken
-    ensures { result ≡ refusal end fault }
+/// The answer where a frame ends at this place, and its body was read so.
+fn answer(read: Result<Message, FieldFault>, end: usize) -> Taken
+    ensures { (whole : Result Message ℕ) → Gives (λ m. m) read whole → IsJudged result (ended_at end whole) }
 {
-    match fault {
-        FieldFault::Left(left) => Taken::Wrong(WireFault::Body(end.saturating_sub(left) as u64)),
-        FieldFault::Memory => Taken::Memory,
+    match read {
+        Ok(message) => Taken::Whole { message, used: end },
+        Err(FieldFault::Left(left)) => {
+            Taken::Wrong(WireFault::Body(end.saturating_sub(left) as u64))
+        }
+        Err(FieldFault::Memory) => Taken::Memory,
     }
 }
 
@@ -117,148 +119,78 @@ fn take_packet(alloc: Global, body: &[u8]) -> Taken
     requires { 4 ≤ length body.now }
     ensures { IsJudged result (judge_packet body.now) }
 {
-    let used = body.len() + 4;
+    let end = body.len() + 4;
     let (code, fields) = body.split_at(4);
     match u32::from_be_bytes([code[0], code[1], code[2], code[3]]) {
-        PROTOCOL_3_0 => take_parameters(alloc, fields, used),
-        CANCEL_REQUEST => take_cancel(fields, used),
-        SSL_REQUEST => take_request(Startup::Ssl, fields, used),
-        GSS_REQUEST => take_request(Startup::Gss, fields, used),
+        PROTOCOL_3_0 => answer(packet_of_parameters(alloc, fields), end),
+        CANCEL_REQUEST => answer(cancel_packet(fields), end),
+        SSL_REQUEST => answer(request_packet(Startup::Ssl, fields), end),
+        GSS_REQUEST => answer(request_packet(Startup::Gss, fields), end),
         said => Taken::Wrong(WireFault::Code { place: 4, said }),
     }
 }
 
-/// The packet of these parameters, which end at the place `used`.
-fn take_parameters(alloc: Global, fields: &[u8], used: usize) -> Taken
-    ensures { IsJudged result (read_as (λ pairs. Message.Startup (Startup.Params pairs)) used (parameters_of fields.now)) }
+/// The packet of these parameters.
+fn packet_of_parameters(alloc: Global, fields: &[u8]) -> Result<Message, FieldFault>
+    ensures { Gives (λ m. m) result (made (λ pairs. Message.Startup (Startup.Params pairs)) (parameters_of fields.now)) }
 {
-    match read_parameters(alloc, fields) {
-        Ok(pairs) => Taken::Whole {
-            message: Message::Startup(Startup::Params(pairs)),
-            used,
-        },
-        Err(fault) => not_read(fault, used),
-    }
+    Ok(Message::Startup(Startup::Params(read_parameters(alloc, fields)?)))
 }
 
-/// The packet that asks to cancel, of a session's number and key, which end at the place `used`.
-fn take_cancel(fields: &[u8], used: usize) -> Taken
-    ensures { IsJudged result (read_as (λ (ids : ℕ × ℕ). Message.Startup (Startup.Cancel ids.0 ids.1)) used (two_numbers_of fields.now)) }
+/// The packet that asks to cancel, of a session's number and key.
+fn cancel_packet(fields: &[u8]) -> Result<Message, FieldFault>
+    ensures { Gives (λ m. m) result (made (λ (ids : ℕ × ℕ). Message.Startup (Startup.Cancel ids.0 ids.1)) (two_numbers_of fields.now)) }
 {
-    match read_two_numbers(fields) {
-        Ok((pid, key)) => Taken::Whole {
-            message: Message::Startup(Startup::Cancel { pid, key }),
-            used,
-        },
-        Err(fault) => not_read(fault, used),
-    }
+    let (pid, key) = read_two_numbers(fields)?;
+    Ok(Message::Startup(Startup::Cancel { pid, key }))
 }
 
-/// A packet that is only its code, where nothing stands behind it up to the place `used`.
-fn take_request(request: Startup, fields: &[u8], used: usize) -> Taken
-    ensures { IsJudged result (read_as (λ _. Message.Startup request) used (nothing_of fields.now)) }
+/// A packet that is only its code, behind which nothing stands.
+fn request_packet(request: Startup, fields: &[u8]) -> Result<Message, FieldFault>
+    ensures { Gives (λ m. m) result (made (λ _. Message.Startup request) (nothing_of fields.now)) }
 {
-    match read_nothing(fields) {
-        Ok(()) => Taken::Whole {
-            message: Message::Startup(request),
-            used,
-        },
-        Err(fault) => not_read(fault, used),
-    }
+    read_nothing(fields)?;
+    Ok(Message::Startup(request))
 }
 
-#[tactic(auto, unfolding(crate::specs::Judging::judge_front))]
-fn take_front(alloc: Global, bytes: &[u8]) -> Taken
-    ensures { IsJudged result (judge_front bytes.now) }
-{
-    match bytes {
-        [] => Taken::Short,
-        [b'Q', rest @ ..] => take_text(alloc, Front::Query, rest),
-        [b'd', rest @ ..] => take_copy_data(alloc, rest),
-        [b'c', rest @ ..] => take_nothing(Front::CopyDone, rest),
-        [b'f', rest @ ..] => take_text(alloc, Front::CopyFail, rest),
-        [b'X', rest @ ..] => take_nothing(Front::Terminate, rest),
-        [_, ..] => Taken::Wrong(WireFault::Kind(0)),
-    }
-}
-
-/// Reads a message that is made of the one string in its body.
-fn take_text<F: FnOnce(Text) -> Front>(alloc: Global, make: F, bytes: &[u8]) -> Taken
-    requires { F.IsAlwaysCallable make }
-    ensures { (made : List ℕ → Front) → ((text : List ℕ) (m : Front) → F.post make text m → m ≡ made text) →
-        IsJudged result (judge_message made 1 MESSAGE_LIMIT text_of bytes.now) }
-{
-    match frame_at(1, 5, MESSAGE_LIMIT, bytes) {
-        Ok(Some(body)) => match read_text(alloc, body) {
-            Ok(text) => Taken::Whole {
-                message: Message::Front(make(text)),
-                used: body.len() + 5,
-            },
-            Err(fault) => not_read(fault, body.len() + 5),
-        },
-        Ok(None) => Taken::Short,
-        Err(fault) => Taken::Wrong(fault),
-    }
-}
-
-fn take_copy_data(alloc: Global, bytes: &[u8]) -> Taken
-    ensures { IsJudged result (judge_message (λ piece. Front.CopyData piece) 0 COPY_DATA_LIMIT bytes_of bytes.now) }
-{
-    match frame_at(1, 4, COPY_DATA_LIMIT, bytes) {
-        Ok(Some(body)) => match read_bytes(alloc, body) {
-            Ok(piece) => Taken::Whole {
-                message: Message::Front(Front::CopyData(piece)),
-                used: body.len() + 5,
-            },
-            Err(fault) => not_read(fault, body.len() + 5),
-        },
-        Ok(None) => Taken::Short,
-        Err(fault) => Taken::Wrong(fault),
-    }
-}
-
-/// Reads a message that is only its type byte and its length.
-fn take_nothing(message: Front, bytes: &[u8]) -> Taken
-    ensures { IsJudged result (judge_message (λ _. message) 0 MESSAGE_LIMIT nothing_of bytes.now) }
-{
-    match frame_at(1, 4, MESSAGE_LIMIT, bytes) {
-        Ok(Some(body)) => match read_nothing(body) {
-            Ok(()) => Taken::Whole {
-                message: Message::Front(message),
-                used: body.len() + 5,
-            },
-            Err(fault) => not_read(fault, body.len() + 5),
-        },
-        Ok(None) => Taken::Short,
-        Err(fault) => Taken::Wrong(fault),
-    }
-}
-
-/// Reads a message of the server: its type byte says how long it may be, and how its body is read.
-#[tactic(auto, unfolding(crate::specs::Judging::judge_back))]
-fn take_back(alloc: Global, bytes: &[u8]) -> Taken
-    ensures { IsJudged result (judge_back bytes.now) }
+/// Reads a message of either side: its type byte says how long it may be, and how its body is read.
+fn take_sent(alloc: Global, side: Side, bytes: &[u8]) -> Taken
+    ensures { IsJudged result (judge_sent side bytes.now) }
 {
     let Some((kind, rest)) = bytes.split_first() else {
         return Taken::Short;
     };
-    let Some((least, limit)) = back_lengths(*kind) else {
+    let Some((least, limit)) = lengths(side, *kind) else {
         return Taken::Wrong(WireFault::Kind(0));
     };
     match frame_at(1, least, limit, rest) {
-        Ok(Some(body)) => match read_back(alloc, *kind, body) {
-            Ok(message) => Taken::Whole {
-                message: Message::Back(message),
-                used: body.len() + 5,
-            },
-            Err(fault) => not_read(fault, body.len() + 5),
-        },
+        Ok(Some(body)) => answer(read_message(alloc, side, *kind, body), body.len() + 5),
         Ok(None) => Taken::Short,
         Err(fault) => Taken::Wrong(fault),
     }
 }
 
-/// The least and the greatest length field of a message of the server, by its type byte.
+/// The least and the greatest length field of a message, by its type byte.
+fn lengths(side: Side, kind: u8) -> Option<(u32, u32)>
+    ensures { result ≡ lengths_of side kind }
+{
+    match side {
+        Side::Front => front_lengths(kind),
+        Side::Back => back_lengths(kind),
+    }
+}
+
+fn front_lengths(kind: u8) -> Option<(u32, u32)>
+    ensures { result ≡ front_lengths kind }
+{
+    match kind {
+        b'd' => Some((4, COPY_DATA_LIMIT)),
+        b'c' | b'X' => Some((4, MESSAGE_LIMIT)),
+        b'Q' | b'f' => Some((5, MESSAGE_LIMIT)),
+        _ => None,
+    }
+}
+
 fn back_lengths(kind: u8) -> Option<(u32, u32)>
     ensures { result ≡ option_map (λ (r : Row). (r.least + 4, r.limit)) (back_row kind) }
 {
@@ -272,4 +204,37 @@ fn back_lengths(kind: u8) -> Option<(u32, u32)>
         b'K' => Some((12, MESSAGE_LIMIT)),
         _ => None,
     }
+}
+
+/// The message of this type byte that the body spells.
+fn read_message(alloc: Global, side: Side, kind: u8, body: &[u8]) -> Result<Message, FieldFault>
+    requires { IsSome (lengths_of side kind) }
+    ensures { Gives (λ m. m) result (message_of side kind body.now) }
+{
+    match side {
+        Side::Front => read_front(alloc, kind, body),
+        Side::Back => Ok(Message::Back(read_back(alloc, kind, body)?)),
+    }
+}
+
+/// The message of the client.
+fn read_front(alloc: Global, kind: u8, body: &[u8]) -> Result<Message, FieldFault>
+    requires { IsSome (front_lengths kind) }
+    ensures { Gives (λ m. m) result (front_of kind body.now) }
+{
+    let message = match kind {
+        b'Q' => Front::Query(read_text(alloc, body)?),
+        b'd' => Front::CopyData(read_bytes(alloc, body)?),
+        b'f' => Front::CopyFail(read_text(alloc, body)?),
+        b'c' => {
+            read_nothing(body)?;
+            Front::CopyDone
+        }
+        b'X' => {
+            read_nothing(body)?;
+            Front::Terminate
+        }
+        _ => unreachable!(),
+    };
+    Ok(Message::Front(message))
 }
