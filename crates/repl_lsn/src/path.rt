@@ -43,12 +43,9 @@ impl History {
         parents.push(Part {
             tli: self.own(),
             switch,
-            reason: promoted(alloc)?,
+            reason: Line::copied(alloc, b"promoted")?,
         })?;
-        match History::new(tli, Parts::new(parents)) {
-            Some(child) => Ok(child),
-            None => unreachable!(),
-        }
+        Ok(History::of(tli, Parts::new(parents)))
     }
 }
 
@@ -74,14 +71,4 @@ fn copy_parts(parts: &[Part], alloc: Global) -> Result<Vec<Part>, AllocError>
         copies.push(part.copy(alloc)?)?;
     }
     Ok(copies)
-}
-
-/// The reason of a promotion. Takes memory.
-fn promoted(alloc: Global) -> Result<Line, AllocError>
-    ensures { IfOk result (λ reason. reason ≡ codes "promoted") }
-{
-    match Line::new(Vec::from_slice(alloc, b"promoted")?) {
-        Some(reason) => Ok(reason),
-        None => unreachable!(),
-    }
 }

@@ -8,7 +8,7 @@ use thiserror::Error;
 
 /// A position in the write-ahead log: the number of bytes before it (PostgreSQL 17 manual, section
 /// "pg_lsn Type").
-#[derive(Clone, Copy, Debug, PartialEq, Eq, PartialOrd, Ord, Hash)]
+#[derive(Clone, Copy, Debug, PartialEq, Eq, PartialOrd, Ord)]
 pub struct Lsn(pub u64);
 
 impl Model for Lsn {

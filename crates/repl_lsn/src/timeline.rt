@@ -4,7 +4,7 @@ ghost use Rattle.std.specs.Option.{SomeIff};
 use std::marker::Model;
 
 /// The number of a timeline, from 1 to 4,294,967,295 (PostgreSQL 17 manual, section "Timelines").
-#[derive(Clone, Copy, Debug, PartialEq, Eq, PartialOrd, Ord, Hash)]
+#[derive(Clone, Copy, Debug, PartialEq, Eq, PartialOrd, Ord)]
 pub struct Tli(pub u32);
 
 impl Model for Tli {

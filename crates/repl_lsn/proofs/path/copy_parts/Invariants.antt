@@ -1,3 +1,4 @@
+-- The parts so far are copied.
 use Rattle.std.proofs.Common.{◌≡◌, take}
 use Rattle.repl_lsn.proofs.path.copy_parts.Given as goal
 
