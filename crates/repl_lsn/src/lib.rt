@@ -18,6 +18,8 @@
 //! ```
 #![tactic(auto)]
 
+mod copies;
+mod equality;
 mod fault;
 mod history;
 mod history_laws;

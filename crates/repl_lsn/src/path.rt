@@ -3,6 +3,7 @@ ghost use Rattle.std.specs.Prelude.{◌≡◌, ◌<◌, ◌≤◌, ◌++◌, ◌
 ghost use Rattle.repl_lsn.specs.History.{last_switch};
 ghost use Rattle.repl_lsn.specs.Path.{IsOn, IsEndOf};
 
+use crate::copies::copy_parts;
 use crate::history::{History, Line, Part, Parts};
 use crate::position::Lsn;
 use crate::timeline::Tli;
@@ -47,28 +48,4 @@ impl History {
         })?;
         Ok(History::of(tli, Parts::new(parents)))
     }
-}
-
-impl Part {
-    /// A copy of the part. Takes memory for its reason.
-    fn copy(&self, alloc: Global) -> Result<Part, AllocError>
-        ensures { IfOk result (λ part. part ≡ self.now) }
-    {
-        Ok(Part {
-            tli: self.tli,
-            switch: self.switch,
-            reason: self.reason.copy(alloc)?,
-        })
-    }
-}
-
-/// Copies of the parts, with room for one more. Takes memory.
-fn copy_parts(parts: &[Part], alloc: Global) -> Result<Vec<Part>, AllocError>
-    ensures { IfOk result (λ copies. copies.items ≡ parts.now) }
-{
-    let mut copies = Vec::with_capacity(alloc, parts.len() + 1)?;
-    for part in parts {
-        copies.push(part.copy(alloc)?)?;
-    }
-    Ok(copies)
 }

@@ -3,6 +3,7 @@ ghost use Rattle.repl_text.specs.Language.{StopsAt};
 ghost use Rattle.repl_lsn.specs.Position.{Spells, IsPosition, IsCanonical, position_text, IsHalfAt, NoDigitAt};
 
 use std::alloc::{AllocError, Global};
+use std::fmt;
 use std::marker::Model;
 use thiserror::Error;
 
@@ -58,9 +59,21 @@ impl Lsn {
         ensures exact { IfOk result (λ text. string_bytes text ≡ position_text self) }
         ensures canonical { IfOk result (λ text. IsCanonical (string_bytes text) self) }
     {
+        format!(in alloc; "{self}")
+    }
+}
+
+/// The position's canonical text.
+impl fmt::Display for Lsn {
+    ghost use Rattle.std.specs.Prelude.{Some};
+    ghost use Rattle.repl_lsn.specs.Position.{position_text};
+
+    ghost output = { λ position. Some (position_text position) };
+
+    fn fmt<W: fmt::Write>(&self, f: &mut fmt::Formatter<W>) -> fmt::Result {
         let high = self.0 >> 32;
         let low = self.0 & 0xffff_ffff;
-        format!(in alloc; "{high:X}/{low:X}")
+        write!(f, "{high:X}/{low:X}")
     }
 }
 
