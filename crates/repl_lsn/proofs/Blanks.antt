@@ -46,7 +46,8 @@ inked_ink bytes = ink_from_stops (inked bytes) (run_stops is_blank bytes)
 pub inked_parts : (bytes : List ℕ) → bytes ≡ blanks_of bytes ++ inked bytes
 inked_parts bytes = sym (take-append-drop (prefix_len is_blank bytes) bytes)
 
-pub inked_is : (bytes lead rest : List ℕ) → bytes ≡ lead ++ rest → AreBlank lead → BeginsInk rest → (lead ≡ blanks_of bytes) × (rest ≡ inked bytes)
+pub inked_is : (bytes lead rest : List ℕ) → bytes ≡ lead ++ rest → AreBlank lead → BeginsInk rest → (lead ≡ blanks_of bytes)
+    × (rest ≡ inked bytes)
 inked_is bytes lead rest e blank ink = run_is is_blank bytes lead rest e blank (stops_from_ink rest ink)
 
 pub word_apart : (bytes : List ℕ) → IsApart (behind_word bytes)
@@ -55,6 +56,8 @@ word_apart bytes = apart_from_stops (behind_word bytes) (run_stops (λ c. not (i
 pub word_parts : (bytes : List ℕ) → bytes ≡ word_of bytes ++ behind_word bytes
 word_parts bytes = sym (take-append-drop (position_or_len is_blank bytes) bytes)
 
-pub word_is : (bytes word behind : List ℕ) → bytes ≡ word ++ behind → All (λ c. is_blank c ≡ false) word → IsApart behind → (word ≡ word_of bytes) × (behind ≡ behind_word bytes)
+pub word_is : (bytes word behind : List ℕ) → bytes ≡ word ++ behind → All (λ c. is_blank c ≡ false) word → IsApart behind
+    → (word ≡ word_of bytes) × (behind ≡ behind_word bytes)
 word_is bytes word behind e ink apart =
-    run_is (λ c. not (is_blank c)) bytes word behind e (All-weaker (λ c. is_blank c ≡ false) (λ c. not (is_blank c) ≡ true) (λ c h. ap not h) word ink) (stops_from_apart behind apart)
+    run_is (λ c. not (is_blank c)) bytes word behind e (All-weaker (λ c. is_blank c ≡ false) (λ c. not (is_blank c) ≡ true) (λ c h.
+    ap not h) word ink) (stops_from_apart behind apart)

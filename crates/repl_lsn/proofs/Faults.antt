@@ -36,18 +36,28 @@ slash_in text position s =
       some_low = omega (arith, s.low_is.some);
       few_low = omega (arith, s.low_is.few);
       slash_is = ap (λ x. get_or x (length s.high) 0) s.parts ∙ get_or_at s.high 47 s.low 0 (length s.high) refl;
-      high_digit = λ i l. subst (λ c. digit_value c < 16) (sym (ap (λ x. get_or x i 0) s.parts ∙ get_or_append_left s.high (47 ∷ s.low) 0 i l)) (digit_in s.high s.high_is.hexadecimal i l);
+      high_digit = λ i l. subst (λ c. digit_value c < 16) (sym (ap (λ x. get_or x i 0) s.parts
+          ∙ get_or_append_left s.high (47 ∷ s.low) 0 i l)) (digit_in s.high s.high_is.hexadecimal i l);
       low_digit = λ i l m.
           let k : i - length s.high ≡ suc (i - length s.high - 1) = omega arith in
-          let at : get_or text i 0 ≡ get_or s.low (i - length s.high - 1) 0 = ap (λ x. get_or x i 0) s.parts ∙ get_or-append_right s.high (47 ∷ s.low) (length s.high) i 0 refl (omega arith) ∙ ap (λ j. get_or (47 ∷ s.low) j 0) k in
+          let at : get_or text i 0 ≡ get_or s.low (i - length s.high - 1) 0 = ap (λ x. get_or x i 0) s.parts
+          ∙ get_or-append_right s.high (47 ∷ s.low) (length s.high) i 0 refl (omega arith) ∙ ap (λ j. get_or (47 ∷ s.low) j 0) k in
           subst (λ c. digit_value c < 16) (sym at) (digit_in s.low s.low_is.hexadecimal (i - length s.high - 1) (omega arith));
     }
 
-pub digit_at : (text : List ℕ) (start value end : ℕ) → IsHalfAt text start value end → (i : ℕ) → start ≤ i → i < end → digit_value (get_or text i 0) < 16
+pub digit_at : (text : List ℕ) (start value end : ℕ) → IsHalfAt text start value end → (i : ℕ) → start ≤ i → i < end
+    → digit_value (get_or text i 0) < 16
 digit_at text start value end h i l m =
     let back : start + (i - start) ≡ i = omega arith in
-    let at : get_or (take (end - start) (drop start text)) (i - start) 0 ≡ get_or text i 0 = get_or-take (end - start) (drop start text) (i - start) 0 (omega arith) ∙ get_or-drop start text (i - start) 0 ∙ ap (λ j. get_or text j 0) back in
-    subst (λ c. digit_value c < 16) at (digit_in (take (end - start) (drop start text)) h.is_half.hexadecimal (i - start) (omega (arith, length-take-le (end - start) (drop start text), length-drop start text, h.within)))
+    let at : get_or (take (end - start) (drop start text)) (i - start) 0 ≡ get_or text i 0 =
+    get_or-take (end - start) (drop start text) (i - start) 0 (omega arith) ∙ get_or-drop start text (i - start) 0
+    ∙ ap (λ j. get_or text j 0) back in
+    subst (λ c. digit_value c < 16) at (digit_in (take (end - start) (drop start text)) h.is_half.hexadecimal (i - start) (omega (
+      arith,
+      length-take-le (end - start) (drop start text),
+      length-drop start text,
+      h.within,
+    )))
 
 pub no_digit : (text : List ℕ) (place : ℕ) → NoDigitAt text place → digit_value (get_or text place 0) < 16 → ⊥
 no_digit text place none digit = ⊎_elim
@@ -67,19 +77,24 @@ joined high low high_is low_is = (
 )
 
 -- the first half of a text, which has no start to drop
-pub first_half : (text : List ℕ) (value slash : ℕ) → IsHalfAt text 0 value slash → IsHalf (take slash text) × (value ≡ digits_value 16 (take slash text))
+pub first_half : (text : List ℕ) (value slash : ℕ) → IsHalfAt text 0 value slash → IsHalf (take slash text)
+    × (value ≡ digits_value 16 (take slash text))
 first_half text value slash h =
     let whole : slash - 0 ≡ slash = omega arith in
     (subst (λ n. IsHalf (take n text)) whole h.is_half, h.value_is ∙ ap (λ n. digits_value 16 (take n text)) whole)
 
 -- the text up to the end of its second half
-pub two_halves : (text : List ℕ) (slash end : ℕ) → slash < length text → get_or text slash 0 ≡ 47 → slash < end → take end text ≡ take slash text ++ 47 ∷ take (end - (slash + 1)) (drop (slash + 1) text)
+pub two_halves : (text : List ℕ) (slash end : ℕ) → slash < length text → get_or text slash 0 ≡ 47 → slash < end
+    → take end text ≡ take slash text ++ 47 ∷ take (end - (slash + 1)) (drop (slash + 1) text)
 two_halves text slash end inside is below =
     let k : (slash + 1) + (end - (slash + 1)) ≡ end = omega arith in
-    ap (λ n. take n text) (sym k) ∙ take-add (slash + 1) (end - (slash + 1)) text ∙ ap (λ x. x ++ take (end - (slash + 1)) (drop (slash + 1) text)) (take_more text slash 0 inside ∙ ap (λ c. take slash text ++ c ∷ []) is)
+    ap (λ n. take n text) (sym k) ∙ take-add (slash + 1) (end - (slash + 1)) text
+    ∙ ap (λ x. x ++ take (end - (slash + 1)) (drop (slash + 1) text)) (take_more text slash 0 inside
+    ∙ ap (λ c. take slash text ++ c ∷ []) is)
     ∙ append_assoc (take slash text) (47 ∷ []) (take (end - (slash + 1)) (drop (slash + 1) text))
 
-pub read_position : (text : List ℕ) (high slash low end : ℕ) → IsHalfAt text 0 high slash → slash < length text → get_or text slash 0 ≡ 47 → IsHalfAt text (slash + 1) low end → length text ≤ end → Spells text (high * 2 ^ 32 + low)
+pub read_position : (text : List ℕ) (high slash low end : ℕ) → IsHalfAt text 0 high slash → slash < length text → get_or text slash 0 ≡ 47
+    → IsHalfAt text (slash + 1) low end → length text ≤ end → Spells text (high * 2 ^ 32 + low)
 read_position text high slash low end h inside is l all =
     let first = first_half text high slash h in
     record {
@@ -101,10 +116,12 @@ stops_at_high text none = stops_from IsPosition 0 text 0 (omega arith) (48 ∷ 4
     no_digit text 0 none (subst (λ c. digit_value c < 16) (f.same 0 (omega arith)) (s.high_digit 0 s.some_high)))
 
 -- a position's slash stands where the digits end, or one more digit does
-pub same_slash : (text : List ℕ) (value slash : ℕ) → IsHalfAt text 0 value slash → (other : List ℕ) (at : ℕ) → HasSlashAt other at → ((i : ℕ) → i ≤ slash → get_or other i 0 ≡ get_or text i 0)
+pub same_slash : (text : List ℕ) (value slash : ℕ) → IsHalfAt text 0 value slash → (other : List ℕ) (at : ℕ) → HasSlashAt other at
+    → ((i : ℕ) → i ≤ slash → get_or other i 0 ≡ get_or text i 0)
     → (at ≡ slash) ⊎ ((slash < 8) × (digit_value (get_or text slash 0) < 16))
 same_slash text value slash h other at s same = ⊎_elim
-    (λ l. absurd (not_slash (get_or text at 0) (digit_at text 0 value slash h at (omega arith) l) (sym (same at (omega arith)) ∙ s.slash_is)))
+    (λ l. absurd (not_slash (get_or text at 0) (digit_at text 0 value slash h at (omega arith) l) (sym (same at (omega arith))
+    ∙ s.slash_is)))
     (λ l. ⊎_elim
     (λ m. inr (omega (arith, s.few_high), subst (λ c. digit_value c < 16) (same slash (omega arith)) (s.high_digit slash m)))
     (λ m. inl (omega arith))
@@ -112,8 +129,12 @@ same_slash text value slash h other at s same = ⊎_elim
     (cases_lt at slash)
 
 -- the digits of the first half end, and no slash follows
-pub stops_at_slash : (text : List ℕ) (value slash : ℕ) → IsHalfAt text 0 value slash → (get_or text slash 0 ≡ 47 → ⊥) → StopsAt IsPosition text slash
-stops_at_slash text value slash h none = stops_from IsPosition 0 text slash h.within (47 ∷ 48 ∷ [], joined (take slash text) (48 ∷ []) (first_half text value slash h).0 zero_half)
+pub stops_at_slash : (text : List ℕ) (value slash : ℕ) → IsHalfAt text 0 value slash → (get_or text slash 0 ≡ 47 → ⊥)
+    → StopsAt IsPosition text slash
+stops_at_slash text value slash h none = stops_from IsPosition 0 text slash h.within (
+  47 ∷ 48 ∷ [],
+  joined (take slash text) (48 ∷ []) (first_half text value slash h).0 zero_half,
+)
     (λ other f p.
     let s = slash_in other p.0 p.1 in
     ⊎_elim
@@ -122,13 +143,18 @@ stops_at_slash text value slash h none = stops_from IsPosition 0 text slash h.wi
     (same_slash text value slash h other (length (p.1).high) s f.same))
 
 -- no digit follows the slash
-pub stops_at_low : (text : List ℕ) (value slash : ℕ) → IsHalfAt text 0 value slash → slash < length text → get_or text slash 0 ≡ 47 → NoDigitAt text (slash + 1) → StopsAt IsPosition text (slash + 1)
-stops_at_low text value slash h inside is none = stops_from IsPosition 0 text (slash + 1) (omega arith)
-    (48 ∷ [], subst IsPosition (sym (ap (λ x. x ++ 48 ∷ []) front ∙ append_assoc (take slash text) (47 ∷ []) (48 ∷ []))) (joined (take slash text) (48 ∷ []) (first_half text value slash h).0 zero_half))
+pub stops_at_low : (text : List ℕ) (value slash : ℕ) → IsHalfAt text 0 value slash → slash < length text → get_or text slash 0 ≡ 47
+    → NoDigitAt text (slash + 1) → StopsAt IsPosition text (slash + 1)
+stops_at_low text value slash h inside is none = stops_from IsPosition 0 text (slash + 1) (omega arith) (
+  48 ∷ [],
+  subst IsPosition (sym (ap (λ x. x ++ 48 ∷ []) front ∙ append_assoc (take slash text) (47 ∷ []) (48 ∷ [])))
+      (joined (take slash text) (48 ∷ []) (first_half text value slash h).0 zero_half),
+)
     (λ other f p.
     let s = slash_in other p.0 p.1 in
     ⊎_elim
-    (λ e. no_digit text (slash + 1) none (subst (λ c. digit_value c < 16) (f.same (slash + 1) (omega arith)) (s.low_digit (slash + 1) (omega arith) (omega (arith, s.some_low)))))
+    (λ e. no_digit text (slash + 1) none (subst (λ c. digit_value c < 16) (f.same (slash + 1) (omega arith))
+    (s.low_digit (slash + 1) (omega arith) (omega (arith, s.some_low)))))
     (λ d. not_slash (get_or text slash 0) d.1 is)
     (same_slash text value slash h other (length (p.1).high) s (λ i l. f.same i (omega arith))))
   where
@@ -136,13 +162,18 @@ stops_at_low text value slash h inside is none = stops_from IsPosition 0 text (s
     front = take_more text slash 0 inside ∙ ap (λ c. take slash text ++ c ∷ []) is
 
 -- the digits of the second half end, and the text goes on
-pub stops_after : (text : List ℕ) (high slash low end : ℕ) → IsHalfAt text 0 high slash → slash < length text → get_or text slash 0 ≡ 47 → IsHalfAt text (slash + 1) low end → end < length text → StopsAt IsPosition text end
-stops_after text high slash low end h inside is l more = stops_from IsPosition 0 text end (omega arith)
-    ([], subst IsPosition (sym (append-nil (take end text) ∙ two_halves text slash end inside is (omega (arith, l.above)))) (joined (take slash text) (take (end - (slash + 1)) (drop (slash + 1) text)) (first_half text high slash h).0 l.is_half))
+pub stops_after : (text : List ℕ) (high slash low end : ℕ) → IsHalfAt text 0 high slash → slash < length text → get_or text slash 0 ≡ 47
+    → IsHalfAt text (slash + 1) low end → end < length text → StopsAt IsPosition text end
+stops_after text high slash low end h inside is l more = stops_from IsPosition 0 text end (omega arith) (
+  [],
+  subst IsPosition (sym (append-nil (take end text) ∙ two_halves text slash end inside is (omega (arith, l.above))))
+      (joined (take slash text) (take (end - (slash + 1)) (drop (slash + 1) text)) (first_half text high slash h).0 l.is_half),
+)
     (λ other f p.
     let s = slash_in other p.0 p.1 in
     let long = f.long more in
     ⊎_elim
-    (λ e. no_digit text end (l.whole (omega (arith, s.few_low, l.above))) (subst (λ c. digit_value c < 16) (f.same end (omega arith)) (s.low_digit end (omega (arith, l.above)) long)))
+    (λ e. no_digit text end (l.whole (omega (arith, s.few_low, l.above))) (subst (λ c. digit_value c < 16) (f.same end (omega arith))
+    (s.low_digit end (omega (arith, l.above)) long)))
     (λ d. not_slash (get_or text slash 0) d.1 is)
     (same_slash text high slash h other (length (p.1).high) s (λ i m. f.same i (omega (arith, l.above)))))

@@ -29,43 +29,52 @@ digits_are n = refl
 onto_last : (k n : ℕ) (after : List ℕ) → n < 16 → digits_onto (suc k) 16 true n after ≡ glyph n ∷ after
 onto_last k n after small =
     let same : n % 16 ≡ n = omega arith in
-    ap (λ b. cond b (glyph (n % 16) ∷ after) (digits_onto k 16 true (n / 16) (glyph (n % 16) ∷ after))) (eq-eqb (n / 16) 0 (omega arith)) ∙ ap (λ d. glyph d ∷ after) same
+    ap (λ b. cond b (glyph (n % 16) ∷ after) (digits_onto k 16 true (n / 16) (glyph (n % 16) ∷ after))) (eq-eqb (n / 16) 0 (omega arith))
+    ∙ ap (λ d. glyph d ∷ after) same
 
-onto_step : (k n : ℕ) (after : List ℕ) → 16 ≤ n → digits_onto (suc k) 16 true n after ≡ digits_onto k 16 true (n / 16) (glyph (n % 16) ∷ after)
-onto_step k n after large = ap (λ b. cond b (glyph (n % 16) ∷ after) (digits_onto k 16 true (n / 16) (glyph (n % 16) ∷ after))) (ne_eqb (n / 16) 0 (λ e. omega arith))
+onto_step : (k n : ℕ) (after : List ℕ) → 16 ≤ n → digits_onto (suc k) 16 true n after ≡ digits_onto k 16 true (n / 16)
+    (glyph (n % 16) ∷ after)
+onto_step k n after large = ap (λ b. cond b (glyph (n % 16) ∷ after) (digits_onto k 16 true (n / 16) (glyph (n % 16) ∷ after)))
+    (ne_eqb (n / 16) 0 (λ e. omega arith))
 
 onto-append : (k n : ℕ) (after : List ℕ) → digits_onto k 16 true n after ≡ digits_onto k 16 true n [] ++ after
 onto-append zero n after = refl
 onto-append (suc k) n after = ⊎_elim
     (λ l. onto_last k n after l ∙ ap (λ x. x ++ after) (sym (onto_last k n [] l)))
-    (λ l. onto_step k n after l ∙ onto-append k (n / 16) (glyph (n % 16) ∷ after) ∙ sym (append_assoc (digits_onto k 16 true (n / 16) []) (glyph (n % 16) ∷ []) after)
+    (λ l. onto_step k n after l ∙ onto-append k (n / 16) (glyph (n % 16) ∷ after)
+    ∙ sym (append_assoc (digits_onto k 16 true (n / 16) []) (glyph (n % 16) ∷ []) after)
     ∙ ap (λ x. x ++ after) (sym (onto_step k n [] l ∙ onto-append k (n / 16) (glyph (n % 16) ∷ []))))
     (cases_lt n 16)
 
-onto_enough : (j k n : ℕ) (after : List ℕ) → n < 16 ^ suc j → n < 16 ^ suc k → digits_onto (suc j) 16 true n after ≡ digits_onto (suc k) 16 true n after
+onto_enough : (j k n : ℕ) (after : List ℕ) → n < 16 ^ suc j → n < 16 ^ suc k
+    → digits_onto (suc j) 16 true n after ≡ digits_onto (suc k) 16 true n after
 onto_enough zero k n after p q = onto_last zero n after (omega arith) ∙ sym (onto_last k n after (omega arith))
 onto_enough (suc j) zero n after p q = onto_last (suc j) n after (omega arith) ∙ sym (onto_last zero n after (omega arith))
 onto_enough (suc j) (suc k) n after p q = ⊎_elim
     (λ l. onto_last (suc j) n after l ∙ sym (onto_last (suc k) n after l))
-    (λ l. onto_step (suc j) n after l ∙ onto_enough j k (n / 16) (glyph (n % 16) ∷ after) (omega arith) (omega arith) ∙ sym (onto_step (suc k) n after l))
+    (λ l. onto_step (suc j) n after l ∙ onto_enough j k (n / 16) (glyph (n % 16) ∷ after) (omega arith) (omega arith)
+    ∙ sym (onto_step (suc k) n after l))
     (cases_lt n 16)
 
 -- a number of two digits or more is written by its front and its last digit
 pub hex_step : (n : ℕ) → 16 ≤ n → n < 16 ^ 64 → digits 16 true n ≡ digits 16 true (n / 16) ++ (glyph (n % 16) ∷ [])
 hex_step n large small =
-    digits_are n ∙ onto_step 63 n [] large ∙ onto_enough 62 63 (n / 16) (glyph (n % 16) ∷ []) (omega arith) (omega arith) ∙ onto-append 64 (n / 16) (glyph (n % 16) ∷ [])
+    digits_are n ∙ onto_step 63 n [] large ∙ onto_enough 62 63 (n / 16) (glyph (n % 16) ∷ []) (omega arith) (omega arith)
+    ∙ onto-append 64 (n / 16) (glyph (n % 16) ∷ [])
     ∙ ap (λ x. x ++ (glyph (n % 16) ∷ [])) (sym (digits_are (n / 16)))
 
 pub hex_digit : (n : ℕ) → n < 16 → digits 16 true n ≡ glyph n ∷ []
 hex_digit n small = hex_one_digit true n small
 
 -- induction on the digits of a number: one digit, then one more at the end
-pub hex_by_steps : (P : ℕ → List ℕ → Type 0) → ((n : ℕ) → n < 16 → P n (glyph n ∷ [])) → ((n : ℕ) (ds : List ℕ) → 16 ≤ n → P (n / 16) ds → P n (ds ++ (glyph (n % 16) ∷ [])))
+pub hex_by_steps : (P : ℕ → List ℕ → Type 0) → ((n : ℕ) → n < 16 → P n (glyph n ∷ [])) → ((n : ℕ) (ds : List ℕ) → 16 ≤ n → P (n / 16) ds
+    → P n (ds ++ (glyph (n % 16) ∷ [])))
     → (k n : ℕ) → n ≤ k → n < 16 ^ 64 → P n (digits 16 true n)
 hex_by_steps P one more zero n le small = subst (P n) (sym (hex_digit n (omega arith))) (one n (omega arith))
 hex_by_steps P one more (suc k) n le small = ⊎_elim
     (λ l. subst (P n) (sym (hex_digit n l)) (one n l))
-    (λ l. subst (P n) (sym (hex_step n l small)) (more n (digits 16 true (n / 16)) l (hex_by_steps P one more k (n / 16) (omega arith) (omega arith))))
+    (λ l. subst (P n) (sym (hex_step n l small)) (more n (digits 16 true (n / 16)) l (hex_by_steps P one more k (n / 16) (omega arith)
+    (omega arith))))
     (cases_lt n 16)
 
 -- what is written of a number: how many digits, in upper case, and no leading zero
@@ -79,7 +88,10 @@ glyph_upper : (d : ℕ) → d < 16 → glyph d < 97
 glyph_upper d small = ⊎_elim (λ l. omega (arith, (glyph_is d small).0 l)) (λ l. omega (arith, (glyph_is d small).1 l)) (cases_lt d 10)
 
 glyph_not_zero : (d : ℕ) → d < 16 → 0 < d → glyph d ≡ 48 → ⊥
-glyph_not_zero d small some e = ⊎_elim (λ l. omega (arith, (glyph_is d small).0 l)) (λ l. omega (arith, (glyph_is d small).1 l)) (cases_lt d 10)
+glyph_not_zero d small some e = ⊎_elim (λ l. omega (arith, (glyph_is d small).0 l)) (λ l. omega (
+  arith,
+  (glyph_is d small).1 l,
+)) (cases_lt d 10)
 
 written_one : (n : ℕ) → n < 16 → Written n (glyph n ∷ [])
 written_one n small = record {
@@ -110,7 +122,12 @@ plain_digits n small =
     let w = written n (omega arith) in
     let most : length (digits 16 true n) ≤ 8 = w.few 7 (omega arith) in
     record {
-      is_half = record { some = w.some; few = most; hexadecimal = (digits_is_IsNumeral 16 true (omega arith) (omega arith) n (omega arith)).0.1 };
+      is_half = record {
+        some = w.some;
+        few = most;
+        hexadecimal =
+            (digits_is_IsNumeral 16 true (omega arith) (omega arith) n (omega arith)).0.1;
+      };
       upper = w.upper;
       leading = λ e. ⊎_elim (λ l. absurd (w.leading l e)) (λ l. omega (arith, w.some, w.few 0 (omega arith))) (cases_lt 0 n);
     }
@@ -126,17 +143,20 @@ le_value_after : (n : ℕ) (ds : List ℕ) → n ≤ digits_value_after 16 n ds
 le_value_after n [] = omega arith
 le_value_after n (c ∷ cs) = omega (arith, le_value_after (n * 16 + digit_value c) cs)
 
-digits_value_after_front : (n : ℕ) (ds : List ℕ) → 0 < n → AllDigits 16 ds → AllByRecursion (λ c. c < 97) ds → digits_value_after 16 n ds < 16 ^ 64 → digits 16 true (digits_value_after 16 n ds) ≡ digits 16 true n ++ ds
+digits_value_after_front : (n : ℕ) (ds : List ℕ) → 0 < n → AllDigits 16 ds → AllByRecursion (λ c. c < 97) ds
+    → digits_value_after 16 n ds < 16 ^ 64 → digits 16 true (digits_value_after 16 n ds) ≡ digits 16 true n ++ ds
 digits_value_after_front n [] some d u small = sym (append-nil (digits 16 true n))
 digits_value_after_front n (c ∷ cs) some d u small =
     let m : ℕ = n * 16 + digit_value c in
     let front : m / 16 ≡ n = omega (arith, d.0) in
     let end : m % 16 ≡ digit_value c = omega (arith, d.0) in
     digits_value_after_front m cs (omega arith) d.1 u.1 small
-    ∙ ap (λ x. x ++ cs) (hex_step m (omega arith) (omega (arith, le_value_after m cs)) ∙ (λ i. digits 16 true (front i) ++ ((ap glyph end ∙ glyph_value c d.0 u.0) i ∷ [])))
+    ∙ ap (λ x. x ++ cs) (hex_step m (omega arith) (omega (arith, le_value_after m cs))
+    ∙ (λ i. digits 16 true (front i) ++ ((ap glyph end ∙ glyph_value c d.0 u.0) i ∷ [])))
     ∙ append_assoc (digits 16 true n) (c ∷ []) cs
 
-digits_value_whole : (ds : List ℕ) → AllDigits 16 ds → AllByRecursion (λ c. c < 97) ds → 0 < length ds → (get_or ds 0 0 ≡ 48 → length ds ≡ 1) → digits_value 16 ds < 16 ^ 64 → digits 16 true (digits_value 16 ds) ≡ ds
+digits_value_whole : (ds : List ℕ) → AllDigits 16 ds → AllByRecursion (λ c. c < 97) ds → 0 < length ds
+    → (get_or ds 0 0 ≡ 48 → length ds ≡ 1) → digits_value 16 ds < 16 ^ 64 → digits 16 true (digits_value 16 ds) ≡ ds
 digits_value_whole [] d u some lead small = absurd (omega arith)
 digits_value_whole (c ∷ []) d u some lead small =
     let is : 0 * 16 + digit_value c ≡ digit_value c = omega arith in
@@ -145,10 +165,12 @@ digits_value_whole (c ∷ e ∷ cs) d u some lead small =
     let is : 0 * 16 + digit_value c ≡ digit_value c = omega arith in
     let no : c ≡ 48 → ⊥ = λ z. omega (arith, lead z) in
     let back = glyph_value c d.0 u.0 in
-    let first : 0 < digit_value c = ⊎_elim (λ l. l) (λ l. let z : digit_value c ≡ 0 = omega arith in absurd (no (sym back ∙ ap glyph z))) (cases_lt 0 (digit_value c)) in
+    let first : 0 < digit_value c = ⊎_elim (λ l. l) (λ l. let z : digit_value c ≡ 0 =
+    omega arith in absurd (no (sym back ∙ ap glyph z))) (cases_lt 0 (digit_value c)) in
     digits_value_after_front (0 * 16 + digit_value c) (e ∷ cs) (omega arith) d.1 u.1 small
     ∙ ap (λ x. x ++ (e ∷ cs)) (ap (digits 16 true) is ∙ hex_digit (digit_value c) d.0 ∙ ap (λ x. x ∷ []) back)
 
 -- a plain half is what is written of its value
 pub plain_is_digits : (half : List ℕ) → IsPlain half → digits 16 true (digits_value 16 half) ≡ half
-plain_is_digits half h = digits_value_whole half h.is_half.hexadecimal (recursion_from_All (λ c. c < 97) half h.upper) h.is_half.some h.leading (omega (arith, half_fits half h.is_half.hexadecimal h.is_half.few))
+plain_is_digits half h = digits_value_whole half h.is_half.hexadecimal (recursion_from_All (λ c. c < 97) half h.upper) h.is_half.some
+    h.leading (omega (arith, half_fits half h.is_half.hexadecimal h.is_half.few))

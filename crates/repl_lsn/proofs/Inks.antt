@@ -54,11 +54,13 @@ blank_behind [] b h = h
 blank_behind (c ∷ a) b h = blank_behind a b (All-tail (λ x. is_blank x ≡ true) c (a ++ b) h)
 
 all_blank : (bytes : List ℕ) → IsReason bytes [] → AreBlank bytes
-all_blank bytes p = subst AreBlank (sym (p.parts ∙ append_assoc p.front [] p.back)) (All-append (λ c. is_blank c ≡ true) p.front p.back p.blank.0 p.blank.1)
+all_blank bytes p = subst AreBlank (sym (p.parts ∙ append_assoc p.front [] p.back)) (All-append (λ c. is_blank c ≡ true) p.front p.back
+    p.blank.0 p.blank.1)
 
 not_all_blank : (bytes : List ℕ) (c : ℕ) (cs : List ℕ) → AreBlank bytes → IsReason bytes (c ∷ cs) → ⊥
 not_all_blank bytes c cs blank p =
-    not_blank c cs p.back (p.line).ends (blank_behind p.front ((c ∷ cs) ++ p.back) (subst AreBlank (p.parts ∙ append_assoc p.front (c ∷ cs) p.back) blank))
+    not_blank c cs p.back (p.line).ends (blank_behind p.front ((c ∷ cs) ++ p.back) (subst AreBlank (p.parts
+    ∙ append_assoc p.front (c ∷ cs) p.back) blank))
 
 -- what is left of the blanks of one text is one
 pub one_reason : (bytes a b : List ℕ) → IsReason bytes a → IsReason bytes b → a ≡ b
@@ -87,7 +89,8 @@ blank_end bytes = All-from_get_or (λ c. is_blank c ≡ true) (drop (ink_end byt
     let few = suffix_len-le-length is_blank bytes in
     let inside : ink_end bytes + i < length bytes = omega arith in
     let near : length bytes - 1 - (ink_end bytes + i) < suffix_len is_blank bytes = omega arith in
-    ap is_blank (get_or-drop (ink_end bytes) bytes i 0 ∙ from_end bytes (ink_end bytes + i) inside) ∙ prefix_len_passes is_blank (reverse bytes) (length bytes - 1 - (ink_end bytes + i)) 0 near)
+    ap is_blank (get_or-drop (ink_end bytes) bytes i 0 ∙ from_end bytes (ink_end bytes + i) inside)
+    ∙ prefix_len_passes is_blank (reverse bytes) (length bytes - 1 - (ink_end bytes + i)) 0 near)
 
 ends_front : (bytes : List ℕ) → EndsInk (take (ink_end bytes) bytes)
 ends_front bytes = ends_from_last (take (ink_end bytes) bytes)
@@ -99,7 +102,8 @@ ends_front bytes = ends_from_last (take (ink_end bytes) bytes)
     let place : length bytes - 1 - (ink_end bytes - 1) ≡ suffix_len is_blank bytes = omega arith in
     let long : suffix_len is_blank bytes < length (reverse bytes) = omega (arith, length-reverse bytes) in
     ap (λ k. is_blank (get_or (take (ink_end bytes) bytes) (k - 1) 0)) size
-    ∙ ap is_blank (get_or-take (ink_end bytes) bytes (ink_end bytes - 1) 0 last ∙ from_end bytes (ink_end bytes - 1) inside ∙ ap (λ k. get_or (reverse bytes) k 0) place)
+    ∙ ap is_blank (get_or-take (ink_end bytes) bytes (ink_end bytes - 1) 0 last ∙ from_end bytes (ink_end bytes - 1) inside
+    ∙ ap (λ k. get_or (reverse bytes) k 0) place)
     ∙ prefix_len_stops is_blank (reverse bytes) 0 long)
 
 -- the bytes without the blanks at their ends

@@ -21,3 +21,4 @@ pub mod NameReading
 pub mod NameFaults
 pub mod Timelines
 pub mod Relations
+pub mod Equals

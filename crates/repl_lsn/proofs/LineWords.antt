@@ -47,7 +47,8 @@ begins_word [] behind inks some = absurd (omega arith)
 begins_word (c ∷ cs) behind inks some = All-head (λ c. is_blank c ≡ false) c cs inks
 
 -- a word behind blanks is the one that is cut there
-pub word_behind : (bytes lead word behind : List ℕ) → bytes ≡ (lead ++ word) ++ behind → AreBlank lead → All (λ c. is_blank c ≡ false) word → 0 < length word → IsApart behind
+pub word_behind : (bytes lead word behind : List ℕ) → bytes ≡ (lead ++ word) ++ behind → AreBlank lead → All (λ c. is_blank c ≡ false) word
+    → 0 < length word → IsApart behind
     → (word ≡ word_of (inked bytes)) × (behind ≡ behind_word (inked bytes))
 word_behind bytes lead word behind e blank inks some apart =
     let rest = inked_is bytes lead (word ++ behind) (e ∙ append_assoc lead word behind) blank (begins_word word behind inks some) in
@@ -79,7 +80,8 @@ has_number line n h = record {
   apart = word_apart (inked line);
 }
 
-pub number_is : (line : List ℕ) (n : ℕ) (behind : List ℕ) → HasNumber line n behind → IsNumber (word_of (inked line)) n × (behind ≡ behind_word (inked line))
+pub number_is : (line : List ℕ) (n : ℕ) (behind : List ℕ) → HasNumber line n behind → IsNumber (word_of (inked line)) n
+    × (behind ≡ behind_word (inked line))
 number_is line n behind h =
     let inks = All-weaker (λ c. is_ascii_digit c ≡ true) (λ c. is_blank c ≡ false) digit_inks h.number h.digits in
     let w = word_behind line h.lead h.number behind h.parts h.blank inks h.some h.apart in
@@ -99,7 +101,8 @@ gap_some (c ∷ cs) apart some =
     let more : prefix_len is_blank (c ∷ cs) ≡ 1 + prefix_len is_blank cs = cond-true (is_blank c) (1 + prefix_len is_blank cs) 0 apart in
     omega (arith, length-take-le (prefix_len is_blank (c ∷ cs)) (c ∷ cs) (prefix_len-le-length is_blank (c ∷ cs)), more)
 
-pub has_switch : (bytes : List ℕ) (switch : ℕ) → IsApart bytes → Spells (word_of (inked bytes)) switch → HasSwitch bytes switch (behind_word (inked bytes))
+pub has_switch : (bytes : List ℕ) (switch : ℕ) → IsApart bytes → Spells (word_of (inked bytes)) switch
+    → HasSwitch bytes switch (behind_word (inked bytes))
 has_switch bytes switch apart h = record {
   gap = blanks_of bytes;
   position = word_of (inked bytes);
@@ -110,9 +113,11 @@ has_switch bytes switch apart h = record {
   apart = word_apart (inked bytes);
 }
 
-pub switch_is : (bytes : List ℕ) (switch : ℕ) (behind : List ℕ) → HasSwitch bytes switch behind → Spells (word_of (inked bytes)) switch × (behind ≡ behind_word (inked bytes))
+pub switch_is : (bytes : List ℕ) (switch : ℕ) (behind : List ℕ) → HasSwitch bytes switch behind → Spells (word_of (inked bytes)) switch
+    × (behind ≡ behind_word (inked bytes))
 switch_is bytes switch behind h =
-    let w = word_behind bytes h.gap h.position behind h.parts h.blank (position_inks h.position switch h.spelled) (position_some h.position switch h.spelled) h.apart in
+    let w = word_behind bytes h.gap h.position behind h.parts h.blank (position_inks h.position switch h.spelled)
+    (position_some h.position switch h.spelled) h.apart in
     (subst (λ word. Spells word switch) w.0 h.spelled, w.1)
 
 pub one_switch : (bytes : List ℕ) (m n : ℕ) (a b : List ℕ) → HasSwitch bytes m a → HasSwitch bytes n b → (m ≡ n) × (a ≡ b)

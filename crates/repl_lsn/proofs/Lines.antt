@@ -29,11 +29,13 @@ pub line_last : (line : List ℕ) → IsSingle line → 0 < length line → line
 line_last [] one some = absurd (omega arith)
 line_last (c ∷ []) one some = inside c [] (All-head (λ x. x ≢ 10) c [] one)
 line_last (c ∷ d ∷ cs) one some =
-    inside c (d ∷ cs) (All-head (λ x. x ≢ 10) c (d ∷ cs) one) ∙ ap (onto_first c) (line_last (d ∷ cs) (All-tail (λ x. x ≢ 10) c (d ∷ cs) one) (omega arith))
+    inside c (d ∷ cs) (All-head (λ x. x ≢ 10) c (d ∷ cs) one)
+    ∙ ap (onto_first c) (line_last (d ∷ cs) (All-tail (λ x. x ≢ 10) c (d ∷ cs) one) (omega arith))
 
 -- ---- no others
 
-lines_front : (front : List (List ℕ)) (rest : List ℕ) → All IsSingle front → lines_of (flat_map ended front ++ rest) ≡ front ++ lines_of rest
+lines_front : (front : List (List ℕ)) (rest : List ℕ) → All IsSingle front → lines_of (flat_map ended front ++ rest) ≡ front
+    ++ lines_of rest
 lines_front [] rest one = refl
 lines_front (line ∷ front) rest one =
     let parts : flat_map ended (line ∷ front) ++ rest ≡ line ++ 10 ∷ (flat_map ended front ++ rest) =
@@ -51,10 +53,12 @@ lines_ended : (text : List ℕ) (lines : List (List ℕ)) → All IsSingle lines
 lines_ended text lines one e =
     sym (ap lines_of (e ∙ sym (append-nil (flat_map ended lines))) ∙ lines_front lines [] one ∙ append-nil lines)
 
-lines_open : (text : List ℕ) (front : List (List ℕ)) (last : List ℕ) → All IsSingle (front ++ last ∷ []) → 0 < length last → text ≡ flat_map ended front ++ last → front ++ last ∷ [] ≡ lines_of text
+lines_open : (text : List ℕ) (front : List (List ℕ)) (last : List ℕ) → All IsSingle (front ++ last ∷ []) → 0 < length last
+    → text ≡ flat_map ended front ++ last → front ++ last ∷ [] ≡ lines_of text
 lines_open text front last one some e =
     let singles = front_single front (last ∷ []) one in
-    sym (ap lines_of e ∙ lines_front front last singles.0 ∙ ap (λ lines. front ++ lines) (line_last last (All-head IsSingle last [] singles.1) some))
+    sym (ap lines_of e ∙ lines_front front last singles.0 ∙ ap (λ lines. front
+    ++ lines) (line_last last (All-head IsSingle last [] singles.1) some))
 
 pub lines_are : (text : List ℕ) (lines : List (List ℕ)) → AreLines text lines → lines ≡ lines_of text
 lines_are text lines h = ⊎_elim
@@ -86,14 +90,18 @@ more_first c text other h = record {
       h.parts;
 }
 
-open_more : (c : ℕ) (text line : List ℕ) (lines front : List (List ℕ)) (last : List ℕ) → line ∷ lines ≡ front ++ last ∷ [] → 0 < length last → text ≡ flat_map ended front ++ last
-    → (more : List (List ℕ)) × (end : List ℕ) × ((c ∷ line) ∷ lines ≡ more ++ end ∷ []) × (0 < length end) × (c ∷ text ≡ flat_map ended more ++ end)
+open_more : (c : ℕ) (text line : List ℕ) (lines front : List (List ℕ)) (last : List ℕ) → line ∷ lines ≡ front ++ last ∷ [] → 0 < length last
+    → text ≡ flat_map ended front ++ last
+    → (more : List (List ℕ)) × (end : List ℕ) × ((c ∷ line) ∷ lines ≡ more ++ end ∷ []) × (0 < length end)
+    × (c ∷ text ≡ flat_map ended more ++ end)
 open_more c text line lines [] last e some t = ([], c ∷ last, cc, omega arith, ap (λ rest. c ∷ rest) t)
 open_more c text line lines (first ∷ front) last e some t = ((c ∷ first) ∷ front, last, cc, some, ap (λ rest. c ∷ rest) t)
 
-more_inside : (c : ℕ) (text line : List ℕ) (lines : List (List ℕ)) → c ≢ 10 → AreLines text (line ∷ lines) → AreLines (c ∷ text) ((c ∷ line) ∷ lines)
+more_inside : (c : ℕ) (text line : List ℕ) (lines : List (List ℕ)) → c ≢ 10 → AreLines text (line ∷ lines)
+    → AreLines (c ∷ text) ((c ∷ line) ∷ lines)
 more_inside c text line lines other h = record {
-  single = All-cons IsSingle (c ∷ line) lines (All-cons (λ x. x ≢ 10) c line other (All-head IsSingle line lines h.single)) (All-tail IsSingle line lines h.single);
+  single = All-cons IsSingle (c ∷ line) lines (All-cons (λ x. x ≢ 10) c line other (All-head IsSingle line lines h.single))
+      (All-tail IsSingle line lines h.single);
   parts = ⊎_elim
       (λ e. inl (ap (λ rest. c ∷ rest) e))
       (λ o. inr (open_more c text line lines o.0 o.1 o.2 o.3 o.4))
@@ -117,7 +125,8 @@ pub record Splits (text line behind : List ℕ) : Type 0 where
   pub first : lines_of text ≡ line ∷ lines_of behind
   pub shorter : length behind < length text
 
-pub split_first : (text line behind : List ℕ) → 0 < length text → IsSingle line → (text ≡ line ++ 10 ∷ behind) ⊎ ((text ≡ line) × (behind ≡ [])) → Splits text line behind
+pub split_first : (text line behind : List ℕ) → 0 < length text → IsSingle line → (text ≡ line ++ 10 ∷ behind)
+    ⊎ ((text ≡ line) × (behind ≡ [])) → Splits text line behind
 split_first text line behind some one parts = ⊎_elim
     (λ e.
     record {

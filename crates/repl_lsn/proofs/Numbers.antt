@@ -34,7 +34,8 @@ pub digits_from_upper : (ds : List ℕ) → AllDigits 16 ds → All (λ c. c < 9
 digits_from_upper ds d u = All-from_recursion IsDigit ds (upper_by_recursion ds d (recursion_from_All (λ c. c < 97) ds u))
 
 -- as many digits that write the same number are the same
-same_after : (n m : ℕ) (a b : List ℕ) → length a ≡ length b → AllByRecursion IsDigit a → AllByRecursion IsDigit b → digits_value_after 16 n a ≡ digits_value_after 16 m b → (n ≡ m) × (a ≡ b)
+same_after : (n m : ℕ) (a b : List ℕ) → length a ≡ length b → AllByRecursion IsDigit a → AllByRecursion IsDigit b
+    → digits_value_after 16 n a ≡ digits_value_after 16 m b → (n ≡ m) × (a ≡ b)
 same_after n m [] [] l p q e = (e, refl)
 same_after n m [] (y ∷ b) l p q e = absurd (omega arith)
 same_after n m (x ∷ a) [] l p q e = absurd (omega arith)
@@ -56,12 +57,17 @@ zeros_value (suc k) ds = zeros_value k ds
 pub length_eight : (n : ℕ) → n < 2 ^ 32 → length (eight n) ≡ 8
 length_eight n small =
     let few = (plain_digits n small).is_half.few in
-    omega (arith, length-append (replicate (8 - length (digits 16 true n)) 48) (digits 16 true n), length-replicate {A = ℕ} (8 - length (digits 16 true n)) 48)
+    omega (
+      arith,
+      length-append (replicate (8 - length (digits 16 true n)) 48) (digits 16 true n),
+      length-replicate {A = ℕ} (8 - length (digits 16 true n)) 48,
+    )
 
 pub eight_digits : (n : ℕ) → n < 2 ^ 32 → AreDigits (eight n)
 eight_digits n small =
     let plain = plain_digits n small in
-    All-append IsDigit (replicate (8 - length (digits 16 true n)) 48) (digits 16 true n) (All-replicate IsDigit (8 - length (digits 16 true n)) 48 (omega arith, omega arith))
+    All-append IsDigit (replicate (8 - length (digits 16 true n)) 48) (digits 16 true n)
+    (All-replicate IsDigit (8 - length (digits 16 true n)) 48 (omega arith, omega arith))
     (digits_from_upper (digits 16 true n) plain.is_half.hexadecimal plain.upper)
 
 pub eight_value : (n : ℕ) → n < 2 ^ 32 → digits_value 16 (eight n) ≡ n
@@ -74,4 +80,5 @@ eight_fits ds l d = half_fits ds (plain_from_digits ds d) (omega arith)
 pub eight_of_value : (ds : List ℕ) → length ds ≡ 8 → AreDigits ds → ds ≡ eight (digits_value 16 ds)
 eight_of_value ds l d =
     let small = eight_fits ds l d in
-    same_digits ds (eight (digits_value 16 ds)) (l ∙ sym (length_eight (digits_value 16 ds) small)) d (eight_digits (digits_value 16 ds) small) (sym (eight_value (digits_value 16 ds) small))
+    same_digits ds (eight (digits_value 16 ds)) (l ∙ sym (length_eight (digits_value 16 ds) small)) d (eight_digits (digits_value 16 ds)
+    small) (sym (eight_value (digits_value 16 ds) small))

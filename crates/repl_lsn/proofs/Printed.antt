@@ -12,7 +12,7 @@ use Rattle.repl_lsn.specs.declared.history.Part.{Part}
 use Rattle.repl_lsn.specs.declared.history.TheConstants.{HISTORY_LIMIT}
 use Rattle.repl_lsn.specs.Line.{is_blank, IsLine}
 use Rattle.repl_lsn.specs.Position.{Spells, position_text}
-use Rattle.repl_lsn.specs.History.{Path, IsPath, ended, line_text, canonical, SaysPart, SayParts, IsRead}
+use Rattle.repl_lsn.specs.History.{Path, IsPath, ended, line_text, canonical, SaysPart, SayParts, SaysHistory}
 use Rattle.repl_lsn.proofs.Lines.{IsSingle}
 
 -- what the values of a part are
@@ -108,13 +108,15 @@ lines_canonical (p ∷ parts) = ap (λ rest. line_text p ++ rest) (lines_canonic
 lines_single : (parts : List Part) → All IsPrinted parts → All IsSingle (map line_of parts)
 lines_single [] h = All-nil IsSingle
 lines_single (p ∷ parts) h =
-    All-cons IsSingle (line_of p) (map line_of parts) (line_single p (All-head IsPrinted p parts h)) (lines_single parts (All-tail IsPrinted p parts h))
+    All-cons IsSingle (line_of p) (map line_of parts) (line_single p (All-head IsPrinted p parts h))
+    (lines_single parts (All-tail IsPrinted p parts h))
 
 lines_say : (parts : List Part) → All IsPrinted parts → SayParts (map line_of parts) parts
 lines_say [] h = refl
 lines_say (p ∷ parts) h = inr (p, parts, refl, line_says p (All-head IsPrinted p parts h), lines_say parts (All-tail IsPrinted p parts h))
 
-pub canonical_read : (path : Path) → IsPath path → All IsPrinted path.parents → length (canonical path) ≤ HISTORY_LIMIT → IsRead (canonical path) path
+pub canonical_read : (path : Path) → IsPath path → All IsPrinted path.parents → length (canonical path) ≤ HISTORY_LIMIT
+    → SaysHistory (canonical path) path
 canonical_read path is_path printed short = record {
   short = short;
   says =
@@ -128,7 +130,8 @@ canonical_read path is_path printed short = record {
 
 -- ---- line by line
 
-pub printed_more : (parts : List Part) (i : ℕ) (p : Part) → i < length parts → p ≡ get_or parts i p → flat_map line_text (take (i + 1) parts) ≡ flat_map line_text (take i parts) ++ line_text p
+pub printed_more : (parts : List Part) (i : ℕ) (p : Part) → i < length parts → p ≡ get_or parts i p
+    → flat_map line_text (take (i + 1) parts) ≡ flat_map line_text (take i parts) ++ line_text p
 printed_more parts i p l e =
     ap (flat_map line_text) (take_more parts i p l ∙ ap (λ q. take i parts ++ q ∷ []) (sym e))
     ∙ flat_map-append line_text (take i parts) (p ∷ [])
@@ -145,9 +148,16 @@ line_from_head p =
     ∙ sym (append_assoc (decimal p.tli ++ (9 ∷ position_text p.switch)) (9 ∷ p.reason) (10 ∷ []))
 
 pub line_length : (p : Part) → length (line_text p) ≡ length (head_text p) + length p.reason + 1
-line_length p = omega (arith, ap length (line_from_head p), length-append (head_text p) (p.reason ++ (10 ∷ [])), length-append p.reason (10 ∷ []))
+line_length p = omega (
+  arith,
+  ap length (line_from_head p),
+  length-append (head_text p) (p.reason ++ (10 ∷ [])),
+  length-append p.reason (10 ∷ []),
+)
 
 -- one line more
-pub text_more : (front head reason : List ℕ) (p : Part) → head ≡ head_text p → reason ≡ p.reason → front ++ (head ++ (reason ++ (10 ∷ []))) ≡ front ++ line_text p
+pub text_more : (front head reason : List ℕ) (p : Part) → head ≡ head_text p → reason ≡ p.reason → front
+    ++ (head ++ (reason ++ (10 ∷ []))) ≡ front ++ line_text p
 text_more front head reason p h r =
-    ap (λ bytes. front ++ (bytes ++ (reason ++ (10 ∷ [])))) h ∙ ap (λ bytes. front ++ (head_text p ++ (bytes ++ (10 ∷ [])))) r ∙ ap (λ line. front ++ line) (line_from_head p)
+    ap (λ bytes. front ++ (bytes ++ (reason ++ (10 ∷ [])))) h ∙ ap (λ bytes. front ++ (head_text p ++ (bytes ++ (10 ∷ [])))) r
+    ∙ ap (λ line. front ++ line) (line_from_head p)

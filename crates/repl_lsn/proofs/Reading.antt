@@ -4,7 +4,7 @@ use Rattle.repl_lsn.specs.declared.history.Part.{Part}
 use Rattle.repl_lsn.specs.declared.history.TheConstants.{HISTORY_LIMIT}
 use Rattle.repl_lsn.specs.declared.fault.HistoryFault.{HistoryFault}
 use Rattle.repl_lsn.specs.declared.fault.HistoryFault.TheVariants as fault
-use Rattle.repl_lsn.specs.History.{Path, InOrder, IsIgnored, SaysPart, AreLines, SayParts, IsRead, IsLineFault, BreaksAt, IsRefused}
+use Rattle.repl_lsn.specs.History.{Path, InOrder, IsIgnored, SaysPart, AreLines, SayParts, SaysHistory, IsLineFault, BreaksAt, IsHistoryFault}
 use Rattle.repl_lsn.proofs.Lines.{Splits, lines_of, lines_are, are_lines}
 use Rattle.repl_lsn.proofs.Order.{in_order_at}
 use Rattle.repl_lsn.proofs.Sayings.{one_saying, say_ignored, say_part, say_split, fault_not_ignored, fault_not_said}
@@ -21,10 +21,13 @@ pub record Reads (own : ℕ) (text rest : List ℕ) (place : ℕ) (parts : List 
 pub reads_none : (own : ℕ) (text : List ℕ) → Reads own text text 0 []
 reads_none own text = record { before = []; lines = refl; count = refl; room = omega arith; say = refl; in_order = tt }
 
-before_more : (text rest line behind : List ℕ) (before : List (List ℕ)) → lines_of text ≡ before ++ lines_of rest → lines_of rest ≡ line ∷ lines_of behind → lines_of text ≡ (before ++ line ∷ []) ++ lines_of behind
-before_more text rest line behind before e first = e ∙ ap (λ lines. before ++ lines) first ∙ sym (append_assoc before (line ∷ []) (lines_of behind))
+before_more : (text rest line behind : List ℕ) (before : List (List ℕ)) → lines_of text ≡ before ++ lines_of rest
+    → lines_of rest ≡ line ∷ lines_of behind → lines_of text ≡ (before ++ line ∷ []) ++ lines_of behind
+before_more text rest line behind before e first = e ∙ ap (λ lines. before ++ lines) first
+    ∙ sym (append_assoc before (line ∷ []) (lines_of behind))
 
-pub reads_ignored : (own : ℕ) (text rest : List ℕ) (place : ℕ) (parts : List Part) (line behind : List ℕ) → Reads own text rest place parts → Splits rest line behind
+pub reads_ignored : (own : ℕ) (text rest : List ℕ) (place : ℕ) (parts : List Part) (line behind : List ℕ) → Reads own text rest place parts
+    → Splits rest line behind
     → IsIgnored line → Reads own text behind (place + 1) parts
 reads_ignored own text rest place parts line behind r cut ignored = record {
   before = r.before ++ line ∷ [];
@@ -35,7 +38,8 @@ reads_ignored own text rest place parts line behind r cut ignored = record {
   in_order = r.in_order;
 }
 
-pub reads_part : (own : ℕ) (text rest : List ℕ) (place : ℕ) (parts : List Part) (line behind : List ℕ) (p : Part) → Reads own text rest place parts → Splits rest line behind
+pub reads_part : (own : ℕ) (text rest : List ℕ) (place : ℕ) (parts : List Part) (line behind : List ℕ) (p : Part)
+    → Reads own text rest place parts → Splits rest line behind
     → SaysPart line p → InOrder own (parts ++ p ∷ []) → Reads own text behind (place + 1) (parts ++ p ∷ [])
 reads_part own text rest place parts line behind p r cut says in_order = record {
   before = r.before ++ line ∷ [];
@@ -46,7 +50,8 @@ reads_part own text rest place parts line behind p r cut says in_order = record 
   in_order = in_order;
 }
 
-pub reads_all : (own : ℕ) (text : List ℕ) (place : ℕ) (parts : List Part) → length text ≤ HISTORY_LIMIT → Reads own text [] place parts → IsRead text (record { own = own; parents = parts })
+pub reads_all : (own : ℕ) (text : List ℕ) (place : ℕ) (parts : List Part) → length text ≤ HISTORY_LIMIT → Reads own text [] place parts
+    → SaysHistory text (record { own = own; parents = parts })
 reads_all own text place parts short r = record {
   short = short;
   says = record {
@@ -57,7 +62,8 @@ reads_all own text place parts short r = record {
   is_path = r.in_order;
 }
 
-pub reads_wrong : (own : ℕ) (text rest : List ℕ) (place : ℕ) (parts : List Part) (line behind : List ℕ) (f : HistoryFault) → length text ≤ HISTORY_LIMIT → Reads own text rest place parts → Splits rest line behind
+pub reads_wrong : (own : ℕ) (text rest : List ℕ) (place : ℕ) (parts : List Part) (line behind : List ℕ) (f : HistoryFault)
+    → length text ≤ HISTORY_LIMIT → Reads own text rest place parts → Splits rest line behind
     → IsLineFault own parts line (place + 1) f → BreaksAt own text f
 reads_wrong own text rest place parts line behind f short r cut wrong = record {
   before = r.before;
@@ -73,7 +79,7 @@ reads_wrong own text rest place parts line behind f short r cut wrong = record {
 
 -- ---- one history, or a refusal
 
-not_broken : (own : ℕ) (text : List ℕ) (f : HistoryFault) (path : Path) → path.own ≡ own → IsRead text path → BreaksAt own text f → ⊥
+not_broken : (own : ℕ) (text : List ℕ) (f : HistoryFault) (path : Path) → path.own ≡ own → SaysHistory text path → BreaksAt own text f → ⊥
 not_broken own text f path same r b =
     let lines = lines_are text r.says.lines r.says.are ∙ sym (lines_are text (b.before ++ b.line ∷ b.after) b.are) in
     let s = say_split b.before (b.line ∷ b.after) path.parents (subst (λ x. SayParts x path.parents) lines r.says.say) in
@@ -82,12 +88,14 @@ not_broken own text f path same r b =
     (λ h. fault_not_ignored own b.parts b.line (length b.before + 1) f b.cause h.0)
     (λ h.
     let whole : path.parents ≡ b.parts ++ h.0 ∷ h.1 = s.2 ∙ ap (λ x. x ++ s.1) parts ∙ ap (λ x. b.parts ++ x) h.2 in
-    let order = in_order_at own b.parts h.0 h.1 (h.3).number.in_range.0 (subst (λ x. InOrder own x) whole (subst (λ n. InOrder n path.parents) same r.is_path)) in
+    let order = in_order_at own b.parts h.0 h.1 (h.3).number.in_range.0
+    (subst (λ x. InOrder own x) whole (subst (λ n. InOrder n path.parents) same r.is_path)) in
     fault_not_said own b.parts b.line (length b.before + 1) f h.0 b.cause h.3 order.0 order.1 order.2)
     s.4
 
 -- what is read is not refused
-pub read_only : (own : ℕ) (text : List ℕ) (f : HistoryFault) (path : Path) → path.own ≡ own → IsRead text path → IsRefused own text f → f ≡ fault.Memory
+pub read_only : (own : ℕ) (text : List ℕ) (f : HistoryFault) (path : Path) → path.own ≡ own → SaysHistory text path
+    → IsHistoryFault own text f → f ≡ fault.Memory
 read_only own text (fault.TooLong have) path same r h = let short = r.short in absurd (omega arith)
 read_only own text (fault.NotNumber place) path same r h = absurd (not_broken own text (fault.NotNumber place) path same r h)
 read_only own text (fault.NotSwitch place) path same r h = absurd (not_broken own text (fault.NotSwitch place) path same r h)
@@ -96,7 +104,7 @@ read_only own text (fault.NotBelowOwn place) path same r h = absurd (not_broken 
 read_only own text (fault.SwitchFalls place) path same r h = absurd (not_broken own text (fault.SwitchFalls place) path same r h)
 read_only own text fault.Memory path same r h = refl
 
-pub refused_broken : (own : ℕ) (text : List ℕ) (f : HistoryFault) → BreaksAt own text f → IsRefused own text f
+pub refused_broken : (own : ℕ) (text : List ℕ) (f : HistoryFault) → BreaksAt own text f → IsHistoryFault own text f
 refused_broken own text (fault.TooLong have) b = absurd b.cause
 refused_broken own text (fault.NotNumber place) b = b
 refused_broken own text (fault.NotSwitch place) b = b
@@ -108,7 +116,7 @@ refused_broken own text fault.Memory b = tt
 abbrev path_of : ℕ → List Part → Path
 path_of own parents = record { own = own; parents = parents }
 
-pub one_reading : (text : List ℕ) (a b : Path) → IsRead text a → IsRead text b → a.own ≡ b.own → a ≡ b
+pub one_reading : (text : List ℕ) (a b : Path) → SaysHistory text a → SaysHistory text b → a.own ≡ b.own → a ≡ b
 one_reading text a b p q same =
     let lines = lines_are text p.says.lines p.says.are ∙ sym (lines_are text q.says.lines q.says.are) in
     let parents = one_saying q.says.lines a.parents b.parents (subst (λ x. SayParts x a.parents) lines p.says.say) q.says.say in

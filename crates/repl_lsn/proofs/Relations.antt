@@ -23,8 +23,13 @@ one_child a b s t p q =
     let one : left ≡ right = cc in
     ap (λ (x : Step). x.switch) one
 
-pub promotion_is_child : (path : Path) (p : Part) (own : ℕ) → p.tli ≡ path.own → IsChild path (record { own = own; parents = path.parents ++ p ∷ [] }) p.switch
-promotion_is_child path p own e = ([], map-append step path.parents (p ∷ []) ∙ ap (λ n. map step path.parents ++ record { tli = n; switch = p.switch } ∷ []) e)
+pub promotion_is_child : (path : Path) (p : Part) (own : ℕ) → p.tli ≡ path.own
+    → IsChild path (record { own = own; parents = path.parents ++ p ∷ [] }) p.switch
+promotion_is_child path p own e = (
+  [],
+  map-append step path.parents (p ∷ [])
+      ∙ ap (λ n. map step path.parents ++ record { tli = n; switch = p.switch } ∷ []) e,
+)
 
 -- ---- the first difference
 
@@ -33,7 +38,8 @@ drop_head [] at h = absurd (omega arith)
 drop_head (x ∷ xs) zero h = (x, xs, refl)
 drop_head (x ∷ xs) (suc at) h = drop_head xs at (omega arith)
 
-same_head : (xs ys : List Step) (at n : ℕ) → at < n → at < length xs → take n xs ≡ take n ys → (s : Step) × (rest : List Step) × (more : List Step) × (drop at xs ≡ s ∷ rest) × (drop at ys ≡ s ∷ more)
+same_head : (xs ys : List Step) (at n : ℕ) → at < n → at < length xs → take n xs ≡ take n ys → (s : Step) × (rest : List Step)
+    × (more : List Step) × (drop at xs ≡ s ∷ rest) × (drop at ys ≡ s ∷ more)
 same_head xs ys at zero h k e = absurd (omega arith)
 same_head [] ys at (suc n) h k e = absurd (omega arith)
 same_head (x ∷ xs) [] at (suc n) h k e = absurd (cc)
@@ -70,7 +76,9 @@ one_relation a b (relation.Apart i) (relation.Apart j) p q = ap relation.Apart (
 
 -- ---- what holds a position before the switch point, in the child too
 
-held_by_child : (ps qs : List Part) (more : List Step) (own other origin switch at tli start : ℕ) (end : Option ℕ) → map step qs ≡ map step ps ++ record { tli = own; switch = switch } ∷ more → at < switch → Holds origin ps own tli start end → IsBelow at end → (o : Option ℕ) × Holds origin qs other tli start o × IsBelow at o
+held_by_child : (ps qs : List Part) (more : List Step) (own other origin switch at tli start : ℕ) (end : Option ℕ)
+    → map step qs ≡ map step ps ++ record { tli = own; switch = switch } ∷ more → at < switch → Holds origin ps own tli start end
+    → IsBelow at end → (o : Option ℕ) × Holds origin qs other tli start o × IsBelow at o
 held_by_child [] [] more own other origin switch at tli start end e h holds below = absurd (cc)
 held_by_child [] (q ∷ qs) more own other origin switch at tli start end e h holds below =
     let s : step q ≡ record { tli = own; switch = switch } = cc in
@@ -87,7 +95,8 @@ held_by_child (p ∷ ps) (q ∷ qs) more own other origin switch at tli start en
     let s : step q ≡ step p = cc in
     let left : p.switch ≡ q.switch = ap (λ (x : Step). x.switch) (sym s) in
     let rest : map step qs ≡ map step ps ++ record { tli = own; switch = switch } ∷ more = cc in
-    let r = held_by_child ps qs more own other q.switch switch at tli start end rest h (subst (λ n. Holds n ps own tli start end) left behind) below in
+    let r = held_by_child ps qs more own other q.switch switch at tli start end rest h (subst (λ n. Holds n ps own tli start end) left
+    behind) below in
     (r.0, inr r.1, r.2)
 
 pub on_child : (a b : Path) (switch at tli : ℕ) → IsChild a b switch → at < switch → IsOn a tli at → IsOn b tli at
@@ -97,7 +106,8 @@ on_child a b switch at tli child h on =
 
 -- ---- the step of a parent
 
-step_at : (ps : List Part) (n : ℕ) (x : Part) → n < length ps → x ≡ get_or ps n x → drop n (map step ps) ≡ step x ∷ map step (drop (n + 1) ps)
+step_at : (ps : List Part) (n : ℕ) (x : Part) → n < length ps → x ≡ get_or ps n x
+    → drop n (map step ps) ≡ step x ∷ map step (drop (n + 1) ps)
 step_at ps n x h e = drop-map step n ps ∙ ap (map step) (drop_more ps n x h ∙ ap (λ q. q ∷ drop (n + 1) ps) (sym e))
 
 step_or : (ps : List Part) (n : ℕ) (x : Part) → n < length ps → x ≡ get_or ps n x → (d : Step) → get_or (map step ps) n d ≡ step x
@@ -114,7 +124,8 @@ child_shares_all a b n switch differ child =
     ⊎_elim
     (λ (h : n < length (steps a)).
     let head = drop_head (steps a) n h in
-    let behind : drop n (steps b) ≡ head.0 ∷ (head.1 ++ last ∷ child.0) = ap (drop n) child.1 ∙ drop-append-le n (steps a) (last ∷ child.0) (omega arith) ∙ ap (λ xs. xs ++ last ∷ child.0) head.2 in
+    let behind : drop n (steps b) ≡ head.0 ∷ (head.1 ++ last ∷ child.0) = ap (drop n) child.1
+    ∙ drop-append-le n (steps a) (last ∷ child.0) (omega arith) ∙ ap (λ xs. xs ++ last ∷ child.0) head.2 in
     absurd (differ.differ head.0 head.1 (head.1 ++ last ∷ child.0) head.2 behind))
     (λ (h : length (steps a) ≤ n). omega (arith, differ.within.0))
     (cases_lt n (length (steps a)))
@@ -122,13 +133,16 @@ child_shares_all a b n switch differ child =
 pub child_longer_by : (a b : Path) (n switch : ℕ) → IsChild a b switch → length (steps a) ≡ n → n < length b.parents
 child_longer_by a b n switch child all = omega (arith, child_longer a b switch child, length-map b.parents step)
 
-pub child_next : (a b : Path) (n switch : ℕ) (x : Part) → IsChild a b switch → length (steps a) ≡ n → x ≡ get_or b.parents n x → x.tli ≡ a.own
+pub child_next : (a b : Path) (n switch : ℕ) (x : Part) → IsChild a b switch → length (steps a) ≡ n → x ≡ get_or b.parents n x
+    → x.tli ≡ a.own
 child_next a b n switch x child all at-x =
     let last : Step = record { tli = a.own; switch = switch } in
-    let is : step x ≡ last = sym (step_or b.parents n x (child_longer_by a b n switch child all) at-x last) ∙ ap (λ xs. get_or xs n last) child.1 ∙ get_or_at (steps a) last child.0 last n all in
+    let is : step x ≡ last = sym (step_or b.parents n x (child_longer_by a b n switch child all) at-x last)
+    ∙ ap (λ xs. get_or xs n last) child.1 ∙ get_or_at (steps a) last child.0 last n all in
     ap (λ (s : Step). s.tli) is
 
-pub next_is_child : (a b : Path) (n : ℕ) (x : Part) → DifferAt a b n → length (steps a) ≡ n → n < length b.parents → x ≡ get_or b.parents n x → x.tli ≡ a.own → IsChild a b x.switch
+pub next_is_child : (a b : Path) (n : ℕ) (x : Part) → DifferAt a b n → length (steps a) ≡ n → n < length b.parents
+    → x ≡ get_or b.parents n x → x.tli ≡ a.own → IsChild a b x.switch
 next_is_child a b n x differ all long at-x number =
     let last : Step = record { tli = a.own; switch = x.switch } in
     let is : step x ≡ last = ap (λ t. record { tli = t; switch = x.switch }) number in
@@ -151,12 +165,15 @@ same_shares_all a b n differ same =
 
 -- ---- a walk over the parents of two paths, which stands at one of each
 
-pub step_more : (ps qs : List Part) (n : ℕ) (x y : Part) → n < length ps → n < length qs → x ≡ get_or ps n x → y ≡ get_or qs n y → step x ≡ step y → take n (map step ps) ≡ take n (map step qs) → take (n + 1) (map step ps) ≡ take (n + 1) (map step qs)
+pub step_more : (ps qs : List Part) (n : ℕ) (x y : Part) → n < length ps → n < length qs → x ≡ get_or ps n x → y ≡ get_or qs n y
+    → step x ≡ step y → take n (map step ps) ≡ take n (map step qs) → take (n + 1) (map step ps) ≡ take (n + 1) (map step qs)
 step_more ps qs n x y h k at-x at-y pair same =
-    let last : get_or (map step ps) n (step x) ≡ get_or (map step qs) n (step x) = step_or ps n x h at-x (step x) ∙ pair ∙ sym (step_or qs n y k at-y (step x)) in
+    let last : get_or (map step ps) n (step x) ≡ get_or (map step qs) n (step x) = step_or ps n x h at-x (step x) ∙ pair
+    ∙ sym (step_or qs n y k at-y (step x)) in
     take_more_same (map step ps) (map step qs) n (step x) (omega (arith, length-map ps step)) (omega (arith, length-map qs step)) same last
 
-pub differ_here : (a b : Path) (n : ℕ) (x y : Part) → n < length a.parents → n < length b.parents → x ≡ get_or a.parents n x → y ≡ get_or b.parents n y → (step x ≡ step y → ⊥) → take n (steps a) ≡ take n (steps b) → DifferAt a b n
+pub differ_here : (a b : Path) (n : ℕ) (x y : Part) → n < length a.parents → n < length b.parents → x ≡ get_or a.parents n x
+    → y ≡ get_or b.parents n y → (step x ≡ step y → ⊥) → take n (steps a) ≡ take n (steps b) → DifferAt a b n
 differ_here a b n x y h k at-x at-y apart same =
     record {
       within = (omega (arith, length-map a.parents step), omega (arith, length-map b.parents step));
@@ -167,7 +184,8 @@ differ_here a b n x y h k at-x at-y apart same =
           apart (sym left ∙ right);
     }
 
-pub differ_behind : (a b : Path) (n : ℕ) → n ≤ length a.parents → n ≤ length b.parents → (length a.parents ≤ n) ⊎ (length b.parents ≤ n) → take n (steps a) ≡ take n (steps b) → DifferAt a b n
+pub differ_behind : (a b : Path) (n : ℕ) → n ≤ length a.parents → n ≤ length b.parents → (length a.parents ≤ n) ⊎ (length b.parents ≤ n)
+    → take n (steps a) ≡ take n (steps b) → DifferAt a b n
 differ_behind a b n h k ended same =
     let long-a : length (steps a) ≡ length a.parents = length-map a.parents step in
     let long-b : length (steps b) ≡ length b.parents = length-map b.parents step in

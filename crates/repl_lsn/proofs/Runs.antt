@@ -11,7 +11,8 @@ abbrev pub Stops : (ℕ → Bool) → List ℕ → Type 0
 Stops test [] = Unit {0}
 Stops test (c ∷ cs) = test c ≡ false
 
-pub one_cut : (test : ℕ → Bool) (a b c d : List ℕ) → AllPass test a → AllPass test b → Stops test c → Stops test d → a ++ c ≡ b ++ d → (a ≡ b) × (c ≡ d)
+pub one_cut : (test : ℕ → Bool) (a b c d : List ℕ) → AllPass test a → AllPass test b → Stops test c → Stops test d → a ++ c ≡ b ++ d
+    → (a ≡ b) × (c ≡ d)
 one_cut test [] [] c d p q u v e = (refl, e)
 one_cut test [] (y ∷ b) c d p q u v e =
     absurd (both_ways (test y) (subst (Stops test) e u) (All-head (λ x. test x ≡ true) y b q))
@@ -46,5 +47,6 @@ run_stops test text = stops_at test text (prefix_len test text) (prefix_len_stop
 pub run_is : (test : ℕ → Bool) (text front behind : List ℕ) → text ≡ front ++ behind → AllPass test front → Stops test behind
     → (front ≡ take (prefix_len test text) text) × (behind ≡ drop (prefix_len test text) text)
 run_is test text front behind e passes stops =
-    one_cut test front (take (prefix_len test text) text) behind (drop (prefix_len test text) text) passes (run_passes test text) stops (run_stops test text)
+    one_cut test front (take (prefix_len test text) text) behind (drop (prefix_len test text) text) passes (run_passes test text) stops
+    (run_stops test text)
     (sym e ∙ sym (take-append-drop (prefix_len test text) text))

@@ -31,9 +31,11 @@ no_number n h = let some = h.some in omega arith
 
 hash_number : (rest : List ℕ) (n : ℕ) → IsNumber (word_of (35 ∷ rest)) n → ⊥
 hash_number rest n h =
-    let size = length-take-le (position_or_len is_blank (35 ∷ rest)) (35 ∷ rest) (prefix_len-le-length (λ c. not (is_blank c)) (35 ∷ rest)) in
+    let size = length-take-le (position_or_len is_blank (35 ∷ rest)) (35 ∷ rest) (prefix_len-le-length (λ c. not (is_blank c)) (35 ∷ rest))
+    in
     let some : 0 < position_or_len is_blank (35 ∷ rest) = omega (arith, h.some, size) in
-    let digit : is_ascii_digit 35 ≡ true = ap is_ascii_digit (sym (get_or-take (position_or_len is_blank (35 ∷ rest)) (35 ∷ rest) 0 0 some)) ∙ h.digits 0 0 h.some in
+    let digit : is_ascii_digit 35 ≡ true = ap is_ascii_digit (sym (get_or-take (position_or_len is_blank (35 ∷ rest)) (35 ∷ rest) 0 0 some))
+    ∙ h.digits 0 0 h.some in
     false≢true digit
 
 pub ignored_no_number : (line : List ℕ) (n : ℕ) (behind : List ℕ) → IsIgnored line → HasNumber line n behind → ⊥
@@ -65,7 +67,8 @@ one_part line p q a b =
     ap (λ t. part_of t p.switch p.reason) n.0 ∙ ap (λ t. part_of q.tli t p.reason) s.0 ∙ ap (part_of q.tli q.switch) r
 
 -- a line without the switch point that is wanted behind its number says no part
-pub no_part : (line : List ℕ) (n : ℕ) (behind : List ℕ) → HasNumber line n behind → ((switch : ℕ) (rest : List ℕ) → ¬ HasSwitch behind switch rest) → (p : Part) → ¬ SaysPart line p
+pub no_part : (line : List ℕ) (n : ℕ) (behind : List ℕ) → HasNumber line n behind
+    → ((switch : ℕ) (rest : List ℕ) → ¬ HasSwitch behind switch rest) → (p : Part) → ¬ SaysPart line p
 no_part line n behind has none p s =
     let same = (one_number line p.tli n s.behind behind s.number has).1 in
     none p.switch s.rest (subst (λ bytes. HasSwitch bytes p.switch s.rest) same s.switch)
@@ -79,5 +82,6 @@ all_right P (c ∷ a) b h = all_right P a b (All-tail P c (a ++ b) h)
 pub single_behind : (line : List ℕ) (n : ℕ) (behind : List ℕ) → HasNumber line n behind → All (λ c. c ≢ 10) line → All (λ c. c ≢ 10) behind
 single_behind line n behind h one = all_right (λ c. c ≢ 10) (h.lead ++ h.number) behind (subst (All (λ c. c ≢ 10)) h.parts one)
 
-pub single_rest : (bytes : List ℕ) (switch : ℕ) (rest : List ℕ) → HasSwitch bytes switch rest → All (λ c. c ≢ 10) bytes → All (λ c. c ≢ 10) rest
+pub single_rest : (bytes : List ℕ) (switch : ℕ) (rest : List ℕ) → HasSwitch bytes switch rest → All (λ c. c ≢ 10) bytes
+    → All (λ c. c ≢ 10) rest
 single_rest bytes switch rest h one = all_right (λ c. c ≢ 10) (h.gap ++ h.position) rest (subst (All (λ c. c ≢ 10)) h.parts one)

@@ -19,12 +19,14 @@ one_saying (line ∷ lines) a b (inr p) (inr q) =
 
 -- one line more
 
-pub say_ignored : (before : List (List ℕ)) (line : List ℕ) (parts : List Part) → SayParts before parts → IsIgnored line → SayParts (before ++ line ∷ []) parts
+pub say_ignored : (before : List (List ℕ)) (line : List ℕ) (parts : List Part) → SayParts before parts → IsIgnored line
+    → SayParts (before ++ line ∷ []) parts
 say_ignored [] line parts h ignored = inl (ignored, h)
 say_ignored (first ∷ before) line parts (inl h) ignored = inl (h.0, say_ignored before line parts h.1 ignored)
 say_ignored (first ∷ before) line parts (inr h) ignored = inr (h.0, h.1, h.2, h.3, say_ignored before line h.1 h.4 ignored)
 
-pub say_part : (before : List (List ℕ)) (line : List ℕ) (parts : List Part) (p : Part) → SayParts before parts → SaysPart line p → SayParts (before ++ line ∷ []) (parts ++ p ∷ [])
+pub say_part : (before : List (List ℕ)) (line : List ℕ) (parts : List Part) (p : Part) → SayParts before parts → SaysPart line p
+    → SayParts (before ++ line ∷ []) (parts ++ p ∷ [])
 say_part [] line parts p h says = inr (p, [], ap (λ xs. xs ++ p ∷ []) h, says, refl)
 say_part (first ∷ before) line parts p (inl h) says = inl (h.0, say_part before line parts p h.1 says)
 say_part (first ∷ before) line parts p (inr h) says =
@@ -32,7 +34,8 @@ say_part (first ∷ before) line parts p (inr h) says =
 
 -- lines in the middle
 
-pub say_split : (before lines : List (List ℕ)) (parts : List Part) → SayParts (before ++ lines) parts → (a : List Part) × (b : List Part) × (parts ≡ a ++ b) × SayParts before a × SayParts lines b
+pub say_split : (before lines : List (List ℕ)) (parts : List Part) → SayParts (before ++ lines) parts → (a : List Part) × (b : List Part)
+    × (parts ≡ a ++ b) × SayParts before a × SayParts lines b
 say_split [] lines parts h = ([], parts, refl, refl, h)
 say_split (first ∷ before) lines parts (inl h) =
     let r = say_split before lines parts h.1 in
@@ -43,7 +46,8 @@ say_split (first ∷ before) lines parts (inr h) =
 
 -- a line that is wrong
 
-pub fault_not_ignored : (own : ℕ) (before : List Part) (line : List ℕ) (at : ℕ) (f : HistoryFault) → IsLineFault own before line at f → IsIgnored line → ⊥
+pub fault_not_ignored : (own : ℕ) (before : List Part) (line : List ℕ) (at : ℕ) (f : HistoryFault) → IsLineFault own before line at f
+    → IsIgnored line → ⊥
 fault_not_ignored own before line at (fault.TooLong have) h ignored = h
 fault_not_ignored own before line at (fault.NotNumber place) h ignored = h.1 ignored
 fault_not_ignored own before line at (fault.NotSwitch place) h ignored = ignored_no_number line h.1.0 h.1.1 ignored h.1.2
@@ -55,7 +59,8 @@ fault_not_ignored own before line at fault.Memory h ignored = h
 other_order : (m n : ℕ) → m ≤ n → n < m → ⊥
 other_order m n a b = omega arith
 
-pub fault_not_said : (own : ℕ) (before : List Part) (line : List ℕ) (at : ℕ) (f : HistoryFault) (p : Part) → IsLineFault own before line at f → SaysPart line p → last_number before < p.tli → p.tli < own → last_switch before ≤ p.switch → ⊥
+pub fault_not_said : (own : ℕ) (before : List Part) (line : List ℕ) (at : ℕ) (f : HistoryFault) (p : Part)
+    → IsLineFault own before line at f → SaysPart line p → last_number before < p.tli → p.tli < own → last_switch before ≤ p.switch → ⊥
 fault_not_said own before line at (fault.TooLong have) p h says rises below falls = h
 fault_not_said own before line at (fault.NotNumber place) p h says rises below falls = h.2 p.tli says.behind says.number
 fault_not_said own before line at (fault.NotSwitch place) p h says rises below falls = h.2 p says

@@ -41,27 +41,39 @@ pub four_gib_is : (size : ℕ) (h : IsSegSize size) → in_four_gib size ≡ 2 ^
 four_gib_is size h =
     let most = exponent_most size h in
     let sum : (32 - h.exponent) + h.exponent ≡ 32 = omega arith in
-    let product : 2 ^ (32 - h.exponent) * size + 0 ≡ 2 ^ 32 = omega (arith, ap (λ s. 2 ^ (32 - h.exponent) * s) h.power, pow-add 2 (32 - h.exponent) h.exponent, ap (λ e. 2 ^ e) sum) in
+    let product : 2 ^ (32 - h.exponent) * size + 0 ≡ 2 ^ 32 = omega (
+      arith,
+      ap (λ s. 2 ^ (32 - h.exponent) * s) h.power,
+      pow-add 2 (32 - h.exponent) h.exponent,
+      ap (λ e. 2 ^ e) sum,
+    ) in
     ap (λ n. n / size) (sym product) ∙ div-mul-add (2 ^ (32 - h.exponent)) size 0 (omega (arith, h.least))
 
 pub four_gib_whole : (size : ℕ) → IsSegSize size → in_four_gib size * size ≡ 2 ^ 32
 four_gib_whole size h =
     let most = exponent_most size h in
     let sum : (32 - h.exponent) + h.exponent ≡ 32 = omega arith in
-    ap (λ n. n * size) (four_gib_is size h) ∙ ap (λ s. 2 ^ (32 - h.exponent) * s) h.power ∙ sym (pow-add 2 (32 - h.exponent) h.exponent) ∙ ap (λ e. 2 ^ e) sum
+    ap (λ n. n * size) (four_gib_is size h) ∙ ap (λ s. 2 ^ (32 - h.exponent) * s) h.power ∙ sym (pow-add 2 (32 - h.exponent) h.exponent)
+    ∙ ap (λ e. 2 ^ e) sum
 
 pub four_gib_few : (size : ℕ) → IsSegSize size → in_four_gib size ≤ 4096
 four_gib_few size h =
     let some = exponent_least size h in
     let below : 2 ^ (32 - h.exponent) < 2 ^ 13 = pow_below (32 - h.exponent) 13 (omega arith) in
-    ⊎_elim (λ l. omega (arith, pow_below (32 - h.exponent) 12 l, four_gib_is size h)) (λ l. let e : 32 - h.exponent ≡ 12 = omega arith in omega (arith, ap (λ k. 2 ^ k) e, four_gib_is size h)) (cases_lt (32 - h.exponent) 12)
+    ⊎_elim (λ l. omega (arith, pow_below (32 - h.exponent) 12 l, four_gib_is size h)) (λ l. let e : 32 - h.exponent ≡ 12 =
+    omega arith in omega (arith, ap (λ k. 2 ^ k) e, four_gib_is size h)) (cases_lt (32 - h.exponent) 12)
 
 pub four_gib_some : (size : ℕ) → IsSegSize size → 0 < in_four_gib size
 four_gib_some size h = omega (arith, pow_pos (32 - h.exponent), four_gib_is size h)
 
 -- what `is_power_of_two` tells of a size
 pub size_from_test : (n : ℕ) → is_power_of_two n ≡ true → 2 ^ 20 ≤ n → n ≤ 2 ^ 30 → IsSegSize n
-size_from_test n test least most = let power = is_power n (eqb-true (count_ones n) 1 test) in record { exponent = power.0; power = power.1; least = least; most = most }
+size_from_test n test least most = let power = is_power n (eqb-true (count_ones n) 1 test) in record {
+  exponent = power.0;
+  power = power.1;
+  least = least;
+  most = most;
+}
 
 pub test_of_size : (n : ℕ) → IsSegSize n → is_power_of_two n ≡ true
 test_of_size n h = eq-eqb (count_ones n) 1 (ones_of_power n h.exponent h.power)

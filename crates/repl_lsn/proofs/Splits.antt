@@ -26,4 +26,5 @@ one_split (x ∷ a) (y ∷ b) c d p q e =
 pub one_position : (text : List ℕ) (a b : ℕ) → Spells text a → Spells text b → a ≡ b
 one_position text a b p q =
     let r = one_split p.high q.high p.low q.low p.high_is.hexadecimal q.high_is.hexadecimal (sym p.parts ∙ q.parts) in
-    p.value ∙ ap (λ high. digits_value 16 high * 2 ^ 32 + digits_value 16 p.low) r.0 ∙ ap (λ low. digits_value 16 q.high * 2 ^ 32 + digits_value 16 low) r.1 ∙ sym q.value
+    p.value ∙ ap (λ high. digits_value 16 high * 2 ^ 32 + digits_value 16 p.low) r.0
+    ∙ ap (λ low. digits_value 16 q.high * 2 ^ 32 + digits_value 16 low) r.1 ∙ sym q.value

@@ -13,25 +13,29 @@ order_behind own p [] order = tt
 order_behind own p (q ∷ ps) order = order.2
 
 -- a timeline behind a parent has a greater number, and starts where the parent ends or later
-pub number_behind : (p : Part) (ps : List Part) (own origin tli start : ℕ) (end : Option ℕ) → InOrder own (p ∷ ps) → Holds origin ps own tli start end → p.tli < tli
+pub number_behind : (p : Part) (ps : List Part) (own origin tli start : ℕ) (end : Option ℕ) → InOrder own (p ∷ ps)
+    → Holds origin ps own tli start end → p.tli < tli
 number_behind p [] own origin tli start end order holds = omega (arith, order, holds.0)
 number_behind p (q ∷ ps) own origin tli start end order (inl here) = omega (arith, order.0, here.0)
 number_behind p (q ∷ ps) own origin tli start end order (inr behind) =
     omega (arith, order.0, number_behind q ps own q.switch tli start end order.2 behind)
 
-pub start_behind : (p : Part) (ps : List Part) (own tli start : ℕ) (end : Option ℕ) → InOrder own (p ∷ ps) → Holds p.switch ps own tli start end → p.switch ≤ start
+pub start_behind : (p : Part) (ps : List Part) (own tli start : ℕ) (end : Option ℕ) → InOrder own (p ∷ ps)
+    → Holds p.switch ps own tli start end → p.switch ≤ start
 start_behind p [] own tli start end order holds = omega (arith, holds.1)
 start_behind p (q ∷ ps) own tli start end order (inl here) = omega (arith, here.1)
 start_behind p (q ∷ ps) own tli start end order (inr behind) =
     omega (arith, order.1, start_behind q ps own tli start end order.2 behind)
 
 -- so has a parent behind it
-pub parent_behind : (p : Part) (before : List Part) (q : Part) (after : List Part) (own : ℕ) → InOrder own (p ∷ (before ++ q ∷ after)) → p.tli < q.tli
+pub parent_behind : (p : Part) (before : List Part) (q : Part) (after : List Part) (own : ℕ) → InOrder own (p ∷ (before ++ q ∷ after))
+    → p.tli < q.tli
 parent_behind p [] q after own order = order.0
 parent_behind p (r ∷ before) q after own order = omega (arith, order.0, parent_behind r before q after own order.2)
 
 -- the own timeline may be left behind all parents
-pub order_push : (own tli : ℕ) (ps : List Part) (p : Part) → InOrder own ps → p.tli ≡ own → own < tli → last_switch ps ≤ p.switch → InOrder tli (ps ++ p ∷ [])
+pub order_push : (own tli : ℕ) (ps : List Part) (p : Part) → InOrder own ps → p.tli ≡ own → own < tli → last_switch ps ≤ p.switch
+    → InOrder tli (ps ++ p ∷ [])
 order_push own tli [] p order number above behind = omega arith
 order_push own tli (q ∷ []) p order number above behind = (omega (arith, order), behind, omega arith)
 order_push own tli (q ∷ r ∷ ps) p order number above behind = (order.0, order.1, order_push own tli (r ∷ ps) p order.2 number above behind)
@@ -41,7 +45,9 @@ order_push own tli (q ∷ r ∷ ps) p order number above behind = (order.0, orde
 below_end : (at end : ℕ) (o : Option ℕ) → o ≡ Some end → IsBelow at o → at < end
 below_end at end o e below = subst (IsBelow at) e below
 
-one_holder : (ps : List Part) (own origin at a b start-a start-b : ℕ) (end-a end-b : Option ℕ) → InOrder own ps → Holds origin ps own a start-a end-a → start-a ≤ at → IsBelow at end-a → Holds origin ps own b start-b end-b → start-b ≤ at → IsBelow at end-b → a ≡ b
+one_holder : (ps : List Part) (own origin at a b start-a start-b : ℕ) (end-a end-b : Option ℕ) → InOrder own ps
+    → Holds origin ps own a start-a end-a → start-a ≤ at → IsBelow at end-a → Holds origin ps own b start-b end-b → start-b ≤ at
+    → IsBelow at end-b → a ≡ b
 one_holder [] own origin at a b start-a start-b end-a end-b order p from-a below-a q from-b below-b = cc
 one_holder (x ∷ ps) own origin at a b start-a start-b end-a end-b order (inl p) from-a below-a (inl q) from-b below-b = cc
 one_holder (x ∷ ps) own origin at a b start-a start-b end-a end-b order (inl p) from-a below-a (inr q) from-b below-b =
@@ -57,7 +63,8 @@ one_on path at a b order p q =
 
 -- ---- and it is before that timeline's end
 
-before_switch : (before : List Part) (p : Part) (after : List Part) (own origin at start : ℕ) (end : Option ℕ) → InOrder own (before ++ p ∷ after) → Holds origin (before ++ p ∷ after) own p.tli start end → IsBelow at end → at < p.switch
+before_switch : (before : List Part) (p : Part) (after : List Part) (own origin at start : ℕ) (end : Option ℕ)
+    → InOrder own (before ++ p ∷ after) → Holds origin (before ++ p ∷ after) own p.tli start end → IsBelow at end → at < p.switch
 before_switch [] p after own origin at start end order (inl here) below = below_end at p.switch end here.2 below
 before_switch [] p after own origin at start end order (inr behind) below =
     absurd (omega (arith, number_behind p after own p.switch p.tli start end order behind))
@@ -70,8 +77,10 @@ pub before_end : (path : Path) (at tli end : ℕ) → IsPath path → IsOn path 
 before_end path at tli end order on ends =
     let p = ends.1 in
     let parents : path.parents ≡ ends.0 ++ p ∷ ends.2 = ends.3 in
-    let holds : Holds 0 path.parents path.own p.tli on.start on.end = subst (λ n. Holds 0 path.parents path.own n on.start on.end) (sym ends.4) on.holds in
-    let below = before_switch ends.0 p ends.2 path.own 0 at on.start on.end (subst (InOrder path.own) parents order) (subst (λ ps. Holds 0 ps path.own p.tli on.start on.end) parents holds) on.below in
+    let holds : Holds 0 path.parents path.own p.tli on.start on.end =
+    subst (λ n. Holds 0 path.parents path.own n on.start on.end) (sym ends.4) on.holds in
+    let below = before_switch ends.0 p ends.2 path.own 0 at on.start on.end (subst (InOrder path.own) parents order)
+    (subst (λ ps. Holds 0 ps path.own p.tli on.start on.end) parents holds) on.below in
     subst (λ e. at < e) ends.5 below
 
 -- ---- a walk over the parents, which stands at one of them
@@ -81,11 +90,14 @@ item_next ps i x h e = drop_more ps i x h ∙ ap (λ y. y ∷ drop (i + 1) ps) (
 
 pub item_ends : (path : Path) (i : ℕ) (x : Part) → i < length path.parents → x ≡ get_or path.parents i x → EndsAt path x.tli x.switch
 item_ends path i x h e =
-    let parts : path.parents ≡ take i path.parents ++ x ∷ drop (i + 1) path.parents = sym (take-append-drop i path.parents) ∙ ap (λ qs. take i path.parents ++ qs) (item_next path.parents i x h e) in
+    let parts : path.parents ≡ take i path.parents ++ x ∷ drop (i + 1) path.parents = sym (take-append-drop i path.parents)
+    ∙ ap (λ qs. take i path.parents ++ qs) (item_next path.parents i x h e) in
     (take i path.parents, x, drop (i + 1) path.parents, parts, refl, refl)
 
 -- a parent behind that place, which is not at it, is behind the next one
-pub item_passed : (ps : List Part) (i tli : ℕ) (x : Part) → x ≡ get_or ps i x → x.tli ≢ tli → (before : List Part) (p : Part) (after : List Part) → ps ≡ before ++ p ∷ after → p.tli ≡ tli → i ≤ length before → i + 1 ≤ length before
+pub item_passed : (ps : List Part) (i tli : ℕ) (x : Part) → x ≡ get_or ps i x → x.tli ≢ tli
+    → (before : List Part) (p : Part) (after : List Part) → ps ≡ before ++ p ∷ after → p.tli ≡ tli → i ≤ length before
+    → i + 1 ≤ length before
 item_passed ps i tli x e other before p after parts number h =
     ⊎_elim
     (λ (same : length before ≡ i).
@@ -94,5 +106,6 @@ item_passed ps i tli x e other before p after parts number h =
     (λ (apart : length before ≡ i → ⊥). omega arith)
     (cases_eq (length before) i)
 
-pub item_holds : (ps : List Part) (own origin i : ℕ) (x : Part) → i < length ps → x ≡ get_or ps i x → (tli start : ℕ) (end : Option ℕ) → Holds origin (x ∷ drop (i + 1) ps) own tli start end → Holds origin (drop i ps) own tli start end
+pub item_holds : (ps : List Part) (own origin i : ℕ) (x : Part) → i < length ps → x ≡ get_or ps i x → (tli start : ℕ) (end : Option ℕ)
+    → Holds origin (x ∷ drop (i + 1) ps) own tli start end → Holds origin (drop i ps) own tli start end
 item_holds ps own origin i x h e tli start end holds = subst (λ qs. Holds origin qs own tli start end) (sym (item_next ps i x h e)) holds

@@ -44,7 +44,8 @@ ended line = line ++ 10 ∷ []
 pub record AreLines (text : List ℕ) (lines : List (List ℕ)) : Type 0 where
   pub single : All (λ line. All (λ c. c ≢ 10) line) lines
   pub parts : (text ≡ flat_map ended lines)
-      ⊎ ((front : List (List ℕ)) × (last : List ℕ) × (lines ≡ front ++ last ∷ []) × (0 < length last) × (text ≡ flat_map ended front ++ last))
+      ⊎ ((front : List (List ℕ)) × (last : List ℕ) × (lines ≡ front ++ last ∷ []) × (0 < length last)
+      × (text ≡ flat_map ended front ++ last))
 
 -- a blank line, or one that begins with `#`
 abbrev pub IsIgnored : List ℕ → Type 0
@@ -96,7 +97,8 @@ pub record SaysPart (line : List ℕ) (p : Part) : Type 0 where
 -- the lines say the parts, in order
 abbrev pub SayParts : List (List ℕ) → List Part → Type 0
 SayParts [] parts = parts ≡ []
-SayParts (line ∷ lines) parts = (IsIgnored line × SayParts lines parts) ⊎ ((p : Part) × (others : List Part) × (parts ≡ p ∷ others) × SaysPart line p × SayParts lines others)
+SayParts (line ∷ lines) parts = (IsIgnored line × SayParts lines parts) ⊎ ((p : Part) × (others : List Part) × (parts ≡ p ∷ others)
+    × SaysPart line p × SayParts lines others)
 
 -- the text says the history
 pub record SaysPath (text : List ℕ) (path : Path) : Type 0 where
@@ -105,7 +107,7 @@ pub record SaysPath (text : List ℕ) (path : Path) : Type 0 where
   pub say : SayParts lines path.parents
 
 -- the text is accepted, as this history
-pub record IsRead (text : List ℕ) (path : Path) : Type 0 where
+pub record SaysHistory (text : List ℕ) (path : Path) : Type 0 where
   pub short : length text ≤ HISTORY_LIMIT
   pub says : SaysPath text path
   pub is_path : IsPath path
@@ -125,11 +127,15 @@ last_switch (p ∷ q ∷ ps) = last_switch (q ∷ ps)
 
 -- the line is wrong behind lines that say these parts, and this is the first that is wrong with it
 abbrev pub IsLineFault : ℕ → List Part → List ℕ → ℕ → HistoryFault → Type 0
-IsLineFault own before line at (fault.NotNumber place) = (place ≡ at) × ¬ IsIgnored line × ((n : ℕ) (behind : List ℕ) → ¬ HasNumber line n behind)
-IsLineFault own before line at (fault.NotSwitch place) = (place ≡ at) × ((n : ℕ) × (behind : List ℕ) × HasNumber line n behind) × ((p : Part) → ¬ SaysPart line p)
+IsLineFault own before line at (fault.NotNumber place) = (place ≡ at) × ¬ IsIgnored line
+    × ((n : ℕ) (behind : List ℕ) → ¬ HasNumber line n behind)
+IsLineFault own before line at (fault.NotSwitch place) = (place ≡ at) × ((n : ℕ) × (behind : List ℕ) × HasNumber line n behind)
+    × ((p : Part) → ¬ SaysPart line p)
 IsLineFault own before line at (fault.NotIncreasing place) = (place ≡ at) × ((p : Part) × SaysPart line p × (p.tli ≤ last_number before))
-IsLineFault own before line at (fault.NotBelowOwn place) = (place ≡ at) × ((p : Part) × SaysPart line p × (last_number before < p.tli) × (own ≤ p.tli))
-IsLineFault own before line at (fault.SwitchFalls place) = (place ≡ at) × ((p : Part) × SaysPart line p × (last_number before < p.tli) × (p.tli < own) × (p.switch < last_switch before))
+IsLineFault own before line at (fault.NotBelowOwn place) = (place ≡ at) × ((p : Part) × SaysPart line p × (last_number before < p.tli)
+    × (own ≤ p.tli))
+IsLineFault own before line at (fault.SwitchFalls place) = (place ≡ at) × ((p : Part) × SaysPart line p × (last_number before < p.tli)
+    × (p.tli < own) × (p.switch < last_switch before))
 IsLineFault own before line at (fault.TooLong have) = ⊥
 IsLineFault own before line at fault.Memory = ⊥
 
@@ -145,7 +151,7 @@ pub record BreaksAt (own : ℕ) (text : List ℕ) (f : HistoryFault) : Type 0 wh
   pub in_order : InOrder own parts
   pub cause : IsLineFault own parts line (length before + 1) f
 
-abbrev pub IsRefused : ℕ → List ℕ → HistoryFault → Type 0
-IsRefused own text (fault.TooLong have) = (HISTORY_LIMIT < length text) × (have ≡ length text)
-IsRefused own text fault.Memory = Unit {0}
-IsRefused own text f = BreaksAt own text f
+abbrev pub IsHistoryFault : ℕ → List ℕ → HistoryFault → Type 0
+IsHistoryFault own text (fault.TooLong have) = (HISTORY_LIMIT < length text) × (have ≡ length text)
+IsHistoryFault own text fault.Memory = Unit {0}
+IsHistoryFault own text f = BreaksAt own text f

@@ -3,3 +3,4 @@ pub mod Segment
 pub mod Line
 pub mod History
 pub mod Path
+pub mod Equality

@@ -27,7 +27,8 @@ pub record IsOn (path : Path) (tli at : ℕ) : Type 0 where
 
 -- a timeline of the path, and where it ends: a parent at its switch point, and the own one nowhere
 abbrev pub EndsAt : Path → ℕ → ℕ → Type 0
-EndsAt path tli end = (before : List Part) × (p : Part) × (after : List Part) × (path.parents ≡ before ++ p ∷ after) × (p.tli ≡ tli) × (p.switch ≡ end)
+EndsAt path tli end = (before : List Part) × (p : Part) × (after : List Part) × (path.parents ≡ before ++ p ∷ after) × (p.tli ≡ tli)
+    × (p.switch ≡ end)
 
 -- where a timeline ends, or none where it is no parent
 abbrev pub IsEndOf : Path → ℕ → Option ℕ → Type 0
@@ -64,4 +65,5 @@ abbrev pub IsRelation : Path → Path → Relation → Type 0
 IsRelation a b relation.Same = IsSame a b
 IsRelation a b (relation.Child switch) = IsChild a b switch
 IsRelation a b (relation.Parent switch) = IsChild b a switch
-IsRelation a b (relation.Apart at) = DifferAt a b at × ¬ IsSame a b × ((switch : ℕ) → ¬ IsChild a b switch) × ((switch : ℕ) → ¬ IsChild b a switch)
+IsRelation a b (relation.Apart at) = DifferAt a b at × ¬ IsSame a b × ((switch : ℕ) → ¬ IsChild a b switch)
+    × ((switch : ℕ) → ¬ IsChild b a switch)

@@ -11,6 +11,8 @@ use std::marker::Model;
 /// The most bytes of a history's text.
 pub const HISTORY_LIMIT: u64 = 65_536;
 
+const _: () = prove!(HISTORY_LIMIT == 65_536);
+
 /// Why a timeline was left: bytes without a line feed, and without spaces and tabs at their ends.
 #[derive(Debug, Drop)]
 pub struct Line {
@@ -71,14 +73,7 @@ impl Line {
 fn is_line(bytes: &[u8]) -> bool
     ensures { IsTrue result ↔ IsLine bytes.now }
 {
-    is_single(bytes) && begins_ink(bytes) && ends_ink(bytes)
-}
-
-/// Whether no line feed is among the bytes.
-fn is_single(bytes: &[u8]) -> bool
-    ensures { IsTrue result ↔ All (λ c. c ≢ 10) bytes.now }
-{
-    bytes.iter().all(|c| *c != b'\n')
+    !bytes.contains(&b'\n') && begins_ink(bytes) && ends_ink(bytes)
 }
 
 /// Whether no blank stands first.

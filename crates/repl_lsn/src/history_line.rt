@@ -59,16 +59,13 @@ fn number_of(line: &[u8]) -> Option<(Tli, &[u8])>
     ensures { MatchOption result ((n : ℕ) (behind : List ℕ) → ¬ HasNumber line.now n behind) (λ found. HasNumber line.now found.0 found.1.now) }
 {
     let (word, behind) = split_word(after_blanks(line));
-    if word.is_empty() || !all_digits(word) {
+    if word.is_empty() {
         return None;
     }
-    let Ok(number) = u32::try_from(saturating_value(word)) else {
+    let Ok(number) = u32::try_from(decimal_value(word)?) else {
         return None;
     };
-    let Some(tli) = Tli::new(number) else {
-        return None;
-    };
-    Some((tli, behind))
+    Some((Tli::new(number)?, behind))
 }
 
 /// The position with which the bytes go on after blanks, and what is behind it.
@@ -91,23 +88,20 @@ fn reason_of(alloc: Global, bytes: &[u8]) -> Result<Line, AllocError>
     Line::copied(alloc, before_blanks(after_blanks(bytes)))
 }
 
-/// Whether all the bytes are digits.
-fn all_digits(text: &[u8]) -> bool
-    ensures { IsTrue result ↔ All (λ c. is_ascii_digit c ≡ true) text.now }
-{
-    text.iter().all(|c| c.is_ascii_digit())
-}
-
-/// The number that the digits write, or 2^64 - 1 where it is larger.
-fn saturating_value(digits: &[u8]) -> u64
-    requires { All (λ c. is_ascii_digit c ≡ true) digits.now }
-    ensures { result ≡ min (digits_value 10 digits.now) (2 ^ 64 - 1) }
+/// The number that the digits write, or 2^64 - 1 where it is larger. `None` where one of the bytes is no digit.
+fn decimal_value(digits: &[u8]) -> Option<u64>
+    ensures { MatchOption result
+        (¬ All (λ c. is_ascii_digit c ≡ true) digits.now)
+        (λ value. All (λ c. is_ascii_digit c ≡ true) digits.now × (value ≡ min (digits_value 10 digits.now) (2 ^ 64 - 1))) }
 {
     let mut value: u64 = 0;
     for digit in digits {
+        if !digit.is_ascii_digit() {
+            return None;
+        }
         value = value
             .saturating_mul(10)
             .saturating_add(u64::from(*digit - b'0'));
     }
-    value
+    Some(value)
 }

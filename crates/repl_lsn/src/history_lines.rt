@@ -2,7 +2,7 @@
 ghost use Rattle.std.specs.Prelude.{◌≡◌, ℕ, ◌⊎◌, ◌^◌, ◌-◌, ◌<◌, ◌≤◌, min, List, [], ◌∷◌, ◌++◌, length, decimal, string_bytes, Ok, Err, IfOk, IfErr, OnOk};
 ghost use Rattle.repl_lsn.specs.declared.fault.HistoryFault.TheVariants as HistoryFault;
 ghost use Rattle.repl_lsn.specs.declared.history.TheConstants.{HISTORY_LIMIT};
-ghost use Rattle.repl_lsn.specs.History.{Path, InOrder, SaysPart, IsRead, IsLineFault, BreaksAt, IsRefused, canonical, last_number, last_switch};
+ghost use Rattle.repl_lsn.specs.History.{Path, InOrder, SaysPart, SaysHistory, IsLineFault, BreaksAt, IsHistoryFault, canonical, last_number, last_switch};
 ghost use Rattle.repl_lsn.specs.Position.{Spells, position_text};
 
 use crate::fault::HistoryFault;
@@ -20,11 +20,11 @@ use std::alloc::{AllocError, Global};
 /// `own`, and the switch point beside the one before, in this order. Takes memory.
 pub fn parse_history(alloc: Global, own: Tli, text: &[u8]) -> Result<History, HistoryFault>
     // What is read is what the text says.
-    ensures read { IfOk result (λ history. IsRead text.now history × (history.own ≡ own)) }
+    ensures read { IfOk result (λ history. SaysHistory text.now history × (history.own ≡ own)) }
     // Each refusal has its cause.
-    ensures refused { IfErr result (λ fault. IsRefused own text.now fault) }
+    ensures refused { IfErr result (λ fault. IsHistoryFault own text.now fault) }
     // What the text says is read.
-    ensures only { (path : Path) → path.own ≡ own → IsRead text.now path → (result ≡ Ok path) ⊎ (result ≡ Err HistoryFault.Memory) }
+    ensures only { (path : Path) → path.own ≡ own → SaysHistory text.now path → (result ≡ Ok path) ⊎ (result ≡ Err HistoryFault.Memory) }
 {
     let size = text.len() as u64;
     if size > HISTORY_LIMIT {
@@ -37,7 +37,7 @@ pub fn parse_history(alloc: Global, own: Tli, text: &[u8]) -> Result<History, Hi
 /// The timelines that the text's lines say.
 fn parse_parents(alloc: Global, own: Tli, text: &[u8]) -> Result<Vec<Part>, HistoryFault>
     requires { length text.now ≤ HISTORY_LIMIT }
-    ensures read { IfOk result (λ parents. IsRead text.now (record { own = own; parents = parents.items })) }
+    ensures read { IfOk result (λ parents. SaysHistory text.now (record { own = own; parents = parents.items })) }
     ensures refused { IfErr result (λ fault. (fault ≡ HistoryFault.Memory) ⊎ BreaksAt own text.now fault) }
 {
     let mut parents = Vec::new(alloc);
@@ -89,7 +89,7 @@ fn last_of(parts: &[Part]) -> (u32, Lsn)
 /// a tab, the reason and a line feed. Where that has more than 65,536 bytes it is TooLong. Takes memory.
 pub fn history_text(alloc: Global, history: &History) -> Result<Vec<u8>, HistoryFault>
     ensures exact { IfOk result (λ text. text.items ≡ canonical history.now) }
-    ensures read_back { IfOk result (λ text. IsRead text.items history.now) }
+    ensures read_back { IfOk result (λ text. SaysHistory text.items history.now) }
     // It is too long exactly where the text is above the limit.
     ensures within { IfOk result (λ text. length (canonical history.now) ≤ HISTORY_LIMIT) }
     ensures refused { IfErr result (λ fault. (fault ≡ HistoryFault.Memory) ⊎

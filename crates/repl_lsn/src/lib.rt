@@ -9,8 +9,17 @@
 //! Contracts see positions, segments and timelines as numbers. What spells what stands in `specs/Position.antt`,
 //! `specs/Segment.antt` and `specs/History.antt`, and what is said of paths in `specs/Path.antt`. Stands on
 //! `repl_text`, whose `Text` it passes on.
+//!
+//! ```text
+//! let text = b"1\t0/1000048\tfirst failover\n2\t0/3000000\tsecond\n";
+//! let history = parse_history(alloc, Tli(3), text)?;
+//! history.timeline_at(Lsn(0x100_0048)) // Tli(2): a switch point is on the timeline behind it
+//! history.end_of(Tli(1)) // Some(Lsn(0x100_0048))
+//! ```
 #![tactic(auto)]
 
+mod copies;
+mod equality;
 mod fault;
 mod history;
 mod history_laws;
@@ -38,12 +47,3 @@ pub use repl_text::Text;
 pub use segment::{SegNo, SegSize, history_name, parse_seg_name, seg_name, seg_of, seg_start};
 pub use segment_laws::one_segment;
 pub use timeline::Tli;
-
-#[cfg(test)]
-mod history_tests;
-#[cfg(test)]
-mod path_tests;
-#[cfg(test)]
-mod segment_tests;
-#[cfg(test)]
-mod tests;

@@ -3,6 +3,7 @@ ghost use Rattle.std.specs.Prelude.{◌≡◌, ◌<◌, ◌≤◌, ◌++◌, ◌
 ghost use Rattle.repl_lsn.specs.History.{last_switch};
 ghost use Rattle.repl_lsn.specs.Path.{IsOn, IsEndOf};
 
+use crate::copies::copy_parts;
 use crate::history::{History, Line, Part, Parts};
 use crate::position::Lsn;
 use crate::timeline::Tli;
@@ -43,45 +44,8 @@ impl History {
         parents.push(Part {
             tli: self.own(),
             switch,
-            reason: promoted(alloc)?,
+            reason: Line::copied(alloc, b"promoted")?,
         })?;
-        match History::new(tli, Parts::new(parents)) {
-            Some(child) => Ok(child),
-            None => unreachable!(),
-        }
-    }
-}
-
-impl Part {
-    /// A copy of the part. Takes memory for its reason.
-    fn copy(&self, alloc: Global) -> Result<Part, AllocError>
-        ensures { IfOk result (λ part. part ≡ self.now) }
-    {
-        Ok(Part {
-            tli: self.tli,
-            switch: self.switch,
-            reason: self.reason.copy(alloc)?,
-        })
-    }
-}
-
-/// Copies of the parts, with room for one more. Takes memory.
-fn copy_parts(parts: &[Part], alloc: Global) -> Result<Vec<Part>, AllocError>
-    ensures { IfOk result (λ copies. copies.items ≡ parts.now) }
-{
-    let mut copies = Vec::with_capacity(alloc, parts.len() + 1)?;
-    for part in parts {
-        copies.push(part.copy(alloc)?)?;
-    }
-    Ok(copies)
-}
-
-/// The reason of a promotion. Takes memory.
-fn promoted(alloc: Global) -> Result<Line, AllocError>
-    ensures { IfOk result (λ reason. reason ≡ codes "promoted") }
-{
-    match Line::new(Vec::from_slice(alloc, b"promoted")?) {
-        Some(reason) => Ok(reason),
-        None => unreachable!(),
+        Ok(History::of(tli, Parts::new(parents)))
     }
 }

@@ -3,12 +3,13 @@ ghost use Rattle.repl_text.specs.Language.{StopsAt};
 ghost use Rattle.repl_lsn.specs.Position.{Spells, IsPosition, IsCanonical, position_text, IsHalfAt, NoDigitAt};
 
 use std::alloc::{AllocError, Global};
+use std::fmt;
 use std::marker::Model;
 use thiserror::Error;
 
 /// A position in the write-ahead log: the number of bytes before it (PostgreSQL 17 manual, section
 /// "pg_lsn Type").
-#[derive(Clone, Copy, Debug, PartialEq, Eq, PartialOrd, Ord, Hash)]
+#[derive(Clone, Copy, Debug, PartialEq, Eq, PartialOrd, Ord)]
 pub struct Lsn(pub u64);
 
 impl Model for Lsn {
@@ -58,9 +59,21 @@ impl Lsn {
         ensures exact { IfOk result (λ text. string_bytes text ≡ position_text self) }
         ensures canonical { IfOk result (λ text. IsCanonical (string_bytes text) self) }
     {
+        format!(in alloc; "{self}")
+    }
+}
+
+/// The position's canonical text.
+impl fmt::Display for Lsn {
+    ghost use Rattle.std.specs.Prelude.{Some};
+    ghost use Rattle.repl_lsn.specs.Position.{position_text};
+
+    ghost output = { λ position. Some (position_text position) };
+
+    fn fmt<W: fmt::Write>(&self, f: &mut fmt::Formatter<W>) -> fmt::Result {
         let high = self.0 >> 32;
         let low = self.0 & 0xffff_ffff;
-        format!(in alloc; "{high:X}/{low:X}")
+        write!(f, "{high:X}/{low:X}")
     }
 }
 

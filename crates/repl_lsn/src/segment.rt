@@ -73,7 +73,7 @@ impl SegSize {
 }
 
 /// The number of a segment, from 0, counted from the log's position 0/0.
-#[derive(Clone, Copy, Debug, PartialEq, Eq, PartialOrd, Ord, Hash)]
+#[derive(Clone, Copy, Debug, PartialEq, Eq)]
 pub struct SegNo(pub u64);
 
 impl Model for SegNo {

@@ -1,10 +1,11 @@
 ghost use Rattle.std.specs.Prelude.{◌≡◌, ◌<◌};
 ghost use Rattle.std.specs.Option.{SomeIff};
 
+use std::fmt;
 use std::marker::Model;
 
 /// The number of a timeline, from 1 to 4,294,967,295 (PostgreSQL 17 manual, section "Timelines").
-#[derive(Clone, Copy, Debug, PartialEq, Eq, PartialOrd, Ord, Hash)]
+#[derive(Clone, Copy, Debug, PartialEq, Eq, PartialOrd, Ord)]
 pub struct Tli(pub u32);
 
 impl Model for Tli {
@@ -32,5 +33,17 @@ impl Tli {
         ensures { result ≡ self }
     {
         self.0
+    }
+}
+
+/// The timeline's number in decimal digits.
+impl fmt::Display for Tli {
+    ghost use Rattle.std.specs.Prelude.{Some, decimal};
+
+    ghost output = { λ timeline. Some (decimal timeline) };
+
+    fn fmt<W: fmt::Write>(&self, f: &mut fmt::Formatter<W>) -> fmt::Result {
+        let number = self.0;
+        write!(f, "{number}")
     }
 }

@@ -20,7 +20,8 @@ short_written header rest fits =
       remaining = little_number-reads_back 4 header.rem_len (little_bytes 4 0 ++ long) fits.remaining;
     }
 
-long_written : (long : LongPart) (rest : List ℕ) → long.sysid < 2 ^ 64 → long.seg_size < 2 ^ 32 → long.page_size < 2 ^ 32 → AgreesLong long (long_bytes long ++ rest)
+long_written : (long : LongPart) (rest : List ℕ) → long.sysid < 2 ^ 64 → long.seg_size < 2 ^ 32 → long.page_size < 2 ^ 32
+    → AgreesLong long (long_bytes long ++ rest)
 long_written long rest system segment page =
     record {
       system = little_number-reads_back 8 long.sysid (little_bytes 4 long.seg_size ++ little_bytes 4 long.page_size ++ rest) system;
@@ -28,7 +29,8 @@ long_written long rest system segment page =
       page = little_number-reads_back 4 long.page_size rest page;
     }
 
-behind_written : (long : Option LongPart) (rest : List ℕ) → IfSome long (λ long. (long.sysid < 2 ^ 64) × (long.seg_size < 2 ^ 32) × (long.page_size < 2 ^ 32)) → AgreesBehind long (long_bytes_of long ++ rest)
+behind_written : (long : Option LongPart) (rest : List ℕ) → IfSome long (λ long. (long.sysid < 2 ^ 64) × (long.seg_size < 2 ^ 32)
+    × (long.page_size < 2 ^ 32)) → AgreesBehind long (long_bytes_of long ++ rest)
 behind_written None rest fits = tt
 behind_written (Some long) rest fits = long_written long rest fits.0 fits.1 fits.2
 

@@ -13,7 +13,12 @@ use Rattle.repl_page.specs.Page.{in_first_page}
 
 -- what the header of a segment's first page has besides
 abbrev pub long_part_of : Ident → ℕ → Option LongPart
-long_part_of ident page = if in_first_page ident.size page then Some (record { sysid = ident.sysid; seg_size = ident.size; page_size = PAGE_SIZE }) else None
+long_part_of ident page = if in_first_page ident.size page then Some (record {
+  sysid = ident.sysid;
+  seg_size = ident.size;
+  page_size =
+      PAGE_SIZE;
+}) else None
 
 -- flags: the page begins with the rest of a record, and the header is long
 abbrev pub flags_of : ℕ → ℕ → ℕ → ℕ
@@ -21,7 +26,15 @@ flags_of size page remaining = (if remaining == 0 then 0 else 1) + (if in_first_
 
 -- the header of the page at this address that begins with so many bytes of an earlier page's record
 abbrev pub header_of : Ident → ℕ → ℕ → ℕ → PageHeader
-header_of ident timeline page remaining = record { magic = ident.magic; info = flags_of ident.size page remaining; tli = timeline; addr = page; rem_len = remaining; long = long_part_of ident page }
+header_of ident timeline page remaining = record {
+  magic = ident.magic;
+  info = flags_of ident.size page remaining;
+  tli = timeline;
+  addr =
+      page;
+  rem_len = remaining;
+  long = long_part_of ident page;
+}
 
 -- ---- spelling
 
@@ -33,7 +46,8 @@ long_bytes_of None = []
 long_bytes_of (Some long) = long_bytes long
 
 abbrev pub short_bytes : PageHeader → List ℕ
-short_bytes header = little_bytes 2 header.magic ++ little_bytes 2 header.info ++ little_bytes 4 header.tli ++ little_bytes 8 header.addr ++ little_bytes 4 header.rem_len ++ little_bytes 4 0
+short_bytes header = little_bytes 2 header.magic ++ little_bytes 2 header.info ++ little_bytes 4 header.tli ++ little_bytes 8 header.addr
+    ++ little_bytes 4 header.rem_len ++ little_bytes 4 0
 
 abbrev pub header_bytes : PageHeader → List ℕ
 header_bytes header = short_bytes header ++ long_bytes_of header.long
@@ -118,7 +132,8 @@ IsShortFault header bytes (fault.Address found expected) =
     × (field 0 2 bytes ≡ header.magic) × (judged (field 2 2 bytes) ≡ judged header.info) × (field 4 4 bytes ≡ header.tli)
 IsShortFault header bytes (fault.RemLen found expected) =
     AreSeen (field 16 4 bytes) header.rem_len found expected × (found ≢ expected)
-    × (field 0 2 bytes ≡ header.magic) × (judged (field 2 2 bytes) ≡ judged header.info) × (field 4 4 bytes ≡ header.tli) × (field 8 8 bytes ≡ header.addr)
+    × (field 0 2 bytes ≡ header.magic) × (judged (field 2 2 bytes) ≡ judged header.info) × (field 4 4 bytes ≡ header.tli)
+    × (field 8 8 bytes ≡ header.addr)
 IsShortFault header bytes (fault.SysId found expected) = ⊥
 IsShortFault header bytes (fault.SegSize found expected) = ⊥
 IsShortFault header bytes (fault.BlockSize found expected) = ⊥

@@ -9,6 +9,8 @@ use repl_lsn::{Lsn, SegSize, Tli};
 /// How many bytes a page of the log has.
 pub const PAGE_SIZE: u32 = 8192;
 
+const _: () = prove!(PAGE_SIZE == 8192);
+
 /// The most bytes that a page's header has.
 pub const HEADER_LIMIT: usize = LONG_HEADER as usize;
 

@@ -7,6 +7,12 @@
 //! stand is said in `specs/Page.antt`, how they are spelled, what agrees with them and what does not in
 //! `specs/Header.antt`. The layout is this project's own, after PostgreSQL's. Stands on `repl_lsn` and on the kit's
 //! `byteorder` and `thiserror`.
+//!
+//! ```text
+//! let ident = Ident { sysid: 7, magic: 0xd116, size };
+//! let due = ident.header(Tli(1), Lsn(0x100_2000), 84); // the page begins with 84 bytes of an earlier one's record
+//! check_header(&due, &page)?;
+//! ```
 #![tactic(auto)]
 
 mod check;
@@ -20,6 +26,3 @@ pub use fault::PageFault;
 pub use header::{HEADER_LIMIT, LongPart, PAGE_SIZE, PageHeader, header_size, write_header};
 pub use ident::Ident;
 pub use laws::{one_header, one_page_fault, written_agrees};
-
-#[cfg(test)]
-mod tests;

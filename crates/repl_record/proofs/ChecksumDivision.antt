@@ -38,7 +38,8 @@ unfolding falling
 divided-is s b = chosen (bit_xor s b % 2 == 1) (bit_xor s b / 2) polynomial
 
 -- the half and the bit that falls out, of an exclusive-or
-halved-xor : (x y : ℕ) → bit_xor (bit_xor x y / 2) (falling (bit_xor x y % 2)) ≡ bit_xor (bit_xor (x / 2) (falling (x % 2))) (bit_xor (y / 2) (falling (y % 2)))
+halved-xor : (x y : ℕ) → bit_xor (bit_xor x y / 2) (falling (bit_xor x y % 2)) ≡ bit_xor (bit_xor (x / 2) (falling (x % 2)))
+    (bit_xor (y / 2) (falling (y % 2)))
 halved-xor x y =
     let low = ap falling (xor_mod x y 1) ∙ falling-xor (x % 2) (y % 2) (mod_below x 2 (omega arith)) (mod_below y 2 (omega arith)) in
     ap (λ t. bit_xor t (falling (bit_xor x y % 2))) (xor_shr x y 1)

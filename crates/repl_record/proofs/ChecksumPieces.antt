@@ -20,7 +20,8 @@ message-append [] b = refl
 message-append (byte ∷ a) b = ap (λ t. bits_of byte ++ t) (message-append a b) ∙ sym (append_assoc (bits_of byte) (message a) (message b))
 
 -- the register behind a byte and then others
-pub remainder-byte : (register byte : ℕ) (bytes : List ℕ) → remainder register (message (byte ∷ bytes)) ≡ remainder (remainder register (bits_of byte)) (message bytes)
+pub remainder-byte : (register byte : ℕ) (bytes : List ℕ) → remainder register (message (byte ∷ bytes)) ≡ remainder
+    (remainder register (bits_of byte)) (message bytes)
 unfolding message
 remainder-byte register byte bytes = remainder-append register (bits_of byte) (message bytes)
 
@@ -50,7 +51,8 @@ divided-lt : (register bit : ℕ) → register < 2 ^ 32 → bit < 2 → divided 
 divided-lt register bit fits small =
     let sum = bit_xor register bit in
     let below : sum < 2 ^ 32 = xor_of_32 register bit fits (omega arith) in
-    cond_both (sum % 2 == 1) (bit_xor (sum / 2) polynomial) (sum / 2) (λ (n : ℕ). n < 2 ^ 32) (λ _. xor_of_32 (sum / 2) polynomial (omega arith) (omega arith)) (λ _. omega arith)
+    cond_both (sum % 2 == 1) (bit_xor (sum / 2) polynomial) (sum / 2) (λ (n : ℕ). n < 2 ^ 32) (λ _.
+    xor_of_32 (sum / 2) polynomial (omega arith) (omega arith)) (λ _. omega arith)
 
 -- a byte, and then all of them, leave a register of 32 bits
 remainder_byte-lt : (register byte : ℕ) → register < 2 ^ 32 → remainder register (bits_of byte) < 2 ^ 32
@@ -68,4 +70,5 @@ remainder_bytes-lt register (byte ∷ bytes) fits =
     omega (arith, remainder-byte register byte bytes)
 
 pub checksum-lt : (bytes : List ℕ) → checksum bytes < 2 ^ 32
-checksum-lt bytes = xor_of_32 _ 0xffff_ffff (remainder_bytes-lt (bit_xor 0 0xffff_ffff) bytes (xor_of_32 0 0xffff_ffff (omega arith) (omega arith))) (omega arith)
+checksum-lt bytes = xor_of_32 _ 0xffff_ffff (remainder_bytes-lt (bit_xor 0 0xffff_ffff) bytes (xor_of_32 0 0xffff_ffff (omega arith)
+    (omega arith))) (omega arith)

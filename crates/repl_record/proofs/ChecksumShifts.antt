@@ -60,7 +60,8 @@ past_bytes-xor zero a b = refl
 past_bytes-xor (suc n) a b = ap (past_bytes n) (past_byte-xor a b) ∙ past_bytes-xor n (past_byte a) (past_byte b)
 
 -- the low byte falls out, and the others move down
-pub past_bytes-split : (n register : ℕ) → past_bytes (suc n) register ≡ bit_xor (past_bytes n (register / 256)) (past_bytes (suc n) (register % 256))
+pub past_bytes-split : (n register : ℕ) → past_bytes (suc n) register ≡ bit_xor (past_bytes n (register / 256))
+    (past_bytes (suc n) (register % 256))
 unfolding past_bytes
 past_bytes-split n register = ap (past_bytes n) (past_byte-split register) ∙ past_bytes-xor n (register / 256) (past_byte (register % 256))
 

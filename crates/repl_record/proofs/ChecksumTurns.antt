@@ -13,7 +13,8 @@ use Rattle.repl_record.proofs.ChecksumPieces.{message-append, remainder-append, 
 use Rattle.repl_record.proofs.ChecksumShifts.{past_byte-xor, past_byte-high, past_byte-split, past_bytes-split, past_bytes-xor, remainder-byte_in}
 
 -- a number of which one byte is divided
-past_byte-number : (register byte others : ℕ) → byte < 256 → past_byte (bit_xor register (byte + 256 * others)) ≡ bit_xor (past_byte (bit_xor register byte)) others
+past_byte-number : (register byte others : ℕ) → byte < 256 → past_byte (bit_xor register (byte + 256 * others)) ≡ bit_xor
+    (past_byte (bit_xor register byte)) others
 past_byte-number register byte others fits =
     let swapped : byte + 256 * others ≡ others * 256 + byte = omega arith in
     ap (λ t. past_byte (bit_xor register t)) (swapped ∙ sym (xor_shifted others 8 byte fits) ∙ xor_comm (others * 256) byte)
@@ -37,12 +38,14 @@ remainder-number (suc n) register (byte ∷ bytes) enough are_bytes =
     ∙ ap (λ t. past_bytes n (past_byte (bit_xor register (byte + 256 * t)))) (sym (little_from-cons 0 n byte bytes))
 
 -- a byte before others: what it leaves behind, and what they do
-byte_added : (n m byte others e f : ℕ) → m ≡ suc n → byte < 256 → e ≡ past_bytes n others → f ≡ past_bytes m byte → bit_xor e f ≡ past_bytes m (byte + 256 * others)
+byte_added : (n m byte others e f : ℕ) → m ≡ suc n → byte < 256 → e ≡ past_bytes n others → f ≡ past_bytes m byte
+    → bit_xor e f ≡ past_bytes m (byte + 256 * others)
 byte_added n m byte others e f next fits e_is f_is =
     let above : (byte + 256 * others) / 256 ≡ others = omega arith in
     let low : (byte + 256 * others) % 256 ≡ byte = omega arith in
     ap (λ t. bit_xor t f) (e_is ∙ ap (past_bytes n) (sym above))
-    ∙ ap (bit_xor (past_bytes n ((byte + 256 * others) / 256))) (f_is ∙ ap (λ k. past_bytes k byte) next ∙ ap (past_bytes (suc n)) (sym low))
+    ∙ ap (bit_xor (past_bytes n ((byte + 256 * others) / 256))) (f_is ∙ ap (λ k. past_bytes k byte) next
+    ∙ ap (past_bytes (suc n)) (sym low))
     ∙ sym (past_bytes-split n (byte + 256 * others))
     ∙ ap (λ k. past_bytes k (byte + 256 * others)) (sym next)
 
@@ -59,9 +62,12 @@ four_entries n i bytes e0 e1 e2 e3 are_bytes e0_is e1_is e2_is e3_is =
     let last = e0_is ∙ ap (λ k. past_bytes (n + 1) (slice_index bytes k)) place3 ∙ ap (past_bytes (n + 1)) alone in
     let third = e1_is ∙ ap (λ k. past_bytes (n + 1 + 1) (slice_index bytes k)) place2 in
     let second = e2_is ∙ ap (λ k. past_bytes (n + 2 + 1) (slice_index bytes k)) place1 in
-    let two = byte_added (n + 1) (n + 1 + 1) (slice_index bytes (suc (suc i))) (little_from (suc (suc (suc i))) 1 bytes) e0 e1 (omega arith) (are_bytes (suc (suc i))) last third in
-    let three = byte_added (n + 1 + 1) (n + 2 + 1) (slice_index bytes (suc i)) (little_from (suc (suc i)) 2 bytes) (bit_xor e0 e1) e2 (omega arith) (are_bytes (suc i)) two second in
-    let four = byte_added (n + 2 + 1) (n + 3 + 1) (slice_index bytes i) (little_from (suc i) 3 bytes) (bit_xor (bit_xor e0 e1) e2) e3 (omega arith) (are_bytes i) three e3_is in
+    let two = byte_added (n + 1) (n + 1 + 1) (slice_index bytes (suc (suc i))) (little_from (suc (suc (suc i))) 1 bytes) e0 e1 (omega arith)
+    (are_bytes (suc (suc i))) last third in
+    let three = byte_added (n + 1 + 1) (n + 2 + 1) (slice_index bytes (suc i)) (little_from (suc (suc i)) 2 bytes) (bit_xor e0 e1) e2
+    (omega arith) (are_bytes (suc i)) two second in
+    let four = byte_added (n + 2 + 1) (n + 3 + 1) (slice_index bytes i) (little_from (suc i) 3 bytes) (bit_xor (bit_xor e0 e1) e2) e3
+    (omega arith) (are_bytes i) three e3_is in
     let count : n + 3 + 1 ≡ n + 4 = omega arith in
     four ∙ ap (λ k. past_bytes k (little_from i 4 bytes)) count
 
@@ -112,9 +118,11 @@ pub sixteen : (register : ℕ) (bytes : List ℕ) (e0 e1 e2 e3 : ℕ) → 16 ≤
     → e1 ≡ past_bytes 12 (little_from 4 4 bytes) → e2 ≡ past_bytes 8 (little_from 8 4 bytes) → e3 ≡ past_bytes 4 (little_from 12 4 bytes)
     → bit_xor (bit_xor (bit_xor e0 e1) e2) e3 ≡ remainder register (message (take 16 bytes))
 sixteen register bytes e0 e1 e2 e3 enough are_bytes e0_is e1_is e2_is e3_is =
-    let last : bit_xor e2 e3 ≡ past_bytes 8 (little_from 8 8 bytes) = ap (λ t. bit_xor t e3) e2_is ∙ ap (bit_xor (past_bytes 8 (little_from 8 4 bytes))) e3_is ∙ sym (four_first 4 8 bytes are_bytes) in
+    let last : bit_xor e2 e3 ≡ past_bytes 8 (little_from 8 8 bytes) = ap (λ t. bit_xor t e3) e2_is
+    ∙ ap (bit_xor (past_bytes 8 (little_from 8 4 bytes))) e3_is ∙ sym (four_first 4 8 bytes are_bytes) in
     let others : bit_xor e1 (bit_xor e2 e3) ≡ past_bytes 12 (little_from 4 12 bytes) =
-    ap (λ t. bit_xor t (bit_xor e2 e3)) e1_is ∙ ap (bit_xor (past_bytes 12 (little_from 4 4 bytes))) last ∙ sym (four_first 8 4 bytes are_bytes) in
+    ap (λ t. bit_xor t (bit_xor e2 e3)) e1_is ∙ ap (bit_xor (past_bytes 12 (little_from 4 4 bytes))) last
+    ∙ sym (four_first 8 4 bytes are_bytes) in
     xor_assoc (bit_xor e0 e1) e2 e3
     ∙ xor_assoc e0 e1 (bit_xor e2 e3)
     ∙ ap (λ t. bit_xor t (bit_xor e1 (bit_xor e2 e3))) e0_is
@@ -127,7 +135,8 @@ pub number_back : (word : ℕ) → word < 2 ^ 32 → little_from 0 4 (to_le_byte
 number_back word fits = little_number-reads_back 4 word [] fits
 
 -- one byte, by the first table
-pub one_entry : (register byte entry : ℕ) → byte < 256 → entry ≡ past_bytes 1 (bit_xor (register % 256) byte) → bit_xor (register / 256) entry ≡ remainder register (bits_of byte)
+pub one_entry : (register byte entry : ℕ) → byte < 256 → entry ≡ past_bytes 1 (bit_xor (register % 256) byte)
+    → bit_xor (register / 256) entry ≡ remainder register (bits_of byte)
 unfolding past_bytes
 one_entry register byte entry fits is =
     let sum = bit_xor register byte in

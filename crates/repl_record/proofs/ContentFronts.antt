@@ -18,19 +18,23 @@ last_behind size from byte bytes last =
     let same : from + suc (length bytes) - 1 ≡ from + 1 + length bytes - 1 = omega arith in
     ap (in_header size) same ∙ last
 
-front_behind_header : (size from k byte : ℕ) (bytes : List ℕ) → in_header size from ≡ true → FrontOf size (from + 1) k bytes → FrontOf size from k (byte ∷ bytes)
+front_behind_header : (size from k byte : ℕ) (bytes : List ℕ) → in_header size from ≡ true → FrontOf size (from + 1) k bytes
+    → FrontOf size from k (byte ∷ bytes)
 front_behind_header size from k byte bytes inside front = record {
   m = suc front.m;
   within = omega arith;
-  content_is = content-header_byte size from byte (take front.m bytes) inside ∙ front.content_is ∙ ap (take k) (sym (content-header_byte size from byte bytes inside));
+  content_is = content-header_byte size from byte (take front.m bytes) inside ∙ front.content_is
+      ∙ ap (take k) (sym (content-header_byte size from byte bytes inside));
   last = last_behind size from byte (take front.m bytes) front.last;
 }
 
-front_behind_byte : (size from k byte : ℕ) (bytes : List ℕ) → in_header size from ≡ false → FrontOf size (from + 1) k bytes → FrontOf size from (suc k) (byte ∷ bytes)
+front_behind_byte : (size from k byte : ℕ) (bytes : List ℕ) → in_header size from ≡ false → FrontOf size (from + 1) k bytes
+    → FrontOf size from (suc k) (byte ∷ bytes)
 front_behind_byte size from k byte bytes outside front = record {
   m = suc front.m;
   within = omega arith;
-  content_is = content-byte size from byte (take front.m bytes) outside ∙ ap (λ (t : List ℕ). byte ∷ t) front.content_is ∙ ap (take (suc k)) (sym (content-byte size from byte bytes outside));
+  content_is = content-byte size from byte (take front.m bytes) outside ∙ ap (λ (t : List ℕ). byte ∷ t) front.content_is
+      ∙ ap (take (suc k)) (sym (content-byte size from byte bytes outside));
   last = last_behind size from byte (take front.m bytes) front.last;
 }
 
@@ -38,7 +42,8 @@ front_of_byte : (size from byte : ℕ) (bytes : List ℕ) → in_header size fro
 front_of_byte size from byte bytes outside = record {
   m = 1;
   within = omega arith;
-  content_is = content-byte size from byte [] outside ∙ ap (λ (t : List ℕ). byte ∷ t) (content-nil size (from + 1)) ∙ ap (take 1) (sym (content-byte size from byte bytes outside));
+  content_is = content-byte size from byte [] outside ∙ ap (λ (t : List ℕ). byte ∷ t) (content-nil size (from + 1))
+      ∙ ap (take 1) (sym (content-byte size from byte bytes outside));
   last = let same : from + 1 - 1 ≡ from = omega arith in ap (in_header size) same ∙ outside;
 }
 
@@ -47,11 +52,16 @@ front_of size from k [] some enough = absurd (omega (arith, ap length (content-n
 front_of size from zero (byte ∷ bytes) some enough = absurd (omega arith)
 front_of size from (suc zero) (byte ∷ bytes) some enough =
     elim (cases_Bool (in_header size from)) [
-      | inl inside ↦ front_behind_header size from 1 byte bytes inside (front_of size (from + 1) 1 bytes some (omega (arith, ap length (content-header_byte size from byte bytes inside))))
+      | inl inside ↦ front_behind_header size from 1 byte bytes inside (front_of size (from + 1) 1 bytes some (omega (
+        arith,
+        ap length (content-header_byte size from byte bytes inside),
+      )))
       | inr outside ↦ front_of_byte size from byte bytes outside
     ]
 front_of size from (suc (suc k)) (byte ∷ bytes) some enough =
     elim (cases_Bool (in_header size from)) [
-      | inl inside ↦ front_behind_header size from (suc (suc k)) byte bytes inside (front_of size (from + 1) (suc (suc k)) bytes some (omega (arith, ap length (content-header_byte size from byte bytes inside))))
-      | inr outside ↦ front_behind_byte size from (suc k) byte bytes outside (front_of size (from + 1) (suc k) bytes (omega arith) (omega (arith, ap length (content-byte size from byte bytes outside))))
+      | inl inside ↦ front_behind_header size from (suc (suc k)) byte bytes inside (front_of size (from + 1) (suc (suc k)) bytes some
+          (omega (arith, ap length (content-header_byte size from byte bytes inside))))
+      | inr outside ↦ front_behind_byte size from (suc k) byte bytes outside (front_of size (from + 1) (suc k) bytes (omega arith)
+          (omega (arith, ap length (content-byte size from byte bytes outside))))
     ]

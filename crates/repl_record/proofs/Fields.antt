@@ -21,12 +21,15 @@ drop_of_take place n bytes within =
 
 -- a part that is whole in a front
 pub part_of_front : (place n k : ℕ) (bytes : List ℕ) → place + n ≤ k → take n (drop place (take k bytes)) ≡ take n (drop place bytes)
-part_of_front place n k bytes within = ap (take n) (drop_of_take place k bytes (omega arith)) ∙ take-take n (k - place) (drop place bytes) (omega arith)
+part_of_front place n k bytes within = ap (take n) (drop_of_take place k bytes (omega arith))
+    ∙ take-take n (k - place) (drop place bytes) (omega arith)
 
 -- a part of what others follow
-pub part_of_more : (place n : ℕ) (bytes more : List ℕ) → place + n ≤ length bytes → take n (drop place (bytes ++ more)) ≡ take n (drop place bytes)
+pub part_of_more : (place n : ℕ) (bytes more : List ℕ) → place + n ≤ length bytes
+    → take n (drop place (bytes ++ more)) ≡ take n (drop place bytes)
 part_of_more place n bytes more within =
-    ap (take n) (drop-append-le place bytes more (omega arith)) ∙ take-append-le n (drop place bytes) more (omega (arith, length-drop place bytes))
+    ap (take n) (drop-append-le place bytes more (omega arith))
+    ∙ take-append-le n (drop place bytes) more (omega (arith, length-drop place bytes))
 
 -- ---- fields
 
@@ -41,7 +44,8 @@ field-same place n k xs ys same within = sym (field-take place n k xs within) �
 
 -- of bytes that others follow
 pub field-append : (place n : ℕ) (xs ys : List ℕ) → place + n ≤ length xs → field place n (xs ++ ys) ≡ field place n xs
-field-append place n xs ys within = field-same place n (length xs) (xs ++ ys) xs (take_at xs ys (length xs) refl ∙ sym (take_all (length xs) xs (omega arith))) within
+field-append place n xs ys within = field-same place n (length xs) (xs ++ ys) xs (take_at xs ys (length xs) refl
+    ∙ sym (take_all (length xs) xs (omega arith))) within
 
 -- ---- lists of bytes
 

@@ -16,7 +16,8 @@ use Rattle.repl_record.proofs.ImageMadeFields.{IsRightUpTo, prev_is, reserved_is
 use Rattle.repl_record.proofs.ImageMadeGap.{gap_is, zero_in_gap, zeros_from}
 use Rattle.repl_record.proofs.ImageMadeHeaders.{headers_agree}
 
-right_up_to : (ident : Ident) (timeline : ℕ → ℕ) (from prev : ℕ) (log : List ℕ) → IsOpenBefore ident timeline from prev log (length log) → IsRight ident timeline from prev log → IsRightUpTo ident timeline from prev log
+right_up_to : (ident : Ident) (timeline : ℕ → ℕ) (from prev : ℕ) (log : List ℕ) → IsOpenBefore ident timeline from prev log (length log)
+    → IsRight ident timeline from prev log → IsRightUpTo ident timeline from prev log
 right_up_to ident timeline from prev log before right n within =
     elim (cases_lt n (length log)) [
       | inl inside ↦ (before n inside).1
@@ -24,9 +25,12 @@ right_up_to ident timeline from prev log before right n within =
     ]
 
 -- the record, whose last byte is that of a front of the log
-made : (ident : Ident) (timeline : ℕ → ℕ) (from prev : ℕ) (log : List ℕ) → IsSegSize ident.size → from % 8 ≡ 0 → prev < 2 ^ 64 → AreBytes log
-    → ((n : ℕ) → n < length log → ¬ IsOver ident.size from (take n log)) → IsRightUpTo ident timeline from prev log → IsOver ident.size from log
-    → FrontOf ident.size from (length_field (content ident.size from log)) log → (item : RecordIn) × IsImage ident timeline from prev item log
+made : (ident : Ident) (timeline : ℕ → ℕ) (from prev : ℕ) (log : List ℕ) → IsSegSize ident.size → from % 8 ≡ 0 → prev < 2 ^ 64
+    → AreBytes log
+    → ((n : ℕ) → n < length log → ¬ IsOver ident.size from (take n log)) → IsRightUpTo ident timeline from prev log
+    → IsOver ident.size from log
+    → FrontOf ident.size from (length_field (content ident.size from log)) log → (item : RecordIn)
+    × IsImage ident timeline from prev item log
 made ident timeline from prev log is even fits are going right over front =
     let size = ident.size in
     let all = content size from log in
@@ -35,11 +39,15 @@ made ident timeline from prev log is even fits are going right over front =
     let has = over.right in
     let bytes_are = subst AreBytes (sym front.content_is) (AreBytes-take total all (AreBytes-content size from log are)) in
     let long : length bytes ≡ total = ap length front.content_is ∙ length-take-le total all over.all in
-    let field_is = λ (place width : ℕ) (within : place + width ≤ 24). front_field size from total place width log front (omega (arith, has.0)) in
+    let field_is = λ (place width : ℕ) (within : place + width ≤ 24). front_field size from total place width log front (omega (
+      arith,
+      has.0,
+    )) in
     let item = item_of bytes in
     let total_of : total_length item ≡ total = total_is bytes (omega (arith, has.0)) ∙ long in
     let some : 0 < front.m = omega (arith, has.0, length-content size from (take front.m log), length-take-le front.m log front.within) in
-    let last : in_header size (from + front.m - 1) ≡ false = ap (λ (k : ℕ). in_header size (from + k - 1)) (sym (length-take-le front.m log front.within)) ∙ front.last in
+    let last : in_header size (from + front.m - 1) ≡ false =
+    ap (λ (k : ℕ). in_header size (from + k - 1)) (sym (length-take-le front.m log front.within)) ∙ front.last in
     let gap = gap_is size from front.m log is has going front.within (omega arith) some last in (
       item,
       record {
@@ -55,14 +63,17 @@ made ident timeline from prev log is even fits are going right over front =
         last = front.last;
         few = gap.few;
         rounded = over.rounded;
-        headers = subst (λ (t : ℕ). HeadersAgree ident timeline t from log) (sym total_of) (headers_agree ident timeline from prev log is even over going right);
+        headers = subst (λ (t : ℕ). HeadersAgree ident timeline t from log) (sym total_of) (headers_agree ident timeline from prev log is
+            even over going right);
       },
     )
 
 -- a log that ends where a record does, in which nothing is wrong up to there, is that record's image
-pub image_from_over : (ident : Ident) (timeline : ℕ → ℕ) (from prev : ℕ) (log : List ℕ) → IsSegSize ident.size → from % 8 ≡ 0 → prev < 2 ^ 64 → AreBytes log
+pub image_from_over : (ident : Ident) (timeline : ℕ → ℕ) (from prev : ℕ) (log : List ℕ) → IsSegSize ident.size → from % 8 ≡ 0
+    → prev < 2 ^ 64 → AreBytes log
     → IsOpenBefore ident timeline from prev log (length log) → IsRight ident timeline from prev log → IsOver ident.size from log
     → (item : RecordIn) × IsImage ident timeline from prev item log
 image_from_over ident timeline from prev log is even fits are before right over =
     let front = front_of ident.size from (length_field (content ident.size from log)) log (omega (arith, over.right.0)) over.all in
-    made ident timeline from prev log is even fits are (λ n inside. (before n inside).0) (right_up_to ident timeline from prev log before right) over front
+    made ident timeline from prev log is even fits are (λ n inside. (before n inside).0) (right_up_to ident timeline from prev log before
+    right) over front

@@ -16,12 +16,15 @@ use Rattle.repl_record.proofs.Content.{take-content, length-content-take, length
 -- ---- fronts of the log
 
 -- each front with the field has the same length in it
-pub length_field-take : (size from n : ℕ) (log : List ℕ) → 4 ≤ length (content size from (take n log)) → length_field (content size from (take n log)) ≡ length_field (content size from log)
+pub length_field-take : (size from n : ℕ) (log : List ℕ) → 4 ≤ length (content size from (take n log))
+    → length_field (content size from (take n log)) ≡ length_field (content size from log)
 length_field-take size from n log enough =
-    ap length_field (sym (take-content size from n log)) ∙ field-take 0 4 (length (content size from (take n log))) (content size from log) enough
+    ap length_field (sym (take-content size from n log)) ∙ field-take 0 4 (length (content size from (take n log))) (content size from log)
+    enough
 
 -- a front with all bytes of a record that ends at a multiple of 8 is over
-pub over_front : (size from n : ℕ) (log : List ℕ) → n ≤ length log → HasLength (content size from log) → length_field (content size from log) ≤ length (content size from (take n log))
+pub over_front : (size from n : ℕ) (log : List ℕ) → n ≤ length log → HasLength (content size from log)
+    → length_field (content size from log) ≤ length (content size from (take n log))
     → in_header size (from + n - 1) ≡ false → (from + n) % 8 ≡ 0 → IsOver size from (take n log)
 over_front size from n log within has all last rounded =
     let same = length_field-take size from n log (omega (arith, has.0)) in
@@ -41,7 +44,8 @@ pub record IsGap (size from m : ℕ) (log : List ℕ) : Type 0 where
   pub outside : (i : ℕ) → m ≤ i → i < length log → in_header size (from + i) ≡ false
 
 -- where none but the whole log is over, the end is the next multiple of 8
-gap_to_end : (size from m up : ℕ) (log : List ℕ) → IsSegSize size → 0 < m → in_header size (from + m - 1) ≡ false → (from + m - 1) % 8 + up < 8 → length log ≤ m + up → IsGap size from m log
+gap_to_end : (size from m up : ℕ) (log : List ℕ) → IsSegSize size → 0 < m → in_header size (from + m - 1) ≡ false
+    → (from + m - 1) % 8 + up < 8 → length log ≤ m + up → IsGap size from m log
 gap_to_end size from m up log is some last within ends = record {
   few = omega arith;
   outside = λ i behind inside.
@@ -53,8 +57,10 @@ gap_to_end size from m up log is some last within ends = record {
 abbrev up_to_eight : ℕ → ℕ
 up_to_eight end = 8 - end % 8
 
-gap_behind : (size from m : ℕ) (log : List ℕ) → IsSegSize size → HasLength (content size from log) → ((n : ℕ) → n < length log → ¬ IsOver size from (take n log))
-    → m < length log → length_field (content size from log) ≤ length (content size from (take m log)) → 0 < m → in_header size (from + m - 1) ≡ false → (from + m) % 8 ≢ 0 → IsGap size from m log
+gap_behind : (size from m : ℕ) (log : List ℕ) → IsSegSize size → HasLength (content size from log)
+    → ((n : ℕ) → n < length log → ¬ IsOver size from (take n log))
+    → m < length log → length_field (content size from log) ≤ length (content size from (take m log)) → 0 < m
+    → in_header size (from + m - 1) ≡ false → (from + m) % 8 ≢ 0 → IsGap size from m log
 gap_behind size from m log is has going inside all some last uneven =
     let up = up_to_eight (from + m) in
     let step : (from + m - 1) % 8 + up < 8 = omega arith in
@@ -62,12 +68,17 @@ gap_behind size from m log is has going inside all some last uneven =
       | inl early ↦
           let place : from + (m + up) - 1 ≡ from + m - 1 + up = omega arith in
           let outside = ap (in_header size) place ∙ same_eight size (from + m - 1) up is last step in
-          absurd (going (m + up) early (over_front size from (m + up) log (omega arith) has (omega (arith, length-content-take size from m (m + up) log (omega arith))) outside (omega arith)))
+          absurd (going (m + up) early (over_front size from (m + up) log (omega arith) has (omega (
+            arith,
+            length-content-take size from m (m + up) log (omega arith),
+          )) outside (omega arith)))
       | inr ends ↦ gap_to_end size from m up log is some last step ends
     ]
 
-pub gap_is : (size from m : ℕ) (log : List ℕ) → IsSegSize size → HasLength (content size from log) → ((n : ℕ) → n < length log → ¬ IsOver size from (take n log))
-    → m ≤ length log → length_field (content size from log) ≤ length (content size from (take m log)) → 0 < m → in_header size (from + m - 1) ≡ false → IsGap size from m log
+pub gap_is : (size from m : ℕ) (log : List ℕ) → IsSegSize size → HasLength (content size from log)
+    → ((n : ℕ) → n < length log → ¬ IsOver size from (take n log))
+    → m ≤ length log → length_field (content size from log) ≤ length (content size from (take m log)) → 0 < m
+    → in_header size (from + m - 1) ≡ false → IsGap size from m log
 gap_is size from m log is has going within all some last =
     elim (cases_lt m (length log)) [
       | inl inside ↦ elim (cases_eq ((from + m) % 8) 0) [
@@ -92,16 +103,24 @@ zero_in_gap ident timeline from prev m log has right all gap i behind inside =
     let same = length_field-take ident.size from n log (omega (arith, has.0)) in
     let place : from + length (take n log) - 1 ≡ from + i = omega arith in
     let back : length (take n log) - 1 ≡ i = omega arith in
-    let byte : get_or (take n log) (length (take n log) - 1) 0 ≡ get_or log i 0 = ap (λ (k : ℕ). get_or (take n log) k 0) back ∙ get_or-take n log i 0 (omega arith) in
+    let byte : get_or (take n log) (length (take n log) - 1) 0 ≡ get_or log i 0 = ap (λ (k : ℕ). get_or (take n log) k 0) back
+    ∙ get_or-take n log i 0 (omega arith) in
     same_number (get_or log i 0) 0 (λ differ.
-    right n (omega arith) why.Padding (ap (in_header ident.size) place ∙ outside, subst IsLength (sym same) has, omega arith, λ none. differ (sym byte ∙ none)))
+    right n (omega arith) why.Padding (
+      ap (in_header ident.size) place ∙ outside,
+      subst IsLength (sym same) has,
+      omega arith,
+      λ none. differ (sym byte ∙ none),
+    ))
 
 zeros_are : (bytes : List ℕ) → ((i : ℕ) → i < length bytes → get_or bytes i 0 ≡ 0) → bytes ≡ replicate (length bytes) 0
 zeros_are [] zero_at = refl
 zeros_are (byte ∷ bytes) zero_at =
-    ap (λ (b : ℕ). b ∷ bytes) (zero_at 0 (omega arith)) ∙ ap (λ (t : List ℕ). 0 ∷ t) (zeros_are bytes (λ i inside. zero_at (suc i) (omega arith)))
+    ap (λ (b : ℕ). b ∷ bytes) (zero_at 0 (omega arith)) ∙ ap (λ (t : List ℕ). 0 ∷ t)
+    (zeros_are bytes (λ i inside. zero_at (suc i) (omega arith)))
 
-pub zeros_from : (m : ℕ) (log : List ℕ) → ((i : ℕ) → m ≤ i → i < length log → get_or log i 0 ≡ 0) → log ≡ take m log ++ replicate (length log - m) 0
+pub zeros_from : (m : ℕ) (log : List ℕ) → ((i : ℕ) → m ≤ i → i < length log → get_or log i 0 ≡ 0) → log ≡ take m log
+    ++ replicate (length log - m) 0
 zeros_from m log zeros =
     let long = length-drop m log in
     let same = zeros_are (drop m log) (λ i inside. get_or-drop m log i 0 ∙ zeros (m + i) (omega arith) (omega (arith, long))) in

@@ -21,7 +21,8 @@ use Rattle.repl_record.proofs.ImageRightFronts.{image_begun, image_front, image_
 -- ---- headers
 
 -- by a page behind the start the length is there
-length_told : (ident : Ident) (timeline : ℕ → ℕ) (from prev m page : ℕ) (item : RecordIn) (log : List ℕ) → IsSegSize ident.size → from % 8 ≡ 0 → IsImage ident timeline from prev item log → m ≤ length log
+length_told : (ident : Ident) (timeline : ℕ → ℕ) (from prev m page : ℕ) (item : RecordIn) (log : List ℕ) → IsSegSize ident.size
+    → from % 8 ≡ 0 → IsImage ident timeline from prev item log → m ≤ length log
     → page % 8192 ≡ 0 → from < page → page ≤ from + m → length_field (content ident.size from (take m log)) ≡ total_length item
 length_told ident timeline from prev m page item log size_is eight is within is_page behind inside =
     let front = take m log in
@@ -31,14 +32,20 @@ length_told ident timeline from prev m page item log size_is eight is within is_
     length_begun prev item _ is.item_is (image_begun ident timeline from prev m item log is) (omega arith)
 
 -- a header of the image that is there agrees
-header_agrees : (ident : Ident) (timeline from m page remaining : ℕ) (log : List ℕ) → from ≤ page → from + m ≡ page + header_length ident.size page
-    → Agrees (header_of ident timeline page remaining) (from_page from log page) → Agrees (header_of ident timeline page remaining) (from_page from (take m log) page)
+header_agrees : (ident : Ident) (timeline from m page remaining : ℕ) (log : List ℕ) → from ≤ page
+    → from + m ≡ page + header_length ident.size page
+    → Agrees (header_of ident timeline page remaining) (from_page from log page)
+    → Agrees (header_of ident timeline page remaining) (from_page from (take m log) page)
 header_agrees ident timeline from m page remaining log behind ended agrees =
     let n = header_length ident.size page in
-    agrees-same (header_of ident timeline page remaining) n (from_page from log page) (from_page from (take m log) page) (omega (arith, length_of-header_of ident timeline page remaining)) (sym (part_of_front (page - from) n m log (omega arith))) agrees
+    agrees-same (header_of ident timeline page remaining) n (from_page from log page) (from_page from (take m log) page) (omega (
+      arith,
+      length_of-header_of ident timeline page remaining,
+    )) (sym (part_of_front (page - from) n m log (omega arith))) agrees
 
 -- so no header in the image is wrong
-header_right : (ident : Ident) (timeline : ℕ → ℕ) (from prev m : ℕ) (item : RecordIn) (log : List ℕ) → IsSegSize ident.size → from % 8 ≡ 0 → IsImage ident timeline from prev item log → m ≤ length log
+header_right : (ident : Ident) (timeline : ℕ → ℕ) (from prev m : ℕ) (item : RecordIn) (log : List ℕ) → IsSegSize ident.size → from % 8 ≡ 0
+    → IsImage ident timeline from prev item log → m ≤ length log
     → (reason : PageFault) → ¬ IsHeaderFault ident timeline from (take m log) reason
 header_right ident timeline from prev m item log size_is eight is within reason wrong =
     let page = wrong.page in
@@ -50,19 +57,27 @@ header_right ident timeline from prev m item log size_is eight is within reason 
     let told : (page ≡ from) ⊎ (found ≡ total) =
     elim (cases_eq page from) [
       | inl first ↦ inl first
-      | inr later ↦ inr (length_told ident timeline from prev m page item log size_is eight is within wrong.is_page (omega (arith, wrong.began, later)) (omega arith))
+      | inr later ↦ inr (length_told ident timeline from prev m page item log size_is eight is within wrong.is_page (omega (
+        arith,
+        wrong.began,
+        later,
+      )) (omega arith))
     ] in
-    let same : remaining ident.size total from log page ≡ remaining ident.size found from (take m log) page = sym (remaining-take ident.size found total from page m log (omega arith) told) in
+    let same : remaining ident.size total from log page ≡ remaining ident.size found from (take m log) page =
+    sym (remaining-take ident.size found total from page m log (omega arith) told) in
     let due = is.headers page wrong.is_page wrong.began (omega arith) in
     let here = header_agrees ident (timeline page) from m page (remaining ident.size total from log page) log wrong.began ended due in
-    no_fault (header_of ident (timeline page) page (remaining ident.size found from (take m log) page)) (from_page from (take m log) page) reason wrong.fault
+    no_fault (header_of ident (timeline page) page (remaining ident.size found from (take m log) page)) (from_page from (take m log) page)
+    reason wrong.fault
     (subst (λ (n : ℕ). Agrees (header_of ident (timeline page) page n) (from_page from (take m log) page)) same here)
 
 -- ---- each fault
 
-pub image_right : (ident : Ident) (timeline : ℕ → ℕ) (from prev m : ℕ) (item : RecordIn) (log : List ℕ) → IsSegSize ident.size → from % 8 ≡ 0 → IsImage ident timeline from prev item log → m ≤ length log
+pub image_right : (ident : Ident) (timeline : ℕ → ℕ) (from prev m : ℕ) (item : RecordIn) (log : List ℕ) → IsSegSize ident.size
+    → from % 8 ≡ 0 → IsImage ident timeline from prev item log → m ≤ length log
     → IsRight ident timeline from prev (take m log)
-image_right ident timeline from prev m item log size_is eight is within (why.Page fault) wrong = header_right ident timeline from prev m item log size_is eight is within fault wrong
+image_right ident timeline from prev m item log size_is eight is within (why.Page fault) wrong =
+    header_right ident timeline from prev m item log size_is eight is within fault wrong
 image_right ident timeline from prev m item log size_is eight is within (why.Length found) wrong =
     let begun = image_begun ident timeline from prev m item log is in
     let total : found ≡ total_length item = wrong.1 ∙ length_begun prev item _ is.item_is begun (omega (arith, wrong.0.count_is)) in
@@ -83,11 +98,15 @@ image_right ident timeline from prev m item log size_is eight is within why.Padd
     let total = length_begun prev item _ is.item_is begun (omega arith) in
     let counted : length (take m log) ≡ m = length-take-le m log within in
     elim (cases_lt (length is.front) m) [
-      | inl behind ↦ wrong.3 (get_or-take m log (length (take m log) - 1) 0 (omega arith) ∙ image_zero ident timeline from prev (length (take m log) - 1) item log is (omega arith) (omega arith))
+      | inl behind ↦ wrong.3 (get_or-take m log (length (take m log) - 1) 0 (omega arith)
+          ∙ image_zero ident timeline from prev (length (take m log) - 1) item log is (omega arith) (omega arith))
       | inr before ↦ absurd (omega (arith, wrong.2, image_front ident timeline from prev m item log is before))
     ]
 
 -- and the record is not over before
-pub image_open : (ident : Ident) (timeline : ℕ → ℕ) (from prev : ℕ) (item : RecordIn) (log : List ℕ) → IsSegSize ident.size → from % 8 ≡ 0 → IsImage ident timeline from prev item log → IsOpenBefore ident timeline from prev log (length log)
-image_open ident timeline from prev item log size_is eight is m below =
-    (image_not_over ident timeline from prev m item log is below, image_right ident timeline from prev m item log size_is eight is (omega arith))
+pub image_open : (ident : Ident) (timeline : ℕ → ℕ) (from prev : ℕ) (item : RecordIn) (log : List ℕ) → IsSegSize ident.size → from % 8 ≡ 0
+    → IsImage ident timeline from prev item log → IsOpenBefore ident timeline from prev log (length log)
+image_open ident timeline from prev item log size_is eight is m below = (
+  image_not_over ident timeline from prev m item log is below,
+  image_right ident timeline from prev m item log size_is eight is (omega arith),
+)

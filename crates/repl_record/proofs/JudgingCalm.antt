@@ -28,14 +28,16 @@ open_more ident timeline from prev log piece k beginning calm m below =
       | inl inside ↦ subst Calm (sym (take-append-le m log piece (omega arith))) (beginning m inside)
       | inr behind ↦
           let i = m - length log in
-          let same : take m (log ++ piece) ≡ log ++ take i piece = ap (λ (n : ℕ). take n (log ++ piece)) (omega arith) ∙ take-append-add log piece i in
+          let same : take m (log ++ piece) ≡ log ++ take i piece = ap (λ (n : ℕ). take n (log ++ piece)) (omega arith)
+          ∙ take-append-add log piece i in
           subst Calm (sym same) (calm i (omega arith) (omega arith))
     ]
 
 -- ---- where nothing is judged
 
 -- a header that ends with the last byte has that byte in it
-header_fault_inside : (ident : Ident) (timeline : ℕ → ℕ) (from : ℕ) (log : List ℕ) (fault : PageFault) → IsSegSize ident.size → IsHeaderFault ident timeline from log fault → in_header ident.size (from + length log - 1) ≡ true
+header_fault_inside : (ident : Ident) (timeline : ℕ → ℕ) (from : ℕ) (log : List ℕ) (fault : PageFault) → IsSegSize ident.size
+    → IsHeaderFault ident timeline from log fault → in_header ident.size (from + length log - 1) ≡ true
 header_fault_inside ident timeline from log fault is h =
     let size = ident.size in
     let two = header_is size h.page in
@@ -44,11 +46,14 @@ header_fault_inside ident timeline from log fault is h =
     ap (in_header size) at ∙ still_in_header size h.page before is (omega (arith, two, h.is_page))
 
 -- so it is no byte of the record
-pub header_fault_last : (ident : Ident) (timeline : ℕ → ℕ) (from : ℕ) (log : List ℕ) (fault : PageFault) → IsSegSize ident.size → IsHeaderFault ident timeline from log fault → ¬ LastIsContent ident.size from log
-header_fault_last ident timeline from log fault is h last = both_ways (in_header ident.size (from + length log - 1)) last (header_fault_inside ident timeline from log fault is h)
+pub header_fault_last : (ident : Ident) (timeline : ℕ → ℕ) (from : ℕ) (log : List ℕ) (fault : PageFault) → IsSegSize ident.size
+    → IsHeaderFault ident timeline from log fault → ¬ LastIsContent ident.size from log
+header_fault_last ident timeline from log fault is h last = both_ways (in_header ident.size (from + length log - 1)) last
+    (header_fault_inside ident timeline from log fault is h)
 
 -- behind a header no byte is in it
-pub header_fault_behind : (ident : Ident) (timeline : ℕ → ℕ) (from : ℕ) (log : List ℕ) (fault : PageFault) → IsSegSize ident.size → IsHeaderFault ident timeline from log fault → in_header ident.size (from + length log) ≡ true → ⊥
+pub header_fault_behind : (ident : Ident) (timeline : ℕ → ℕ) (from : ℕ) (log : List ℕ) (fault : PageFault) → IsSegSize ident.size
+    → IsHeaderFault ident timeline from log fault → in_header ident.size (from + length log) ≡ true → ⊥
 header_fault_behind ident timeline from log fault is h inside =
     let size = ident.size in
     let two = header_is size h.page in
@@ -58,7 +63,9 @@ header_fault_behind ident timeline from log fault is h inside =
     absurd (omega (arith, two, h.is_page, below, place_on_page h.page long on_page, same_header_length size h.page long is on_page))
 
 -- a part of a header, before its end
-pub calm_header : (ident : Ident) (timeline : ℕ → ℕ) (from prev : ℕ) (log : List ℕ) → IsSegSize ident.size → in_header ident.size (from + length log - 1) ≡ true → ((fault : PageFault) → ¬ IsHeaderFault ident timeline from log fault) → IsCalm ident timeline from prev log
+pub calm_header : (ident : Ident) (timeline : ℕ → ℕ) (from prev : ℕ) (log : List ℕ) → IsSegSize ident.size
+    → in_header ident.size (from + length log - 1) ≡ true → ((fault : PageFault) → ¬ IsHeaderFault ident timeline from log fault)
+    → IsCalm ident timeline from prev log
 calm_header ident timeline from prev log is inside none =
     (λ over. both_ways (in_header ident.size (from + length log - 1)) over.last inside, right)
   where
@@ -71,7 +78,8 @@ calm_header ident timeline from prev log is inside none =
     right why.Padding h = both_ways (in_header ident.size (from + length log - 1)) h.0 inside
 
 -- a part of a record that ends with no byte of which something is judged
-pub calm_record : (ident : Ident) (timeline : ℕ → ℕ) (from prev : ℕ) (log : List ℕ) → IsSegSize ident.size → LastIsContent ident.size from log
+pub calm_record : (ident : Ident) (timeline : ℕ → ℕ) (from prev : ℕ) (log : List ℕ) → IsSegSize ident.size
+    → LastIsContent ident.size from log
     → length (content ident.size from log) ≢ 4 → length (content ident.size from log) ≢ 16 → length (content ident.size from log) ≢ 20
     → (24 ≤ length (content ident.size from log) → length (content ident.size from log) < length_field (content ident.size from log))
     → IsCalm ident timeline from prev log

@@ -18,15 +18,18 @@ use Rattle.repl_record.proofs.Content.{content-append, content-header, content-n
 
 -- a header stays spelled
 pub old_header : (ident : Ident) (timeline total from : ℕ) (log more : List ℕ) (page : ℕ) → from ≤ page → page < from + length log
-    → take (header_length ident.size page) (from_page from log page) ≡ header_bytes (header_of ident timeline page (remaining ident.size total from log page))
-    → take (header_length ident.size page) (from_page from (log ++ more) page) ≡ header_bytes (header_of ident timeline page (remaining ident.size total from (log ++ more) page))
+    → take (header_length ident.size page) (from_page from log page) ≡ header_bytes
+    (header_of ident timeline page (remaining ident.size total from log page))
+    → take (header_length ident.size page) (from_page from (log
+    ++ more) page) ≡ header_bytes (header_of ident timeline page (remaining ident.size total from (log ++ more) page))
 old_header ident timeline total from log more page above below spelled =
     let n = header_length ident.size page in
     let whole = ap length spelled ∙ length-header_bytes ident timeline page (remaining ident.size total from log page) in
     let room : n ≤ length (drop (page - from) log) = omega (arith, whole, length-take n (drop (page - from) log)) in
     part_of_more (page - from) n log more (omega (arith, room, length-drop (page - from) log))
     ∙ spelled
-    ∙ ap (λ (left : ℕ). header_bytes (header_of ident timeline page left)) (sym (remaining-append ident.size total from page log more below))
+    ∙ ap (λ (left : ℕ). header_bytes (header_of ident timeline page left))
+    (sym (remaining-append ident.size total from page log more below))
 
 -- ---- the header that is due
 
@@ -42,22 +45,28 @@ same_begin from n =
 remaining_at : (place : Place) (done : ℕ) (log more : List ℕ) → done ≡ length (content_of place log)
     → remaining place.ident.size place.total place.at (log ++ more) (place.at + length log) ≡ left_over place done log
 remaining_at place done log more is =
-    let front : take (place.at + length log - place.at) (log ++ more) ≡ log = take_at log more (place.at + length log - place.at) (omega arith) in
-    ap (λ (b : Bool). cond b 0 (place.total - length (content_of place (take (place.at + length log - place.at) (log ++ more))))) (same_begin place.at (length log))
+    let front : take (place.at + length log - place.at) (log ++ more) ≡ log =
+    take_at log more (place.at + length log - place.at) (omega arith) in
+    ap (λ (b : Bool). cond b 0 (place.total - length (content_of place (take (place.at + length log - place.at) (log ++ more)))))
+    (same_begin place.at (length log))
     ∙ ap (λ (laid : List ℕ). cond (length log == 0) 0 (place.total - length (content_of place laid))) front
     ∙ ap (λ (count : ℕ). cond (length log == 0) 0 (place.total - count)) (sym is)
 
-length-due_header : (place : Place) (done : ℕ) (log : List ℕ) → length (due_header place done log) ≡ header_length place.ident.size (page_start (place.at + length log)) - (place.at + length log) % 8192
+length-due_header : (place : Place) (done : ℕ) (log : List ℕ)
+    → length (due_header place done log) ≡ header_length place.ident.size (page_start (place.at + length log)) - (place.at + length log) %
+    8192
 length-due_header place done log =
     let position = place.at + length log in
     let spelled = header_bytes (header_of place.ident place.tli (page_start position) (left_over place done log)) in
-    length-drop (position % 8192) spelled ∙ ap (λ (n : ℕ). n - position % 8192) (length-header_bytes place.ident place.tli (page_start position) (left_over place done log))
+    length-drop (position % 8192) spelled ∙ ap (λ (n : ℕ). n - position % 8192) (length-header_bytes place.ident place.tli
+    (page_start position) (left_over place done log))
 
 -- it is spelled where a page begins
 new_header : (place : Place) (done : ℕ) (log block : List ℕ) → (place.at + length log) % 8192 ≡ 0 → done ≡ length (content_of place log)
     → let page = place.at + length log in
     let grown = log ++ (due_header place done log ++ block) in
-    take (header_length place.ident.size page) (from_page place.at grown page) ≡ header_bytes (header_of place.ident place.tli page (remaining place.ident.size place.total place.at grown page))
+    take (header_length place.ident.size page) (from_page place.at grown page) ≡ header_bytes (header_of place.ident place.tli page
+    (remaining place.ident.size place.total place.at grown page))
 new_header place done log block begins is =
     let page = place.at + length log in
     let spelled : ℕ → List ℕ = λ left. header_bytes (header_of place.ident place.tli page left) in
@@ -68,7 +77,8 @@ new_header place done log block begins is =
     let left = remaining_at place done log (due_header place done log ++ block) is in
     ap (take (header_length place.ident.size page)) (drop_at log (due_header place done log ++ block) (page - place.at) (omega arith))
     ∙ ap (λ (h : List ℕ). take (header_length place.ident.size page) (h ++ block)) due
-    ∙ take_at (spelled (left_over place done log)) block (header_length place.ident.size page) (length-header_bytes place.ident place.tli page (left_over place done log))
+    ∙ take_at (spelled (left_over place done log)) block (header_length place.ident.size page) (length-header_bytes place.ident place.tli
+    page (left_over place done log))
     ∙ ap spelled (sym left)
 
 -- ---- positions behind the header that is due
@@ -81,7 +91,8 @@ record IsBehind (size position due : ℕ) : Type 0 where
   pub outside : header_length size position ≤ position % 8192 + due
   pub inside : (due ≡ 0) ⊎ (position % 8192 + due ≤ header_length size position)
 
-behind_header : (size position due : ℕ) → IsSegSize size → due ≡ header_length size (page_start position) - position % 8192 → IsBehind size position due
+behind_header : (size position due : ℕ) → IsSegSize size → due ≡ header_length size (page_start position) - position % 8192
+    → IsBehind size position due
 behind_header size position due is due_is =
     let r = position % 8192 in
     let limit = length_of_page size position is in
@@ -95,7 +106,8 @@ behind_header size position due is due_is =
     }
 
 -- nothing of the header is the record's
-no_content : (size position : ℕ) (header : List ℕ) → IsSegSize size → IsBehind size position (length header) → content size position header ≡ []
+no_content : (size position : ℕ) (header : List ℕ) → IsSegSize size → IsBehind size position (length header)
+    → content size position header ≡ []
 no_content size position header is behind =
     elim behind.inside [
       | inl none ↦ ap (content size position) (nil_from_length header none) ∙ content-nil size position
@@ -118,11 +130,18 @@ content-with_block place done log block is fits =
     let behind = behind_header size position (length header) is (length-due_header place done log) in
     let along : place.at + length (log ++ header) ≡ position + length header = omega (arith, length-append log header) in
     let front : content_of place (log ++ header) ≡ content_of place log =
-    content-append size place.at log header ∙ ap (λ (t : List ℕ). content_of place log ++ t) (no_content size position header is behind) ∙ append-nil (content_of place log) in
-    content-more size (position + length header) place.at (log ++ header) block is (sym along) (omega (arith, behind.same, behind.outside, behind.place)) (omega (arith, along)) ∙ ap (λ (t : List ℕ). t ++ block) front
+    content-append size place.at log header ∙ ap (λ (t : List ℕ). content_of place log ++ t) (no_content size position header is behind)
+    ∙ append-nil (content_of place log) in
+    content-more size (position + length header) place.at (log ++ header) block is (sym along) (omega (
+      arith,
+      behind.same,
+      behind.outside,
+      behind.place,
+    )) (omega (arith, along)) ∙ ap (λ (t : List ℕ). t ++ block) front
 
 -- the headers of the pages that begin before the block's end
-headers-with_block : (place : Place) (done : ℕ) (log block : List ℕ) → IsSegSize place.ident.size → IsLaid place log → done ≡ length (content_of place log)
+headers-with_block : (place : Place) (done : ℕ) (log block : List ℕ) → IsSegSize place.ident.size → IsLaid place log
+    → done ≡ length (content_of place log)
     → (place.at + length (log ++ due_header place done log)) % 8192 + length block ≤ 8192
     → HeadersAreSpelled place.ident (λ _. place.tli) place.total place.at (with_block place done log block)
 headers-with_block place done log block is laid done_is fits page begins above below =
@@ -131,20 +150,26 @@ headers-with_block place done log block is laid done_is fits page begins above b
     let position = place.at + length log in
     let behind = behind_header size position (length header) is (length-due_header place done log) in
     let grouped : with_block place done log block ≡ log ++ (header ++ block) = append_assoc log header block in
-    let P : List ℕ → Type 0 = λ grown. take (header_length size page) (from_page place.at grown page) ≡ header_bytes (header_of place.ident place.tli page (remaining size place.total place.at grown page)) in
+    let P : List ℕ → Type 0 = λ grown. take (header_length size page) (from_page place.at grown page) ≡ header_bytes
+    (header_of place.ident place.tli page (remaining size place.total place.at grown page)) in
     let spelled : P (log ++ (header ++ block)) =
     elim (cases_lt page position) [
-      | inl old ↦ old_header place.ident place.tli place.total place.at log (header ++ block) page above old (laid.headers page begins above old)
+      | inl old ↦ old_header place.ident place.tli place.total place.at log (header
+          ++ block) page above old (laid.headers page begins above old)
       | inr new ↦
           let along : place.at + length (log ++ header) ≡ position + length header = omega (arith, length-append log header) in
           let short : (position + length header) % 8192 + length block ≤ 8192 = omega (arith, along) in
-          let end : place.at + length (with_block place done log block) ≡ position + length header + length block = omega (arith, length-append log header, length-append (log ++ header) block) in
+          let end : place.at + length (with_block place done log block) ≡ position + length header + length block =
+          omega (arith, length-append log header, length-append (log ++ header) block) in
           let here : page ≡ position = omega (arith, behind.place, header_is size position, behind.inside) in
-          subst (λ (p : ℕ). take (header_length size p) (from_page place.at (log ++ (header ++ block)) p) ≡ header_bytes (header_of place.ident place.tli p (remaining size place.total place.at (log ++ (header ++ block)) p))) (sym here) (new_header place done log block (omega arith) done_is)
+          subst (λ (p : ℕ). take (header_length size p) (from_page place.at (log ++ (header ++ block)) p) ≡ header_bytes
+          (header_of place.ident place.tli p (remaining size place.total place.at (log ++ (header ++ block)) p))) (sym here)
+          (new_header place done log block (omega arith) done_is)
     ] in
     subst P (sym grouped) spelled
 
-IsLaid-with_block : (place : Place) (done : ℕ) (log block : List ℕ) → IsSegSize place.ident.size → IsLaid place log → done ≡ length (content_of place log) → 0 < length block
+IsLaid-with_block : (place : Place) (done : ℕ) (log block : List ℕ) → IsSegSize place.ident.size → IsLaid place log
+    → done ≡ length (content_of place log) → 0 < length block
     → (place.at + length (log ++ due_header place done log)) % 8192 + length block ≤ 8192
     → IsLaid place (with_block place done log block)
 IsLaid-with_block place done log block is laid done_is some fits =
@@ -155,7 +180,12 @@ IsLaid-with_block place done log block is laid done_is some fits =
     let along : place.at + length (log ++ header) ≡ position + length header = omega (arith, length-append log header) in
     record {
       headers = headers-with_block place done log block is laid done_is fits;
-      last = inr (last_more size (position + length header) place.at (log ++ header) block is (sym along) (omega (arith, behind.same, behind.outside, behind.place)) (omega (arith, along)) some);
+      last = inr (last_more size (position + length header) place.at (log ++ header) block is (sym along) (omega (
+        arith,
+        behind.same,
+        behind.outside,
+        behind.place,
+      )) (omega (arith, along)) some);
     }
 
 -- of a piece that goes behind what was laid before, only the rest is not laid
@@ -166,15 +196,18 @@ pub record IsGoing (place : Place) (before piece log rest : List ℕ) (done : �
   pub fits : done + length rest ≤ place.total
 
 -- the rest without a block
-pub IsGoing-with_block : (place : Place) (before piece log rest grown : List ℕ) (done count : ℕ) → IsSegSize place.ident.size → IsGoing place before piece log rest done → 0 < count → count ≤ length rest
+pub IsGoing-with_block : (place : Place) (before piece log rest grown : List ℕ) (done count : ℕ) → IsSegSize place.ident.size
+    → IsGoing place before piece log rest done → 0 < count → count ≤ length rest
     → (place.at + length (log ++ due_header place done log)) % 8192 + count ≤ 8192 → grown ≡ with_block place done log (take count rest)
     → IsGoing place before piece grown (take (length rest - count) (drop count rest)) (done + count)
 IsGoing-with_block place before piece log rest grown done count is going some within fits grown_is =
     let block = take count rest in
     let counted : length block ≡ count = length-take-le count rest within in
     let room : (place.at + length (log ++ due_header place done log)) % 8192 + length block ≤ 8192 = omega (arith, counted) in
-    let laid : IsLaid place grown = subst (IsLaid place) (sym grown_is) (IsLaid-with_block place done log block is going.laid going.done_is (omega (arith, counted)) room) in
-    let bytes : content_of place grown ≡ content_of place log ++ block = ap (content_of place) grown_is ∙ content-with_block place done log block is room in
+    let laid : IsLaid place grown = subst (IsLaid place) (sym grown_is) (IsLaid-with_block place done log block is going.laid going.done_is
+    (omega (arith, counted)) room) in
+    let bytes : content_of place grown ≡ content_of place log ++ block = ap (content_of place) grown_is
+    ∙ content-with_block place done log block is room in
     let left : take (length rest - count) (drop count rest) ≡ drop count rest = take_rest rest count in
     record {
       laid = laid;

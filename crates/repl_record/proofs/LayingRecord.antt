@@ -48,30 +48,38 @@ header_fits ident timeline page total from log fits below short =
     }
 
 -- what is spelled agrees
-agrees_spelled : (header : PageHeader) (n : ℕ) (bytes : List ℕ) → ((header : PageHeader) (rest : List ℕ) → IsHeader header → Agrees header (header_bytes header ++ rest))
+agrees_spelled : (header : PageHeader) (n : ℕ) (bytes : List ℕ) → ((header : PageHeader) (rest : List ℕ) → IsHeader header
+    → Agrees header (header_bytes header ++ rest))
     → IsHeader header → take n bytes ≡ header_bytes header → Agrees header bytes
 agrees_spelled header n bytes written fits spelled =
-    let parts : header_bytes header ++ drop n bytes ≡ bytes = ap (λ (t : List ℕ). t ++ drop n bytes) (sym spelled) ∙ take-append-drop n bytes in
+    let parts : header_bytes header ++ drop n bytes ≡ bytes = ap (λ (t : List ℕ). t ++ drop n bytes) (sym spelled)
+    ∙ take-append-drop n bytes in
     subst (Agrees header) parts (written header (drop n bytes) fits)
 
 -- ---- the whole
 
 -- no page begins among fewer than eight zeros up to a multiple of 8
-headers_padded : (place : Place) (front : List ℕ) (gap : ℕ) → IsLaid place front → gap < 8 → place.at % 8 ≡ 0 → length (front ++ replicate gap 0) % 8 ≡ 0
+headers_padded : (place : Place) (front : List ℕ) (gap : ℕ) → IsLaid place front → gap < 8 → place.at % 8 ≡ 0
+    → length (front ++ replicate gap 0) % 8 ≡ 0
     → HeadersAreSpelled place.ident (λ _. place.tli) place.total place.at (front ++ replicate gap 0)
 headers_padded place front gap laid few aligned rounded page begins above below =
-    let counted : length (front ++ replicate gap 0) ≡ length front + gap = length-append front (replicate gap 0) ∙ ap (λ (n : ℕ). length front + n) (length-replicate gap 0) in
+    let counted : length (front ++ replicate gap 0) ≡ length front + gap = length-append front (replicate gap 0)
+    ∙ ap (λ (n : ℕ). length front + n) (length-replicate gap 0) in
     elim (cases_lt page (place.at + length front)) [
-      | inl old ↦ old_header place.ident place.tli place.total place.at front (replicate gap 0) page above old (laid.headers page begins above old)
+      | inl old ↦ old_header place.ident place.tli place.total place.at front (replicate gap 0) page above old
+          (laid.headers page begins above old)
       | inr new ↦ absurd (omega (arith, counted))
     ]
 
 -- the record's bytes are laid in two pieces, from nothing on
-pub laid_bytes : (place : Place) (prev : ℕ) (item : RecordIn) (empty head body one two : List ℕ) → empty ≡ [] → content_of place one ≡ content_of place empty ++ head → content_of place two ≡ content_of place one ++ body
-    → head ≡ front_bytes prev item ++ little_bytes 4 (checksum (item.body ++ front_bytes prev item)) → body ≡ item.body → content_of place two ≡ record_bytes prev item
+pub laid_bytes : (place : Place) (prev : ℕ) (item : RecordIn) (empty head body one two : List ℕ) → empty ≡ []
+    → content_of place one ≡ content_of place empty ++ head → content_of place two ≡ content_of place one ++ body
+    → head ≡ front_bytes prev item ++ little_bytes 4 (checksum (item.body ++ front_bytes prev item)) → body ≡ item.body
+    → content_of place two ≡ record_bytes prev item
 laid_bytes place prev item empty head body one two none first second head_is body_is =
     second
-    ∙ ap (λ (t : List ℕ). t ++ body) (first ∙ ap (λ (t : List ℕ). content_of place t ++ head) none ∙ ap (λ (t : List ℕ). t ++ head) (content-nil place.ident.size place.at))
+    ∙ ap (λ (t : List ℕ). t ++ body) (first ∙ ap (λ (t : List ℕ). content_of place t ++ head) none
+    ∙ ap (λ (t : List ℕ). t ++ head) (content-nil place.ident.size place.at))
     ∙ ap (λ (t : List ℕ). t ++ body) head_is
     ∙ ap (λ (t : List ℕ). (front_bytes prev item ++ little_bytes 4 (checksum (item.body ++ front_bytes prev item))) ++ t) body_is
 
@@ -87,20 +95,24 @@ pub record IsFinished (place : Place) (prev : ℕ) (item : RecordIn) (front log 
   pub fields : AreFields place.ident place.tli
   pub total : place.total ≡ total_length item
 
-last_is : (place : Place) (prev : ℕ) (item : RecordIn) (front : List ℕ) → IsLaid place front → content_of place front ≡ record_bytes prev item → LastIsContent place.ident.size place.at front
+last_is : (place : Place) (prev : ℕ) (item : RecordIn) (front : List ℕ) → IsLaid place front
+    → content_of place front ≡ record_bytes prev item → LastIsContent place.ident.size place.at front
 last_is place prev item front laid bytes =
     elim laid.last [
       | inl none ↦ absurd (omega (arith, length-content place.ident.size place.at front, ap length bytes))
       | inr last ↦ last
     ]
 
-pub spelled_finished : (place : Place) (prev : ℕ) (item : RecordIn) (front log : List ℕ) → IsFinished place prev item front log → HeadersAreSpelled place.ident (λ _. place.tli) (total_length item) place.at log
+pub spelled_finished : (place : Place) (prev : ℕ) (item : RecordIn) (front log : List ℕ) → IsFinished place prev item front log
+    → HeadersAreSpelled place.ident (λ _. place.tli) (total_length item) place.at log
 spelled_finished place prev item front log is =
     let rounded : length (front ++ replicate is.gap.0 0) % 8 ≡ 0 = ap (λ (t : List ℕ). length t % 8) (sym is.gap.2) ∙ is.gap.3 in
     let padded = headers_padded place front is.gap.0 is.laid is.gap.1 is.aligned rounded in
-    subst (λ (total : ℕ). HeadersAreSpelled place.ident (λ _. place.tli) total place.at log) is.total (subst (HeadersAreSpelled place.ident (λ _. place.tli) place.total place.at) (sym is.gap.2) padded)
+    subst (λ (total : ℕ). HeadersAreSpelled place.ident (λ _. place.tli) total place.at log) is.total
+    (subst (HeadersAreSpelled place.ident (λ _. place.tli) place.total place.at) (sym is.gap.2) padded)
 
-pub IsImage-finished : (place : Place) (prev : ℕ) (item : RecordIn) (front log : List ℕ) → ((header : PageHeader) (rest : List ℕ) → IsHeader header → Agrees header (header_bytes header ++ rest))
+pub IsImage-finished : (place : Place) (prev : ℕ) (item : RecordIn) (front log : List ℕ) → ((header : PageHeader) (rest : List ℕ)
+    → IsHeader header → Agrees header (header_bytes header ++ rest))
     → IsFinished place prev item front log → IsImage place.ident (λ _. place.tli) place.at prev item log
 IsImage-finished place prev item front log written is =
     let total = total_length item in

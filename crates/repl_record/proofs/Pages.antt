@@ -20,7 +20,11 @@ whole_pages : (size : ℕ) → IsSegSize size → (pages : ℕ) × (size ≡ 819
 whole_pages size is =
     elim (cases_lt is.exponent 13) [
       | inl below ↦ absurd (small_powers is.exponent below (omega (arith, is.least, is.power)))
-      | inr above ↦ (2 ^ (is.exponent - 13), is.power ∙ many_pages is.exponent (is.exponent - 13) (omega arith), one-le-pow (is.exponent - 13) 2 (omega arith))
+      | inr above ↦ (
+        2 ^ (is.exponent - 13),
+        is.power ∙ many_pages is.exponent (is.exponent - 13) (omega arith),
+        one-le-pow (is.exponent - 13) 2 (omega arith),
+      )
     ]
 
 -- two positions as far from the segment's start, or both behind its first page
@@ -40,26 +44,32 @@ page_in_segment pages r i inside within =
       | inr above ↦ let full : 8192 * pages ≤ 8192 * page = mul-le-mul_left 8192 above in absurd (omega arith)
     ]
 
-place_in_segment : (size pages position i : ℕ) → size ≡ 8192 * pages → 0 < pages → position % 8192 + i < 8192 → ((position + i) % size ≡ position % size + i) × (position % size % 8192 ≡ position % 8192)
+place_in_segment : (size pages position i : ℕ) → size ≡ 8192 * pages → 0 < pages → position % 8192 + i < 8192
+    → ((position + i) % size ≡ position % size + i) × (position % size % 8192 ≡ position % 8192)
 place_in_segment size pages position i is some within =
     let r = position % size in
     let q = position / size in
     let inside : r < size = mod-lt position (omega arith) in
     let split : q * size + r ≡ position = div-add-mod' position size in
     let regroup : q * size ≡ (q * pages) * 8192 = ap (λ (n : ℕ). q * n) (is ∙ mul_comm 8192 pages) ∙ sym (mul_assoc q pages 8192) in
-    let same : position % 8192 ≡ r % 8192 = ap (λ (n : ℕ). n % 8192) (sym split ∙ ap (λ (n : ℕ). n + r) regroup) ∙ mul-add-mod_self_right (q * pages) 8192 r in
+    let same : position % 8192 ≡ r % 8192 = ap (λ (n : ℕ). n % 8192) (sym split ∙ ap (λ (n : ℕ). n + r) regroup)
+    ∙ mul-add-mod_self_right (q * pages) 8192 r in
     let room : r + i < 8192 * pages = page_in_segment pages r i (omega arith) (omega (arith, same)) in
-    let fits : r + i < size = omega arith in
-    (ap (λ (n : ℕ). (n + i) % size) (sym split) ∙ ap (λ (n : ℕ). n % size) (add_assoc (q * size) r i) ∙ mod-mul-add q size (r + i) fits, sym same)
+    let fits : r + i < size = omega arith in (
+      ap (λ (n : ℕ). (n + i) % size) (sym split) ∙ ap (λ (n : ℕ). n % size) (add_assoc (q * size) r i) ∙ mod-mul-add q size (r + i) fits,
+      sym same,
+    )
 
 -- a position on the same page has the same place in its segment
-same_first_page : (size position i : ℕ) → IsSegSize size → position % 8192 + i < 8192 → in_first_page size (position + i) ≡ in_first_page size position
+same_first_page : (size position i : ℕ) → IsSegSize size → position % 8192 + i < 8192
+    → in_first_page size (position + i) ≡ in_first_page size position
 same_first_page size position i is within =
     let pages = whole_pages size is in
     let places = place_in_segment size pages.0 position i pages.1 pages.2 within in
     ap (λ (n : ℕ). nat_lt n 8192) places.0 ∙ same_test (position % size) i (omega (arith, places.1))
 
-pub same_header_length : (size position i : ℕ) → IsSegSize size → position % 8192 + i < 8192 → header_length size (position + i) ≡ header_length size position
+pub same_header_length : (size position i : ℕ) → IsSegSize size → position % 8192 + i < 8192
+    → header_length size (position + i) ≡ header_length size position
 same_header_length size position i is within = ap (λ (b : Bool). cond b 40 24) (same_first_page size position i is within)
 
 cond_is : (b : Bool) → (cond {A = ℕ} b 40 24 ≡ 24) ⊎ (cond {A = ℕ} b 40 24 ≡ 40)
@@ -97,10 +107,15 @@ pub before_page : (size page : ℕ) → page % 8192 ≡ 0 → 0 < page → in_he
 before_page size page is some = not_in_header_from size (page - 1) (omega (arith, header_is size (page - 1)))
 
 -- a position that is a multiple of 8 and not in a header has no header before the next multiple of 8
-pub same_eight : (size position i : ℕ) → IsSegSize size → in_header size position ≡ false → position % 8 + i < 8 → in_header size (position + i) ≡ false
+pub same_eight : (size position i : ℕ) → IsSegSize size → in_header size position ≡ false → position % 8 + i < 8
+    → in_header size (position + i) ≡ false
 same_eight size position i is outside within =
     let behind = not_in_header_tells size position outside in
-    not_in_header_from size (position + i) (omega (arith, same_header_length size position i is (omega arith), place_on_page position i (omega arith)))
+    not_in_header_from size (position + i) (omega (
+      arith,
+      same_header_length size position i is (omega arith),
+      place_on_page position i (omega arith),
+    ))
 
 -- ---- ends of headers
 
@@ -117,11 +132,13 @@ still_in_header size at i is within =
     in_header_from size (at + i) (omega (arith, place_on_page at i on_page, same_header_length size at i is on_page))
 
 -- a page whose header ends here is the one in whose header the position was
-pub page_of_end : (size at i page : ℕ) → page % 8192 ≡ 0 → at % 8192 + i ≤ header_length size at → at + i ≡ page + header_length size page → page ≡ page_start at
+pub page_of_end : (size at i page : ℕ) → page % 8192 ≡ 0 → at % 8192 + i ≤ header_length size at → at + i ≡ page + header_length size page
+    → page ≡ page_start at
 page_of_end size at i page is_page within ended = omega (arith, header_is size at, header_is size page)
 
 -- a header that began is whole before a byte that is none of it
-pub header_is_whole : (size page position : ℕ) → IsSegSize size → page % 8192 ≡ 0 → page ≤ position → in_header size position ≡ false → page + header_length size page ≤ position
+pub header_is_whole : (size page position : ℕ) → IsSegSize size → page % 8192 ≡ 0 → page ≤ position → in_header size position ≡ false
+    → page + header_length size page ≤ position
 header_is_whole size page position is is_page began outside =
     elim (cases_lt position (page + header_length size page)) [
       | inl inside ↦
@@ -134,9 +151,15 @@ header_is_whole size page position is is_page began outside =
     ]
 
 -- behind bytes on one page the position is in a header at its page's first byte alone
-pub at_page : (size at n : ℕ) → IsSegSize size → header_length size at ≤ at % 8192 → at % 8192 + n ≤ 8192 → in_header size (at + n) ≡ true → (at + n) % 8192 ≡ 0
+pub at_page : (size at n : ℕ) → IsSegSize size → header_length size at ≤ at % 8192 → at % 8192 + n ≤ 8192 → in_header size (at + n) ≡ true
+    → (at + n) % 8192 ≡ 0
 at_page size at n is outside on_page inside =
     elim (cases_lt (at % 8192 + n) 8192) [
-      | inl within ↦ absurd (omega (arith, in_header_tells size (at + n) inside, place_on_page at n within, same_header_length size at n is within))
+      | inl within ↦ absurd (omega (
+        arith,
+        in_header_tells size (at + n) inside,
+        place_on_page at n within,
+        same_header_length size at n is within,
+      ))
       | inr end ↦ omega arith
     ]

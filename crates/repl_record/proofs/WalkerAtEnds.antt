@@ -21,9 +21,11 @@ nothing_over size from h = absurd (omega (arith, h.right, ap length_field (conte
 nothing_right : (ident : Ident) (timeline : ℕ → ℕ) (from prev : ℕ) → IsRight ident timeline from prev []
 nothing_right ident timeline from prev (why.Page fault) h = absurd (omega (arith, h.began, h.ended, header_is ident.size h.page))
 nothing_right ident timeline from prev (why.Length found) h = absurd (omega (arith, h.0.count_is, ap length (content-nil ident.size from)))
-nothing_right ident timeline from prev (why.Prev found expected) h = absurd (omega (arith, h.0.count_is, ap length (content-nil ident.size from)))
+nothing_right ident timeline from prev (why.Prev found expected) h =
+    absurd (omega (arith, h.0.count_is, ap length (content-nil ident.size from)))
 nothing_right ident timeline from prev why.Reserved h = absurd (omega (arith, h.0.count_is, ap length (content-nil ident.size from)))
-nothing_right ident timeline from prev (why.Checksum found computed) h = absurd (omega (arith, h.1, ap length_field (content-nil ident.size from)))
+nothing_right ident timeline from prev (why.Checksum found computed) h =
+    absurd (omega (arith, h.1, ap length_field (content-nil ident.size from)))
 nothing_right ident timeline from prev why.Padding h = absurd (omega (arith, h.1, ap length_field (content-nil ident.size from)))
 
 nothing_begins : (ident : Ident) (timeline : ℕ → ℕ) (from prev : ℕ) → IsBeginning ident timeline from prev []
@@ -34,7 +36,8 @@ checksum-nil : checksum [] ≡ 0
 unfolding remainder message
 checksum-nil = refl
 
-pub begun : (w : Walker) (timeline : ℕ → ℕ) (prev : ℕ) → w.refused ≡ None → w.count ≡ 0 → w.sum ≡ 0 → w.at ≡ w.from → w.from % 8 ≡ 0 → w.prev ≡ prev → prev < 2 ^ 64 → Stands w timeline w.from prev []
+pub begun : (w : Walker) (timeline : ℕ → ℕ) (prev : ℕ) → w.refused ≡ None → w.count ≡ 0 → w.sum ≡ 0 → w.at ≡ w.from → w.from % 8 ≡ 0
+    → w.prev ≡ prev → prev < 2 ^ 64 → Stands w timeline w.from prev []
 begun w timeline prev not_refused count sum at aligned follows fits =
     let none = content-nil w.ident.size w.from in
     let Front : List ℕ → Type 0 = λ bytes. take (min w.count 24) w.front ≡ take 24 bytes in
@@ -53,7 +56,11 @@ begun w timeline prev not_refused count sum at aligned follows fits =
         front_is = no_front ∙ ap (take 24) (sym none);
         few = λ less. omega (arith, ap length none);
         many = λ enough. absurd (omega (arith, ap length none));
-        sum_is = sum ∙ sym checksum-nil ∙ sym (ap checksum (drop_all 24 (take w.count (so_far w w.from [])) (omega (arith, length-take w.count (so_far w w.from []), ap length none))));
+        sum_is = sum ∙ sym checksum-nil ∙ sym (ap checksum (drop_all 24 (take w.count (so_far w w.from [])) (omega (
+          arith,
+          length-take w.count (so_far w w.from []),
+          ap length none,
+        ))));
         has_length = λ four. absurd (omega (arith, ap length none));
         in_gap = λ four all. absurd (omega (arith, ap length none));
       };
@@ -68,7 +75,8 @@ begun w timeline prev not_refused count sum at aligned follows fits =
 
 -- ---- the end
 
-pub over_from : (w : Walker) (timeline : ℕ → ℕ) (from prev : ℕ) (log : List ℕ) → Keeps w timeline from prev log → IsAtEnd w → IsOver w.ident.size from log
+pub over_from : (w : Walker) (timeline : ℕ → ℕ) (from prev : ℕ) (log : List ℕ) → Keeps w timeline from prev log → IsAtEnd w
+    → IsOver w.ident.size from log
 over_from w timeline from prev log k end =
     let bytes = so_far w from log in
     let many = many_are k end.whole in
@@ -80,7 +88,8 @@ over_from w timeline from prev log k end =
       rounded = omega (arith, k.behind, end.rounded);
     }
 
-pub over_tells : (w : Walker) (timeline : ℕ → ℕ) (from prev : ℕ) (log : List ℕ) → Keeps w timeline from prev log → IsOver w.ident.size from log → IsAtEnd w
+pub over_tells : (w : Walker) (timeline : ℕ → ℕ) (from prev : ℕ) (log : List ℕ) → Keeps w timeline from prev log
+    → IsOver w.ident.size from log → IsAtEnd w
 over_tells w timeline from prev log k over =
     let bytes = so_far w from log in
     let many : 24 ≤ length bytes = omega (arith, over.right, over.all) in

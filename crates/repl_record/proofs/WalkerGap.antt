@@ -45,7 +45,8 @@ first_is_there bytes some =
     let any = Any-from_list_any is_other bytes some in
     elim (cases_lt (position_or_len is_other bytes) (length bytes)) [
       | inl inside ↦ inside
-      | inr none ↦ absurd (both_ways (is_other any.1) (ap is_other (sym any.3) ∙ fails_before_first is_other bytes any.0 any.1 (omega (arith, any.2))) any.4)
+      | inr none ↦ absurd (both_ways (is_other any.1) (ap is_other (sym any.3)
+          ∙ fails_before_first is_other bytes any.0 any.1 (omega (arith, any.2))) any.4)
     ]
 
 pub first_other : (bytes : List ℕ) → list_any is_other bytes ≡ true → FirstOther bytes
@@ -60,10 +61,12 @@ first_other bytes some =
     }
 
 pub all_zero : (bytes : List ℕ) → list_any is_other bytes ≡ false → (i : ℕ) → i < length bytes → get_or bytes i 0 ≡ 0
-all_zero bytes none i inside = is_zero (get_or bytes i 0) (false_from_ne_true (is_other (get_or bytes i 0)) (λ some. both_ways (list_any is_other bytes) none (list_any_at is_other bytes i 0 inside some)))
+all_zero bytes none i inside = is_zero (get_or bytes i 0) (false_from_ne_true (is_other (get_or bytes i 0)) (λ some.
+    both_ways (list_any is_other bytes) none (list_any_at is_other bytes i 0 inside some)))
 
 -- the last byte of a log with a part of a piece behind it
-last_byte : (log bytes : List ℕ) (i : ℕ) → 0 < i → i ≤ length bytes → get_or (log ++ take i bytes) (length (log ++ take i bytes) - 1) 0 ≡ get_or bytes (i - 1) 0
+last_byte : (log bytes : List ℕ) (i : ℕ) → 0 < i → i ≤ length bytes
+    → get_or (log ++ take i bytes) (length (log ++ take i bytes) - 1) 0 ≡ get_or bytes (i - 1) 0
 last_byte log bytes i some enough =
     let all = length-take-le i bytes enough in
     let last : length (log ++ take i bytes) - 1 ≡ length log + (i - 1) = omega (arith, length-append log (take i bytes)) in
@@ -74,7 +77,8 @@ last_byte log bytes i some enough =
 
 -- ---- where a record's bytes are all there
 
-is_finished : {w : Walker} {timeline : ℕ → ℕ} {from prev : ℕ} {log : List ℕ} → Keeps w timeline from prev log → goal w ≤ w.count → (24 ≤ length (so_far w from log)) × (length_field (so_far w from log) ≤ length (so_far w from log))
+is_finished : {w : Walker} {timeline : ℕ → ℕ} {from prev : ℕ} {log : List ℕ} → Keeps w timeline from prev log → goal w ≤ w.count
+    → (24 ≤ length (so_far w from log)) × (length_field (so_far w from log) ≤ length (so_far w from log))
 is_finished {w = w} {from = from} {log = log} k passed =
     let done = goal_passed w.count (total w) passed in
     let many = many_are k done.0 in
@@ -95,8 +99,10 @@ pub record IsGapPart (w : Walker) (timeline : ℕ → ℕ) (from prev : ℕ) (lo
   pub are_bytes : AreBytes bytes
 
 -- as much of the bytes as there is room for
-pub gap_part : {w : Walker} {timeline : ℕ → ℕ} {from prev : ℕ} {log : List ℕ} (bytes : List ℕ) (taken : ℕ) → Stands w timeline from prev log → IsSegSize w.ident.size → header_length w.ident.size w.at ≤ w.at % 8192
-    → goal w ≤ w.count → 0 < length bytes → AreBytes bytes → taken ≡ min (8 - w.at % 8) (length bytes) → IsGapPart w timeline from prev log bytes taken
+pub gap_part : {w : Walker} {timeline : ℕ → ℕ} {from prev : ℕ} {log : List ℕ} (bytes : List ℕ) (taken : ℕ) → Stands w timeline from prev log
+    → IsSegSize w.ident.size → header_length w.ident.size w.at ≤ w.at % 8192
+    → goal w ≤ w.count → 0 < length bytes → AreBytes bytes → taken ≡ min (8 - w.at % 8) (length bytes)
+    → IsGapPart w timeline from prev log bytes taken
 gap_part {w = w} bytes taken s is outside passed some are taken_is =
     let done = is_finished s.keeps passed in
     record {
@@ -115,30 +121,52 @@ gap_part {w = w} bytes taken s is outside passed some are taken_is =
 -- ---- a part of the gap
 
 -- it follows the record's bytes
-so_far_is : {w : Walker} {timeline : ℕ → ℕ} {from prev : ℕ} {log bytes : List ℕ} {taken : ℕ} (i : ℕ) → IsGapPart w timeline from prev log bytes taken → i ≤ taken → so_far w from (log ++ take i bytes) ≡ so_far w from log ++ take i bytes
+so_far_is : {w : Walker} {timeline : ℕ → ℕ} {from prev : ℕ} {log bytes : List ℕ} {taken : ℕ} (i : ℕ)
+    → IsGapPart w timeline from prev log bytes taken → i ≤ taken → so_far w from (log ++ take i bytes) ≡ so_far w from log ++ take i bytes
 so_far_is {w = w} {from = from} {log = log} {bytes = bytes} i g within =
-    content-more w.ident.size w.at from log (take i bytes) g.size g.stands.keeps.behind g.outside (omega (arith, length-take-le i bytes (omega (arith, g.enough)), g.within))
+    content-more w.ident.size w.at from log (take i bytes) g.size g.stands.keeps.behind g.outside (omega (
+      arith,
+      length-take-le i bytes (omega (arith, g.enough)),
+      g.within,
+    ))
 
 -- of which there are more then
-length_is : {w : Walker} {timeline : ℕ → ℕ} {from prev : ℕ} {log bytes : List ℕ} {taken : ℕ} (i : ℕ) → IsGapPart w timeline from prev log bytes taken → i ≤ taken → length (so_far w from (log ++ take i bytes)) ≡ length (so_far w from log) + i
+length_is : {w : Walker} {timeline : ℕ → ℕ} {from prev : ℕ} {log bytes : List ℕ} {taken : ℕ} (i : ℕ)
+    → IsGapPart w timeline from prev log bytes taken → i ≤ taken
+    → length (so_far w from (log ++ take i bytes)) ≡ length (so_far w from log) + i
 length_is {w = w} {from = from} {log = log} {bytes = bytes} i g within =
-    ap length (so_far_is i g within) ∙ omega (arith, length-append (so_far w from log) (take i bytes), length-take-le i bytes (omega (arith, g.enough)))
+    ap length (so_far_is i g within) ∙ omega (
+      arith,
+      length-append (so_far w from log) (take i bytes),
+      length-take-le i bytes (omega (arith, g.enough)),
+    )
 
 -- and its length is as before
-field_is : {w : Walker} {timeline : ℕ → ℕ} {from prev : ℕ} {log bytes : List ℕ} {taken : ℕ} (i : ℕ) → IsGapPart w timeline from prev log bytes taken → i ≤ taken → length_field (so_far w from (log ++ take i bytes)) ≡ length_field (so_far w from log)
-field_is {w = w} {from = from} {log = log} {bytes = bytes} i g within = ap length_field (so_far_is i g within) ∙ field-append 0 4 (so_far w from log) (take i bytes) (omega (arith, g.front))
+field_is : {w : Walker} {timeline : ℕ → ℕ} {from prev : ℕ} {log bytes : List ℕ} {taken : ℕ} (i : ℕ)
+    → IsGapPart w timeline from prev log bytes taken → i ≤ taken
+    → length_field (so_far w from (log ++ take i bytes)) ≡ length_field (so_far w from log)
+field_is {w = w} {from = from} {log = log} {bytes = bytes} i g within = ap length_field (so_far_is i g within)
+    ∙ field-append 0 4 (so_far w from log) (take i bytes) (omega (arith, g.front))
 
-has_length : {w : Walker} {timeline : ℕ → ℕ} {from prev : ℕ} {log bytes : List ℕ} {taken : ℕ} (i : ℕ) → IsGapPart w timeline from prev log bytes taken → i ≤ taken → HasLength (so_far w from (log ++ take i bytes))
+has_length : {w : Walker} {timeline : ℕ → ℕ} {from prev : ℕ} {log bytes : List ℕ} {taken : ℕ} (i : ℕ)
+    → IsGapPart w timeline from prev log bytes taken → i ≤ taken → HasLength (so_far w from (log ++ take i bytes))
 has_length i g within = subst IsLength (sym (field_is i g within)) (g.stands.keeps.has_length (omega (arith, g.front)))
 
 -- it is none of a header
-last_is_content : {w : Walker} {timeline : ℕ → ℕ} {from prev : ℕ} {log bytes : List ℕ} {taken : ℕ} (i : ℕ) → IsGapPart w timeline from prev log bytes taken → 0 < i → i ≤ taken → LastIsContent w.ident.size from (log ++ take i bytes)
+last_is_content : {w : Walker} {timeline : ℕ → ℕ} {from prev : ℕ} {log bytes : List ℕ} {taken : ℕ} (i : ℕ)
+    → IsGapPart w timeline from prev log bytes taken → 0 < i → i ≤ taken → LastIsContent w.ident.size from (log ++ take i bytes)
 last_is_content {w = w} {from = from} {log = log} {bytes = bytes} i g some within =
     let counted = length-take-le i bytes (omega (arith, g.enough)) in
-    last_more w.ident.size w.at from log (take i bytes) g.size g.stands.keeps.behind g.outside (omega (arith, counted, g.within)) (omega (arith, counted))
+    last_more w.ident.size w.at from log (take i bytes) g.size g.stands.keeps.behind g.outside (omega (
+      arith,
+      counted,
+      g.within,
+    )) (omega (arith, counted))
 
 -- where its last byte is zero nothing is wrong
-right_gap : {w : Walker} {timeline : ℕ → ℕ} {from prev : ℕ} {log bytes : List ℕ} {taken : ℕ} (i : ℕ) → IsGapPart w timeline from prev log bytes taken → 0 < i → i ≤ taken → get_or bytes (i - 1) 0 ≡ 0 → IsRight w.ident timeline from prev (log ++ take i bytes)
+right_gap : {w : Walker} {timeline : ℕ → ℕ} {from prev : ℕ} {log bytes : List ℕ} {taken : ℕ} (i : ℕ)
+    → IsGapPart w timeline from prev log bytes taken → 0 < i → i ≤ taken → get_or bytes (i - 1) 0 ≡ 0
+    → IsRight w.ident timeline from prev (log ++ take i bytes)
 right_gap {w = w} {timeline = timeline} {from = from} {prev = prev} {log = log} {bytes = bytes} i g some within zero = right
   where
     longer : List ℕ
@@ -156,24 +184,41 @@ right_gap {w = w} {timeline = timeline} {from = from} {prev = prev} {log = log} 
     right why.Padding h = h.3 (last_byte log bytes i some (omega (arith, g.enough)) ∙ zero)
 
 -- and before the multiple of 8 no record ends
-calm_gap : {w : Walker} {timeline : ℕ → ℕ} {from prev : ℕ} {log bytes : List ℕ} {taken : ℕ} (i : ℕ) → IsGapPart w timeline from prev log bytes taken → 0 < i → i < taken → get_or bytes (i - 1) 0 ≡ 0 → IsCalm w.ident timeline from prev (log ++ take i bytes)
+calm_gap : {w : Walker} {timeline : ℕ → ℕ} {from prev : ℕ} {log bytes : List ℕ} {taken : ℕ} (i : ℕ)
+    → IsGapPart w timeline from prev log bytes taken → 0 < i → i < taken → get_or bytes (i - 1) 0 ≡ 0
+    → IsCalm w.ident timeline from prev (log ++ take i bytes)
 calm_gap {w = w} {from = from} {log = log} {bytes = bytes} i g some within zero = (over, right_gap i g some (omega arith) zero)
   where
     over : ¬ IsOver w.ident.size from (log ++ take i bytes)
-    over h = absurd (omega (arith, h.rounded, g.stands.keeps.behind, g.within, g.begun, length-append log (take i bytes), length-take-le i bytes (omega (arith, g.enough))))
+    over h = absurd (omega (
+      arith,
+      h.rounded,
+      g.stands.keeps.behind,
+      g.within,
+      g.begun,
+      length-append log (take i bytes),
+      length-take-le i bytes (omega (arith, g.enough)),
+    ))
 
 -- ---- where the walker gets to
 
-keeps_gap : {w : Walker} {timeline : ℕ → ℕ} {from prev : ℕ} {log bytes : List ℕ} {taken : ℕ} → IsGapPart w timeline from prev log bytes taken → Keeps (with_gap w taken) timeline from prev (log ++ take taken bytes)
+keeps_gap : {w : Walker} {timeline : ℕ → ℕ} {from prev : ℕ} {log bytes : List ℕ} {taken : ℕ}
+    → IsGapPart w timeline from prev log bytes taken → Keeps (with_gap w taken) timeline from prev (log ++ take taken bytes)
 keeps_gap {w = w} {from = from} {log = log} {bytes = bytes} {taken = taken} g =
     let k = g.stands.keeps in
     let piece = take taken bytes in
     let same : so_far w from (log ++ piece) ≡ so_far w from log ++ piece = so_far_is taken g (omega arith) in
     let count : length (so_far w from (log ++ piece)) ≡ length (so_far w from log) + taken = length_is taken g (omega arith) in
     let total : length_field (so_far w from (log ++ piece)) ≡ length_field (so_far w from log) = field_is taken g (omega arith) in
-    let behind : w.at + taken ≡ from + length (log ++ piece) = omega (arith, k.behind, length-append log piece, length-take-le taken bytes g.enough) in
+    let behind : w.at + taken ≡ from + length (log ++ piece) = omega (
+      arith,
+      k.behind,
+      length-append log piece,
+      length-take-le taken bytes g.enough,
+    ) in
     let many : w.count ≡ min (length (so_far w from log)) (length_field (so_far w from log)) = k.many g.front in
-    let first : in_header w.ident.size (w.at + taken) ≡ true → (w.at + taken) % 8192 ≡ 0 = at_page w.ident.size w.at taken g.size g.outside (omega (arith, g.within)) in
+    let first : in_header w.ident.size (w.at + taken) ≡ true → (w.at + taken) % 8192 ≡ 0 =
+    at_page w.ident.size w.at taken g.size g.outside (omega (arith, g.within)) in
     record {
       not_refused = k.not_refused;
       begins = k.begins;
@@ -187,13 +232,15 @@ keeps_gap {w = w} {from = from} {log = log} {bytes = bytes} {taken = taken} g =
       front_is = k.front_is ∙ sym (ap (take 24) same ∙ take-append-le 24 (so_far w from log) piece g.front);
       few = λ few. absurd (omega (arith, few, count, g.front));
       many = λ more. omega (arith, many, count, total, g.all);
-      sum_is = k.sum_is ∙ ap (λ (t : List ℕ). checksum (drop 24 t)) (sym (ap (take w.count) same ∙ take-append-le w.count (so_far w from log) piece (omega arith)));
+      sum_is = k.sum_is ∙ ap (λ (t : List ℕ). checksum (drop 24 t)) (sym (ap (take w.count) same
+          ∙ take-append-le w.count (so_far w from log) piece (omega arith)));
       has_length = λ four. has_length taken g (omega arith);
       in_gap = λ four all. last_is_content taken g g.some (omega arith);
     }
 
 -- up to the first byte that is not zero nothing is judged
-open_gap : {w : Walker} {timeline : ℕ → ℕ} {from prev : ℕ} {log bytes : List ℕ} {taken : ℕ} (longer : List ℕ) (n : ℕ) → IsGapPart w timeline from prev log bytes taken → n ≤ taken → take n longer ≡ take n bytes
+open_gap : {w : Walker} {timeline : ℕ → ℕ} {from prev : ℕ} {log bytes : List ℕ} {taken : ℕ} (longer : List ℕ) (n : ℕ)
+    → IsGapPart w timeline from prev log bytes taken → n ≤ taken → take n longer ≡ take n bytes
     → ((i : ℕ) → i + 1 < n → get_or bytes i 0 ≡ 0) → IsOpenBefore w.ident timeline from prev (log ++ longer) (length log + n)
 open_gap {w = w} {timeline = timeline} {from = from} {prev = prev} {log = log} {bytes = bytes} longer n g within same zeros =
     open_more w.ident timeline from prev log longer n g.stands.beginning calm
@@ -201,11 +248,13 @@ open_gap {w = w} {timeline = timeline} {from = from} {prev = prev} {log = log} {
     calm : (i : ℕ) → 0 < i → i < n → IsCalm w.ident timeline from prev (log ++ take i longer)
     calm i some below =
         let Calm : List ℕ → Type 0 = λ (t : List ℕ). IsCalm w.ident timeline from prev (log ++ t) in
-        let part : take i longer ≡ take i bytes = sym (take-take i n longer (omega arith)) ∙ ap (take i) same ∙ take-take i n bytes (omega arith) in
+        let part : take i longer ≡ take i bytes = sym (take-take i n longer (omega arith)) ∙ ap (take i) same
+        ∙ take-take i n bytes (omega arith) in
         subst Calm (sym part) (calm_gap i g some (omega arith) (zeros (i - 1) (omega arith)))
 
 -- all of the bytes are zero
-pub gap_goes_on : {w : Walker} {timeline : ℕ → ℕ} {from prev : ℕ} {log bytes : List ℕ} {taken : ℕ} → IsGapPart w timeline from prev log bytes taken → ((i : ℕ) → i < taken → get_or bytes i 0 ≡ 0)
+pub gap_goes_on : {w : Walker} {timeline : ℕ → ℕ} {from prev : ℕ} {log bytes : List ℕ} {taken : ℕ}
+    → IsGapPart w timeline from prev log bytes taken → ((i : ℕ) → i < taken → get_or bytes i 0 ≡ 0)
     → Reached (with_gap w taken) timeline from prev (log ++ take taken bytes)
 gap_goes_on {w = w} {timeline = timeline} {from = from} {prev = prev} {log = log} {bytes = bytes} {taken = taken} g zeros =
     let piece = take taken bytes in
@@ -213,12 +262,14 @@ gap_goes_on {w = w} {timeline = timeline} {from = from} {prev = prev} {log = log
     let whole : length log + taken ≡ length (log ++ piece) = omega (arith, length-append log piece, length-take-le taken bytes g.enough) in
     record {
       keeps = keeps_gap g;
-      open_before = subst Open whole (open_gap piece taken g (omega arith) (take-take taken taken bytes (omega arith)) (λ i below. zeros i (omega arith)));
+      open_before = subst Open whole (open_gap piece taken g (omega arith) (take-take taken taken bytes (omega arith)) (λ i below.
+          zeros i (omega arith)));
       right = right_gap taken g g.some (omega arith) (zeros (taken - 1) (omega (arith, g.some)));
     }
 
 -- one of them is not
-pub gap_differs : {w : Walker} {timeline : ℕ → ℕ} {from prev start : ℕ} {log bytes : List ℕ} {taken : ℕ} → IsGapPart w timeline from prev log bytes taken → FirstOther (take taken bytes) → start ≡ start_of w.ident.size from
+pub gap_differs : {w : Walker} {timeline : ℕ → ℕ} {from prev start : ℕ} {log bytes : List ℕ} {taken : ℕ}
+    → IsGapPart w timeline from prev log bytes taken → FirstOther (take taken bytes) → start ≡ start_of w.ident.size from
     → IsFirstFault w.ident timeline from prev (log ++ bytes) start why.Padding
 gap_differs {w = w} {timeline = timeline} {from = from} {prev = prev} {log = log} {bytes = bytes} {taken = taken} g first start_is =
     let n = first.place + 1 in
@@ -226,12 +277,23 @@ gap_differs {w = w} {timeline = timeline} {from = from} {prev = prev} {log = log
     let within : n ≤ taken = omega arith in
     let same : take (length log + n) (log ++ bytes) ≡ log ++ take n bytes = take-append-add log bytes n in
     let byte : get_or (log ++ take n bytes) (length (log ++ take n bytes) - 1) 0 ≡ get_or (take taken bytes) first.place 0 =
-    last_byte log bytes n (omega arith) (omega (arith, g.enough)) ∙ ap (λ (i : ℕ). get_or bytes i 0) (omega arith) ∙ sym (get_or-take taken bytes first.place 0 inside) in
+    last_byte log bytes n (omega arith) (omega (arith, g.enough)) ∙ ap (λ (i : ℕ). get_or bytes i 0) (omega arith)
+    ∙ sym (get_or-take taken bytes first.place 0 inside) in
     let Fault : List ℕ → Type 0 = λ (t : List ℕ). IsFaultAt w.ident timeline from prev t why.Padding in
     record {
       n = length log + n;
       within = omega (arith, length-append log bytes, g.enough);
       first = open_gap bytes n g within refl (λ i below. sym (get_or-take taken bytes i 0 (omega arith)) ∙ first.zeros i (omega arith));
-      fault = subst Fault (sym same) (last_is_content n g (omega arith) within, has_length n g within, omega (arith, field_is n g within, length_is n g within, g.all), λ zero. first.other (sym byte ∙ zero));
+      fault = subst Fault (sym same) (
+        last_is_content n g (omega arith) within,
+        has_length n g within,
+        omega (
+          arith,
+          field_is n g within,
+          length_is n g within,
+          g.all,
+        ),
+        λ zero. first.other (sym byte ∙ zero),
+      );
       place = start_is;
     }

@@ -16,7 +16,9 @@ abbrev pub next_goal : ℕ → ℕ → ℕ
 next_goal count whole = if nat_lt count 4 then 4 else next_goal_4 count whole
 
 -- where it is, by cases
-pub goal_is : (count whole : ℕ) → ((count < 4) × (next_goal count whole ≡ 4)) ⊎ ((4 ≤ count) × (count < 16) × (next_goal count whole ≡ 16)) ⊎ ((16 ≤ count) × (count < 20) × (next_goal count whole ≡ 20)) ⊎ ((20 ≤ count) × (count < 24) × (next_goal count whole ≡ 24)) ⊎ ((24 ≤ count) × (next_goal count whole ≡ whole))
+pub goal_is : (count whole : ℕ) → ((count < 4) × (next_goal count whole ≡ 4)) ⊎ ((4 ≤ count) × (count < 16) × (next_goal count whole ≡ 16))
+    ⊎ ((16 ≤ count) × (count < 20) × (next_goal count whole ≡ 20)) ⊎ ((20 ≤ count) × (count < 24) × (next_goal count whole ≡ 24))
+    ⊎ ((24 ≤ count) × (next_goal count whole ≡ whole))
 goal_is count whole =
     elim (cases_lt count 4) [
       | inl below ↦ inl (below, cond-true (nat_lt count 4) 4 _ (lt-ltb count 4 below))
@@ -28,8 +30,17 @@ goal_is count whole =
                   | inl below ↦ inr (inr (inl (sixteen, below, up_16 ∙ cond-true (nat_lt count 20) 20 _ (lt-ltb count 20 below))))
                   | inr twenty ↦ let up_20 = up_16 ∙ cond-false (nat_lt count 20) 20 (next_goal_20 count whole) (le-ltb count 20 twenty) in
                       elim (cases_lt count 24) [
-                        | inl below ↦ inr (inr (inr (inl (twenty, below, up_20 ∙ cond-true (nat_lt count 24) 24 _ (lt-ltb count 24 below)))))
-                        | inr behind ↦ inr (inr (inr (inr (behind, up_20 ∙ cond-false (nat_lt count 24) 24 whole (le-ltb count 24 behind)))))
+                        | inl below ↦ inr (inr (inr (inl (
+                          twenty,
+                          below,
+                          up_20
+                              ∙ cond-true (nat_lt count 24) 24 _ (lt-ltb count 24 below),
+                        ))))
+                        | inr behind ↦ inr (inr (inr (inr (
+                          behind,
+                          up_20
+                              ∙ cond-false (nat_lt count 24) 24 whole (le-ltb count 24 behind),
+                        ))))
                       ]
                 ]
           ]

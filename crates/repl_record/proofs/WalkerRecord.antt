@@ -28,8 +28,10 @@ pub record IsRecordPart (w : Walker) (timeline : ℕ → ℕ) (from prev : ℕ) 
   pub are_bytes : AreBytes piece
 
 -- as much of the bytes as is judged at once and stands on the page
-pub record_part : {w : Walker} {timeline : ℕ → ℕ} {from prev : ℕ} {log : List ℕ} (bytes : List ℕ) (taken : ℕ) → Stands w timeline from prev log → IsSegSize w.ident.size → header_length w.ident.size w.at ≤ w.at % 8192
-    → w.count < goal w → 0 < length bytes → AreBytes bytes → taken ≡ min (min (goal w - w.count) (8192 - w.at % 8192)) (length bytes) → IsRecordPart w timeline from prev log (take taken bytes)
+pub record_part : {w : Walker} {timeline : ℕ → ℕ} {from prev : ℕ} {log : List ℕ} (bytes : List ℕ) (taken : ℕ)
+    → Stands w timeline from prev log → IsSegSize w.ident.size → header_length w.ident.size w.at ≤ w.at % 8192
+    → w.count < goal w → 0 < length bytes → AreBytes bytes → taken ≡ min (min (goal w - w.count) (8192 - w.at % 8192)) (length bytes)
+    → IsRecordPart w timeline from prev log (take taken bytes)
 record_part bytes taken s is outside unfinished some are taken_is =
     let all : length (take taken bytes) ≡ taken = length-take-le taken bytes (omega arith) in
     record {
@@ -45,24 +47,32 @@ record_part bytes taken s is outside unfinished some are taken_is =
 
 -- ---- a part of a record
 
-counted : (w : Walker) (timeline : ℕ → ℕ) (from prev : ℕ) (log piece : List ℕ) → IsRecordPart w timeline from prev log piece → IsCounted w (so_far w from log)
+counted : (w : Walker) (timeline : ℕ → ℕ) (from prev : ℕ) (log piece : List ℕ) → IsRecordPart w timeline from prev log piece
+    → IsCounted w (so_far w from log)
 counted w timeline from prev log piece t =
     counted_from w (so_far w from log) (holds_from w timeline from prev log t.stands.keeps) t.stands.keeps.has_length t.unfinished
 
-content_taken : (w : Walker) (timeline : ℕ → ℕ) (from prev : ℕ) (log piece : List ℕ) → IsRecordPart w timeline from prev log piece → so_far w from (log ++ piece) ≡ so_far w from log ++ piece
-content_taken w timeline from prev log piece t = content-more w.ident.size w.at from log piece t.size t.stands.keeps.behind t.outside t.on_page
+content_taken : (w : Walker) (timeline : ℕ → ℕ) (from prev : ℕ) (log piece : List ℕ) → IsRecordPart w timeline from prev log piece
+    → so_far w from (log ++ piece) ≡ so_far w from log ++ piece
+content_taken w timeline from prev log piece t = content-more w.ident.size w.at from log piece t.size t.stands.keeps.behind t.outside
+    t.on_page
 
-pub last_taken : (w : Walker) (timeline : ℕ → ℕ) (from prev : ℕ) (log piece : List ℕ) → IsRecordPart w timeline from prev log piece → LastIsContent w.ident.size from (log ++ piece)
-last_taken w timeline from prev log piece t = last_more w.ident.size w.at from log piece t.size t.stands.keeps.behind t.outside t.on_page t.some
+pub last_taken : (w : Walker) (timeline : ℕ → ℕ) (from prev : ℕ) (log piece : List ℕ) → IsRecordPart w timeline from prev log piece
+    → LastIsContent w.ident.size from (log ++ piece)
+last_taken w timeline from prev log piece t = last_more w.ident.size w.at from log piece t.size t.stands.keeps.behind t.outside t.on_page
+    t.some
 
-pub counted_taken : (w : Walker) (timeline : ℕ → ℕ) (from prev : ℕ) (log piece : List ℕ) → IsRecordPart w timeline from prev log piece → IsCounted (with_record w piece) (so_far w from (log ++ piece))
+pub counted_taken : (w : Walker) (timeline : ℕ → ℕ) (from prev : ℕ) (log piece : List ℕ) → IsRecordPart w timeline from prev log piece
+    → IsCounted (with_record w piece) (so_far w from (log ++ piece))
 counted_taken w timeline from prev log piece t =
     let Counts : List ℕ → Type 0 = λ bytes. IsCounted (with_record w piece) bytes in
-    subst Counts (sym (content_taken w timeline from prev log piece t)) (grown w (so_far w from log) piece (counted w timeline from prev log piece t) t.stands.keeps.has_length t.some t.unfinished t.fits)
+    subst Counts (sym (content_taken w timeline from prev log piece t)) (grown w (so_far w from log) piece
+    (counted w timeline from prev log piece t) t.stands.keeps.has_length t.some t.unfinished t.fits)
 
 -- what it keeps, where the length is right
 pub keeps_taken : (w : Walker) (timeline : ℕ → ℕ) (from prev : ℕ) (log piece : List ℕ) → IsRecordPart w timeline from prev log piece
-    → (4 ≤ length (so_far w from (log ++ piece)) → HasLength (so_far w from (log ++ piece))) → Keeps (with_record w piece) timeline from prev (log ++ piece)
+    → (4 ≤ length (so_far w from (log ++ piece)) → HasLength (so_far w from (log ++ piece)))
+    → Keeps (with_record w piece) timeline from prev (log ++ piece)
 keeps_taken w timeline from prev log piece t right =
     let k = t.stands.keeps in
     let holds = (counted_taken w timeline from prev log piece t).holds in
@@ -88,15 +98,22 @@ keeps_taken w timeline from prev log piece t right =
     }
 
 -- a shorter part, with which nothing is judged
-pub calm_inside : (w : Walker) (timeline : ℕ → ℕ) (from prev : ℕ) (log piece : List ℕ) → IsRecordPart w timeline from prev log piece → w.count + length piece < goal w → IsCalm w.ident timeline from prev (log ++ piece)
+pub calm_inside : (w : Walker) (timeline : ℕ → ℕ) (from prev : ℕ) (log piece : List ℕ) → IsRecordPart w timeline from prev log piece
+    → w.count + length piece < goal w → IsCalm w.ident timeline from prev (log ++ piece)
 calm_inside w timeline from prev log piece t less =
     let bytes = so_far w from log in
     let c = counted w timeline from prev log piece t in
     let same = content_taken w timeline from prev log piece t in
-    let count : length (so_far w from (log ++ piece)) ≡ w.count + length piece = omega (arith, ap length same, length-append bytes piece, c.count_is) in
+    let count : length (so_far w from (log ++ piece)) ≡ w.count + length piece = omega (
+      arith,
+      ap length same,
+      length-append bytes piece,
+      c.count_is,
+    ) in
     let cases = goal_is w.count (total w) in
     let whole : 24 ≤ w.count → total w ≡ length_field (so_far w from (log ++ piece)) =
-    λ many. total_is w bytes c (omega (arith, c.count_is)) ∙ sym (ap length_field same ∙ field-append 0 4 bytes piece (omega (arith, c.count_is))) in
+    λ many. total_is w bytes c (omega (arith, c.count_is)) ∙ sym (ap length_field same
+    ∙ field-append 0 4 bytes piece (omega (arith, c.count_is))) in
     calm_record w.ident timeline from prev (log ++ piece) t.size (last_taken w timeline from prev log piece t)
     (λ four. omega (arith, count, cases, t.some, less))
     (λ sixteen. omega (arith, count, cases, t.some, less))

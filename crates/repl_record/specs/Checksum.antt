@@ -13,7 +13,8 @@ divided register bit = let sum = bit_xor register bit in if sum % 2 == 1 then bi
 
 -- the bits of a byte, the lowest first
 abbrev pub bits_of : ℕ → List ℕ
-bits_of byte = bit_at byte 0 ∷ bit_at byte 1 ∷ bit_at byte 2 ∷ bit_at byte 3 ∷ bit_at byte 4 ∷ bit_at byte 5 ∷ bit_at byte 6 ∷ bit_at byte 7 ∷ []
+bits_of byte = bit_at byte 0 ∷ bit_at byte 1 ∷ bit_at byte 2 ∷ bit_at byte 3 ∷ bit_at byte 4 ∷ bit_at byte 5 ∷ bit_at byte 6 ∷ bit_at byte 7
+    ∷ []
 
 -- the register behind these bits
 unfoldable pub remainder : ℕ → List ℕ → ℕ

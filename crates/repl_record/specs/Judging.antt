@@ -44,8 +44,10 @@ pub record IsHeaderFault (ident : Ident) (timeline : ℕ → ℕ) (from : ℕ) (
   pub is_page : IsPage page
   pub began : from ≤ page
   pub ended : from + length log ≡ page + header_length ident.size page
-  pub within : (page ≡ from) ⊎ (HasLength (content ident.size from log) × (length (content ident.size from log) < length_field (content ident.size from log)))
-  pub fault : IsPageFault (header_of ident (timeline page) page (remaining ident.size (length_field (content ident.size from log)) from log page)) (from_page from log page) why
+  pub within : (page ≡ from) ⊎ (HasLength (content ident.size from log)
+      × (length (content ident.size from log) < length_field (content ident.size from log)))
+  pub fault : IsPageFault (header_of ident (timeline page) page (remaining ident.size (length_field (content ident.size from log)) from log
+      page)) (from_page from log page) why
 
 -- the last byte of the log, which begins with the image of a record behind one that starts at prev, makes this wrong
 abbrev pub IsFaultAt : Ident → (ℕ → ℕ) → ℕ → ℕ → List ℕ → WalkReason → Type 0
@@ -61,7 +63,8 @@ IsFaultAt ident timeline from prev log why.Reserved =
     Ends ident.size from 20 log × HasLength bytes × (field 18 2 bytes ≢ 0)
 IsFaultAt ident timeline from prev log (why.Checksum found computed) =
     let bytes = content ident.size from log in
-    Ends ident.size from (length_field bytes) log × HasLength bytes × (found ≡ field 20 4 bytes) × (computed ≡ computed_sum bytes) × (found ≢ computed)
+    Ends ident.size from (length_field bytes) log × HasLength bytes × (found ≡ field 20 4 bytes) × (computed ≡ computed_sum bytes)
+    × (found ≢ computed)
 IsFaultAt ident timeline from prev log why.Padding =
     let bytes = content ident.size from log in
     LastIsContent ident.size from log × HasLength bytes × (length_field bytes < length bytes) × (get_or log (length log - 1) 0 ≢ 0)

@@ -69,7 +69,8 @@ total w = field 0 4 w.front
 
 -- up to how many of the record's bytes nothing more is judged
 abbrev pub goal : Walker → ℕ
-goal w = if nat_lt w.count 4 then 4 else (if nat_lt w.count 16 then 16 else (if nat_lt w.count 20 then 20 else (if nat_lt w.count 24 then 24 else total w)))
+goal w = if nat_lt w.count 4 then 4 else (if nat_lt w.count 16 then 16 else (if nat_lt w.count 20 then 20 else
+    (if nat_lt w.count 24 then 24 else total w)))
 
 -- the header that is due on the page
 abbrev pub due_header : Walker → ℕ → PageHeader
@@ -85,7 +86,8 @@ IsWrong w (why.Page fault) = ⊥
 IsWrong w (why.Length found) = (w.count ≡ 4) × (found ≡ total w) × ¬ IsLength found
 IsWrong w (why.Prev found expected) = (w.count ≡ 16) × (found ≡ field 8 8 w.front) × (expected ≡ w.prev) × (found ≢ expected)
 IsWrong w why.Reserved = (w.count ≡ 20) × (field 18 2 w.front ≢ 0)
-IsWrong w (why.Checksum found computed) = (24 ≤ w.count) × (w.count ≡ total w) × (found ≡ field 20 4 w.front) × (computed ≡ full_sum w) × (found ≢ computed)
+IsWrong w (why.Checksum found computed) = (24 ≤ w.count) × (w.count ≡ total w) × (found ≡ field 20 4 w.front) × (computed ≡ full_sum w)
+    × (found ≢ computed)
 IsWrong w why.Padding = ⊥
 
 -- nothing is

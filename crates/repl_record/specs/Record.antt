@@ -21,7 +21,8 @@ total_length item = 24 + length item.body
 
 -- its length, transaction, the start of the record before it, flags and resource manager, and two zero bytes
 abbrev pub front_bytes : ℕ → RecordIn → List ℕ
-front_bytes prev item = little_bytes 4 (total_length item) ++ little_bytes 4 item.xid ++ little_bytes 8 prev ++ item.info ∷ item.rmid ∷ 0 ∷ 0 ∷ []
+front_bytes prev item = little_bytes 4 (total_length item) ++ little_bytes 4 item.xid ++ little_bytes 8 prev
+    ++ item.info ∷ item.rmid ∷ 0 ∷ 0 ∷ []
 
 -- behind these, the checksum of the body and then of these, and the body
 abbrev pub record_bytes : ℕ → RecordIn → List ℕ
@@ -40,7 +41,8 @@ pub record IsRecord (item : RecordIn) : Type 0 where
 -- bytes of the log from a position on, without those of pages' headers
 unfoldable pub content : ℕ → ℕ → List ℕ → List ℕ
 content size position [] = []
-content size position (byte ∷ bytes) = if in_header size position then content size (position + 1) bytes else byte ∷ content size (position + 1) bytes
+content size position (byte ∷ bytes) = if in_header size position then content size (position + 1) bytes else byte ∷ content size
+    (position + 1) bytes
 
 -- the last byte of the log from a position on is none of a header
 abbrev pub LastIsContent : ℕ → ℕ → List ℕ → Type 0
@@ -69,7 +71,8 @@ HeadersAgree ident timeline total from log =
 abbrev pub HeadersAreSpelled : Ident → (ℕ → ℕ) → ℕ → ℕ → List ℕ → Type 0
 HeadersAreSpelled ident timeline total from log =
     (page : ℕ) → IsPage page → from ≤ page → page < from + length log
-    → take (header_length ident.size page) (from_page from log page) ≡ header_bytes (header_of ident (timeline page) page (remaining ident.size total from log page))
+    → take (header_length ident.size page) (from_page from log page) ≡ header_bytes (header_of ident (timeline page) page
+    (remaining ident.size total from log page))
 
 -- The bytes, which are those of the log from a position up to another, are the image of this record behind one that
 -- starts at prev: with the headers taken out, the record's bytes, and behind the last of them fewer than eight zeros up

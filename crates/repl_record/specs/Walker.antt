@@ -33,8 +33,10 @@ pub record Keeps (w : Walker) (timeline : ℕ → ℕ) (from prev : ℕ) (log : 
   pub aligned : from % 8 ≡ 0
   pub are_bytes : AreBytes log
   -- the header of the page in which the position is, if that page began behind `from`
-  pub header_is : in_header w.ident.size w.at ≡ true → from ≤ page_start w.at → take (w.at % PAGE_SIZE) w.header ≡ from_page from log (page_start w.at)
-  pub timeline_is : in_header w.ident.size w.at ≡ true → from ≤ page_start w.at → page_start w.at < w.at → w.page_timeline ≡ timeline (page_start w.at)
+  pub header_is : in_header w.ident.size w.at ≡ true → from ≤ page_start w.at
+      → take (w.at % PAGE_SIZE) w.header ≡ from_page from log (page_start w.at)
+  pub timeline_is : in_header w.ident.size w.at ≡ true → from ≤ page_start w.at → page_start w.at < w.at
+      → w.page_timeline ≡ timeline (page_start w.at)
   -- the record's first 24 bytes, how many it has so far, and the checksum of its body
   pub front_is : take (min w.count 24) w.front ≡ take 24 (so_far w from log)
   pub few : length (so_far w from log) < 24 → w.count ≡ length (so_far w from log)
@@ -42,7 +44,8 @@ pub record Keeps (w : Walker) (timeline : ℕ → ℕ) (from prev : ℕ) (log : 
   pub sum_is : w.sum ≡ checksum (drop 24 (take w.count (so_far w from log)))
   -- its length is right, once it is there, and no header of a page stands behind its last byte
   pub has_length : 4 ≤ length (so_far w from log) → HasLength (so_far w from log)
-  pub in_gap : 4 ≤ length (so_far w from log) → length_field (so_far w from log) ≤ length (so_far w from log) → LastIsContent w.ident.size from log
+  pub in_gap : 4 ≤ length (so_far w from log) → length_field (so_far w from log) ≤ length (so_far w from log)
+      → LastIsContent w.ident.size from log
 
 -- The walker stands behind these bytes, in which no record ends and nothing is wrong.
 pub record Stands (w : Walker) (timeline : ℕ → ℕ) (from prev : ℕ) (log : List ℕ) : Type 0 where

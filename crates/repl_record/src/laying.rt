@@ -20,7 +20,7 @@ const FRONT_LENGTH: usize = 20;
 const ROUNDING: usize = 8;
 
 /// The log from where a record is laid on.
-#[derive(Clone, Copy)]
+#[derive(Drop)]
 struct Place {
     ident: Ident,
     tli: Tli,

@@ -6,6 +6,12 @@
 //! in `specs/Judging.antt`, where records end in `specs/Log.antt`, and the checksum's polynomial in
 //! `specs/Checksum.antt`. The layout is this project's own, after PostgreSQL's. Stands on `repl_page`, whose `Ident` it
 //! passes on, and on the kit's `bytes`, `byteorder` and `thiserror`.
+//!
+//! ```text
+//! let laid = lay_out(alloc, at, prev, tli, &ident, &item)?; // the log goes on with laid.bytes, up to laid.end
+//! let mut walker = Walker::new(at, prev, ident);
+//! walker.step(tli, &laid.bytes) // WalkStep::Whole { start: laid.start, end: laid.end, used: laid.bytes.len() }
+//! ```
 #![tactic(auto)]
 
 mod answer;
@@ -26,10 +32,3 @@ pub use log_laws::{ends_in_line, one_last, prefix_has_the_greatest_end};
 pub use record::{BODY_LIMIT, Laid, RecordIn, RecordRefusal};
 pub use repl_page::{Ident, PageFault};
 pub use walker::Walker;
-
-#[cfg(test)]
-mod checksum_tests;
-#[cfg(test)]
-mod laying_tests;
-#[cfg(test)]
-mod walker_tests;

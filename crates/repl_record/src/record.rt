@@ -6,6 +6,8 @@ use thiserror::Error;
 /// The most bytes that a record's body has.
 pub const BODY_LIMIT: usize = 1_048_576;
 
+const _: () = prove!(BODY_LIMIT == 1_048_576);
+
 /// How many bytes a record has before its body.
 pub(crate) const HEAD_LENGTH: usize = 24;
 

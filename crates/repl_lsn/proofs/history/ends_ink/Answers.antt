@@ -1,3 +1,4 @@
+-- The last byte decides.
 use Rattle.std.proofs.Common.{◌≡◌, ◌<◌, ◌-◌, not, length, get_or, ap, sym, ◌∙◌}
 use Rattle.std.proofs.lemmas.Bool.{not-true}
 use Rattle.repl_lsn.specs.Line.{is_blank}

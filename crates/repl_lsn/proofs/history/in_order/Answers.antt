@@ -1,3 +1,4 @@
+-- One more part in order, and the first that is not.
 use Rattle.std.proofs.Common.{◌<◌, ◌≤◌, take, sym, rules, arith}
 use Rattle.std.proofs.lemmas.Grind.{common_steps}
 use Rattle.repl_lsn.specs.History.{InOrder, last_number, last_switch}
@@ -14,7 +15,11 @@ loop-part-preserved c =
     let below : p.tli < c.args.own = search rules in
     let falls : c.loop-part.switch ≤ p.switch = search rules in
     record {
-      in_order = in_order_more c.args.own parts i p l c.part-item.is c.loop-part.invariant.in_order (omega arith) below (omega (arith, falls, c.loop-part.invariant.switch));
+      in_order = in_order_more c.args.own parts i p l c.part-item.is c.loop-part.invariant.in_order (omega arith) below (omega (
+        arith,
+        falls,
+        c.loop-part.invariant.switch,
+      ));
       number = omega (arith, last_number_more parts i p l c.part-item.is);
       switch = sym (last_switch_more parts i p l c.part-item.is);
     }

@@ -1,3 +1,4 @@
+-- The parts so far are in order, and the last of them.
 use Rattle.std.proofs.Common.{◌≡◌, take}
 use Rattle.repl_lsn.specs.History.{InOrder, last_number, last_switch}
 use Rattle.repl_lsn.proofs.history.in_order.Given as goal

@@ -1,52 +1,64 @@
-use Rattle.std.proofs.Common.{◌≡◌, ◌<◌, sym, ap, subst, ◌∙◌, true, arith}
+-- The word behind blanks is the number, or none stands there.
+use Rattle.std.proofs.Common.{◌≡◌, ◌<◌, sym, ap, subst, ◌∙◌, arith}
 use Rattle.std.proofs.lemmas.Grind.{common_steps}
 use Rattle.repl_lsn.specs.History.{HasNumber}
 use Rattle.repl_lsn.proofs.Blanks.{inked, word_of, behind_word}
 use Rattle.repl_lsn.proofs.LineWords.{IsNumber, has_number, number_is}
 use Rattle.repl_lsn.proofs.history_line.number_of.Goals as goal
-use Rattle.repl_lsn.proofs.history_line.number_of.Goals.{then-is_empty-via-then-is_empty, then-is_empty-via-else-is_empty+then-not-all_digits}
 
 pub returns-then-is_empty : goal.returns-then-is_empty
 returns-then-is_empty c =
-    let word : c.split_word.result.0.now ≡ word_of (inked c.args.line.now) = c.split_word.ensures.word ∙ ap word_of c.after_blanks.ensures in
+    let word : c.split_word.result.0.now ≡ word_of (inked c.args.line.now) = c.split_word.ensures.word
+    ∙ ap word_of c.after_blanks.ensures in
     λ n behind h.
     let is : IsNumber c.split_word.result.0.now n = subst (λ w. IsNumber w n) (sym word) (number_is c.args.line.now n behind h).0 in
     let some = is.some in
-    let digits = is.digits in
-    elim c.then-is_empty.branch [
-      | then-is_empty-via-then-is_empty w ↦ grind (arith, common_steps)
-      | then-is_empty-via-else-is_empty+then-not-all_digits w ↦ let all : w.all_digits.result ≡ true = w.all_digits.ensures.1 digits in cc
-    ]
+    grind (arith, common_steps)
+
+pub returns-in_err-decimal_value : goal.returns-in_err-decimal_value
+returns-in_err-decimal_value c =
+    let word : c.split_word.result.0.now ≡ word_of (inked c.args.line.now) = c.split_word.ensures.word
+    ∙ ap word_of c.after_blanks.ensures in
+    rw c.from_residual.ensures (λ n behind h.
+    let is : IsNumber c.split_word.result.0.now n = subst (λ w. IsNumber w n) (sym word) (number_is c.args.line.now n behind h).0 in
+    c.in_err-decimal_value.ensures is.digits)
 
 pub returns-in_default : goal.returns-in_default
 returns-in_default c =
-    let word : c.split_word.result.0.now ≡ word_of (inked c.args.line.now) = c.split_word.ensures.word ∙ ap word_of c.after_blanks.ensures in
+    let word : c.split_word.result.0.now ≡ word_of (inked c.args.line.now) = c.split_word.ensures.word
+    ∙ ap word_of c.after_blanks.ensures in
     λ n behind h.
     let is : IsNumber c.split_word.result.0.now n = subst (λ w. IsNumber w n) (sym word) (number_is c.args.line.now n behind h).0 in
     let value = is.value in
-    let low : c.saturating_value.result < 4294967296 = omega (arith, c.saturating_value.ensures) in
+    let read = c.in_ok-decimal_value.ensures in
+    let low : c.in_ok-decimal_value.field-0 < 4294967296 = omega (arith, read.1) in
     grind (arith, common_steps)
 
-pub returns-in_default-new : goal.returns-in_default-new
-returns-in_default-new c =
-    let word : c.split_word.result.0.now ≡ word_of (inked c.args.line.now) = c.split_word.ensures.word ∙ ap word_of c.after_blanks.ensures in
-    λ n behind h.
+pub returns-in_err-new : goal.returns-in_err-new
+returns-in_err-new c =
+    let word : c.split_word.result.0.now ≡ word_of (inked c.args.line.now) = c.split_word.ensures.word
+    ∙ ap word_of c.after_blanks.ensures in
+    rw c.from_residual-in_err-new.ensures (λ n behind h.
     let is : IsNumber c.split_word.result.0.now n = subst (λ w. IsNumber w n) (sym word) (number_is c.args.line.now n behind h).0 in
     let number = c.in-Ok.ensures in
-    c.in_default-new.ensures (omega (arith, c.saturating_value.ensures, number.1))
+    let read = c.in_ok-decimal_value.ensures in
+    c.in_err-new.ensures (omega (arith, is.value, is.in_range.0, read.1, number.1)))
 
 pub returns : goal.returns
 returns c =
-    let word : c.split_word.result.0.now ≡ word_of (inked c.args.line.now) = c.split_word.ensures.word ∙ ap word_of c.after_blanks.ensures in
-    let rest : c.split_word.result.1.now ≡ behind_word (inked c.args.line.now) = c.split_word.ensures.rest ∙ ap behind_word c.after_blanks.ensures in
+    let word : c.split_word.result.0.now ≡ word_of (inked c.args.line.now) = c.split_word.ensures.word
+    ∙ ap word_of c.after_blanks.ensures in
+    let rest : c.split_word.result.1.now ≡ behind_word (inked c.args.line.now) = c.split_word.ensures.rest
+    ∙ ap behind_word c.after_blanks.ensures in
     let number = c.in-Ok.ensures in
-    let tli = c.in-Some.ensures in
-    let all : c.all_digits.result ≡ true = cc in
-    let is : IsNumber c.split_word.result.0.now c.in-Some.tli =
+    let tli = c.in_ok-new.ensures in
+    let read = c.in_ok-decimal_value.ensures in
+    let is : IsNumber c.split_word.result.0.now c.in_ok-new.field-0 =
     record {
-      digits = c.all_digits.ensures.0 all;
+      digits = read.0;
       some = grind (arith, common_steps);
-      value = omega (arith, c.saturating_value.ensures, number.0, number.1, tli.1);
+      value = omega (arith, read.1, number.0, number.1, tli.1);
       in_range = (omega arith, omega arith);
     } in
-    subst (HasNumber c.args.line.now c.in-Some.tli) (sym rest) (has_number c.args.line.now c.in-Some.tli (subst (λ w. IsNumber w c.in-Some.tli) word is))
+    subst (HasNumber c.args.line.now c.in_ok-new.field-0) (sym rest) (has_number c.args.line.now c.in_ok-new.field-0
+    (subst (λ w. IsNumber w c.in_ok-new.field-0) word is))

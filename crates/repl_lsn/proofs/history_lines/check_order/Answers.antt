@@ -1,3 +1,4 @@
+-- What is wrong with a line beside the one before.
 use Rattle.std.proofs.Common.{◌<◌, ◌≤◌, arith, rules}
 use Rattle.repl_lsn.specs.History.{last_switch}
 use Rattle.repl_lsn.proofs.Order.{in_order_push}

@@ -1,3 +1,4 @@
+-- The canonical text as far as it is printed, and its length.
 use Rattle.std.proofs.Common.{◌≡◌, ◌-◌, ◌^◌, ◌≤◌, length, min, take, flat_map, All}
 use Rattle.repl_lsn.specs.declared.history.TheConstants.{HISTORY_LIMIT}
 use Rattle.repl_lsn.specs.History.{line_text}

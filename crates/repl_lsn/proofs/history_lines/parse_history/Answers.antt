@@ -1,6 +1,7 @@
+-- What is read, refused and read again, over all lines of a text.
 use Rattle.std.proofs.Common.{◌≡◌, Ok, Err, ap, inl, inr, ⊎_elim, rules}
 use Rattle.repl_lsn.specs.declared.fault.HistoryFault.TheVariants as HistoryFault
-use Rattle.repl_lsn.specs.History.{IsRead}
+use Rattle.repl_lsn.specs.History.{SaysHistory}
 use Rattle.repl_lsn.proofs.Reading.{read_only, refused_broken, one_reading}
 use Rattle.repl_lsn.proofs.history_lines.parse_history.Goals as goal
 
@@ -18,6 +19,6 @@ returns-in_err-parents-clause-only c =
 pub returns-clause-only : goal.returns-clause-only
 returns-clause-only c =
     λ path same read.
-    let is_read : IsRead c.args.text.now c.of.result = search rules in
+    let is_read : SaysHistory c.args.text.now c.of.result = search rules in
     let own : c.of.result.own ≡ path.own = cc in
     inl (ap Ok (one_reading c.args.text.now c.of.result path is_read read own))

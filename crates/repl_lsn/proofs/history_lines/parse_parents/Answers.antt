@@ -1,3 +1,4 @@
+-- One more line, and the first that is wrong.
 use Rattle.std.proofs.Common.{◌≡◌, ◌⊎◌, ◌+◌, ◌<◌, List, [], ◌∷◌, ◌++◌, length, sym, subst, inl, inr, ⊎_elim, arith, rules}
 use Rattle.std.proofs.lemmas.Grind.{common_steps}
 use Rattle.repl_lsn.specs.declared.history.Part.{Part}
@@ -18,7 +19,8 @@ returns-in_err-part-clause-refused c =
     let cut = split_first rest line behind some c.split_line.ensures.single c.split_line.ensures.parts in
     let wrong : (f ≡ HistoryFault.Memory) ⊎ BreaksAt c.args.own c.args.text.now f =
     ⊎_elim (λ memory. inl memory)
-    (λ h. inr (reads_wrong c.args.own c.args.text.now rest c.loop-rest.place parts line behind f c.requires c.loop-rest.invariant cut (h c.args.own parts)))
+    (λ h. inr (reads_wrong c.args.own c.args.text.now rest c.loop-rest.place parts line behind f c.requires c.loop-rest.invariant cut
+    (h c.args.own parts)))
     c.in_err-part.ensures.refused in
     search rules
 
@@ -33,8 +35,10 @@ returns-in_err-check_order-clause-refused c =
     let cut = split_first rest line behind some c.split_line.ensures.single c.split_line.ensures.parts in
     let says : SaysPart line c.in-Some.part = search rules in
     let fault = c.in_err-check_order.ensures.refused line says in
-    let faults : IsLineFault c.args.own parts line (c.loop-rest.place + 1) f = subst (λ (before : List Part). IsLineFault c.args.own before line (c.loop-rest.place + 1) f) c.deref.ensures.value fault in
-    let wrong = reads_wrong c.args.own c.args.text.now rest c.loop-rest.place parts line behind f c.requires c.loop-rest.invariant cut faults in
+    let faults : IsLineFault c.args.own parts line (c.loop-rest.place + 1) f =
+    subst (λ (before : List Part). IsLineFault c.args.own before line (c.loop-rest.place + 1) f) c.deref.ensures.value fault in
+    let wrong = reads_wrong c.args.own c.args.text.now rest c.loop-rest.place parts line behind f c.requires c.loop-rest.invariant cut
+    faults in
     search rules
 
 pub loop-rest-preserved-in_ok-push : goal.loop-rest-preserved-in_ok-push
@@ -47,7 +51,8 @@ loop-rest-preserved-in_ok-push c =
     let some : 0 < length rest = grind (arith, common_steps) in
     let cut = split_first rest line behind some c.split_line.ensures.single c.split_line.ensures.parts in
     let says : SaysPart line part = search rules in
-    let in_order = subst (λ (before : List Part). InOrder c.args.own (before ++ part ∷ [])) c.deref.ensures.value c.in_ok-check_order.ensures.in_order in
+    let in_order = subst (λ (before : List Part). InOrder c.args.own (before ++ part ∷ [])) c.deref.ensures.value
+    c.in_ok-check_order.ensures.in_order in
     subst (Reads c.args.own c.args.text.now behind (c.loop-rest.place + 1)) (sym c.in_ok-push.ensures.items)
     (reads_part c.args.own c.args.text.now rest c.loop-rest.place parts line behind part c.loop-rest.invariant cut says in_order)
 

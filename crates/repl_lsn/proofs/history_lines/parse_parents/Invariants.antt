@@ -1,3 +1,4 @@
+-- The lines so far say the parts so far.
 use Rattle.std.proofs.Common.{length}
 use Rattle.repl_lsn.proofs.Reading.{Reads}
 use Rattle.repl_lsn.proofs.history_lines.parse_parents.Given as goal

@@ -1,3 +1,4 @@
+-- A promotion makes a child.
 use Rattle.std.proofs.Common.{refl, codes}
 use Rattle.repl_lsn.proofs.Relations.{promotion_is_child}
 use Rattle.repl_lsn.proofs.path_laws.child_is_child.Goals as goal

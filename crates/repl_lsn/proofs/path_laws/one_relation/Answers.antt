@@ -1,3 +1,4 @@
+-- Two paths have one relation.
 use Rattle.repl_lsn.proofs.Relations.{one_relation}
 use Rattle.repl_lsn.proofs.path_laws.one_relation.Goals as goal
 

@@ -1,3 +1,4 @@
+-- A position is on one timeline.
 use Rattle.repl_lsn.proofs.Timelines.{one_on, before_end}
 use Rattle.repl_lsn.proofs.path_laws.one_timeline.Goals as goal
 

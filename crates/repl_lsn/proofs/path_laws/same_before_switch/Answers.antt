@@ -1,3 +1,4 @@
+-- A child agrees with its parent below the switch point.
 use Rattle.repl_lsn.proofs.Relations.{on_child}
 use Rattle.repl_lsn.proofs.path_laws.same_before_switch.Goals as goal
 

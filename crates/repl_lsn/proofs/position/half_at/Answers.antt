@@ -1,3 +1,4 @@
+-- One more digit, and where there is none.
 use Rattle.std.proofs.Common.{◌+◌, ◌*◌, subst, sym, rules}
 use Rattle.repl_lsn.proofs.Halves.{DigitsAt, digits_room, digits_one_more}
 use Rattle.repl_lsn.proofs.position.half_at.Goals as goal
@@ -17,4 +18,5 @@ pub loop-end-preserved : goal.loop-end-preserved
 loop-end-preserved c =
     let digit = c.in-Some.ensures.value in
     subst (λ d. DigitsAt c.args.text.now c.args.start (c.loop-end.value * 16 + d) (c.loop-end.end + 1)) (sym digit.1)
-    (digits_one_more c.args.text.now c.args.start c.loop-end.value c.loop-end.end c.loop-end.invariant c.loop-end-test.true c.if-end-start.true digit.0)
+    (digits_one_more c.args.text.now c.args.start c.loop-end.value c.loop-end.end c.loop-end.invariant c.loop-end-test.true
+    c.if-end-start.true digit.0)

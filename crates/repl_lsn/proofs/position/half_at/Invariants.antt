@@ -1,3 +1,4 @@
+-- The digits so far and what they write.
 use Rattle.std.proofs.Common.{length, ◌-◌}
 use Rattle.repl_lsn.proofs.Halves.{DigitsAt}
 use Rattle.repl_lsn.proofs.position.half_at.Given as goal

@@ -1,3 +1,4 @@
+-- The digits so far and what they write.
 use Rattle.repl_lsn.proofs.NameReading.{UpperAt}
 use Rattle.repl_lsn.proofs.segment.number_at.Given as goal
 

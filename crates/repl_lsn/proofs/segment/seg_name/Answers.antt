@@ -1,3 +1,4 @@
+-- What is printed is the name.
 use Rattle.std.proofs.Common.{arith}
 use Rattle.std.proofs.lemmas.Grind.{common_steps}
 use Rattle.repl_lsn.proofs.Numbers.{padded_is_eight}

@@ -1,3 +1,4 @@
+-- The fields of every header first, and then those of a long one.
 use Rattle.std.proofs.Common.{List, ℕ, drop, Option, refl, sym, subst}
 use Rattle.std.proofs.lemmas.List.{take_rest}
 use Rattle.repl_page.specs.declared.header.LongPart.{LongPart}

@@ -13,16 +13,25 @@ none_laid size from log none = ap (λ (t : List ℕ). length (content size from 
 place_of : goal.After-start_behind → Place
 place_of c = record { ident = c.args.ident.now; tli = c.args.tli; at = c.args.at; total = 24 + length c.as_slice-body.result.now }
 
-finished : (c : goal.After-start_behind) → IsFinished (place_of c) c.args.prev c.args.item.now c.put-2.new.out.items c.in_ok-from_vec.field-0
+finished : (c : goal.After-start_behind) → IsFinished (place_of c) c.args.prev c.args.item.now c.put-2.new.out.items
+    c.in_ok-from_vec.field-0
 unfolding place_of
 finished c =
-    let place : Place = record { ident = c.args.ident.now; tli = c.args.tli; at = c.args.at; total = 24 + length c.as_slice-body.result.now } in
+    let place : Place = record {
+      ident = c.args.ident.now;
+      tli = c.args.tli;
+      at = c.args.at;
+      total =
+          24 + length c.as_slice-body.result.now;
+    } in
     let out = c.round_up.new.out in
     let log : c.in_ok-from_vec.field-0 ≡ out.items = c.in_ok-from_vec.ensures.ok in
-    let gap : (gap : ℕ) × (gap < 8) × (out.items ≡ c.put-2.new.out.items ++ replicate gap 0) × (length out.items % 8 ≡ 0) = c.in_ok-round_up.ensures in
+    let gap : (gap : ℕ) × (gap < 8) × (out.items ≡ c.put-2.new.out.items ++ replicate gap 0) × (length out.items % 8 ≡ 0) =
+    c.in_ok-round_up.ensures in
     record {
       laid = c.in_ok-put-2.ensures.laid;
-      bytes = laid_bytes place c.args.prev c.args.item.now c.in_ok-out.out.items c.write_head.new.head c.as_slice-body.result.now c.put.new.out.items c.put-2.new.out.items
+      bytes = laid_bytes place c.args.prev c.args.item.now c.in_ok-out.out.items c.write_head.new.head c.as_slice-body.result.now
+          c.put.new.out.items c.put-2.new.out.items
           c.in_ok-out.ensures.items c.in_ok-put.ensures.bytes c.in_ok-put-2.ensures.bytes c.write_head.ensures c.as_slice-body.ensures;
       gap = (gap.0, gap.1, log ∙ gap.2, ap (λ (t : List ℕ). length t % 8) log ∙ gap.3);
       aligned = c.requires.aligned;
@@ -45,7 +54,8 @@ put-requires-clause-done c = sym (none_laid c.args.ident.now.size c.args.at c.in
 pub put-requires-2-clause-done : goal.put-requires-2-clause-done
 put-requires-2-clause-done c =
     let size = c.args.ident.now.size in
-    let first : content size c.args.at c.put.new.out.items ≡ content size c.args.at c.in_ok-out.out.items ++ c.write_head.new.head = c.in_ok-put.ensures.bytes in
+    let first : content size c.args.at c.put.new.out.items ≡ content size c.args.at c.in_ok-out.out.items ++ c.write_head.new.head =
+    c.in_ok-put.ensures.bytes in
     omega (
       arith,
       ap length first,
@@ -56,8 +66,10 @@ put-requires-2-clause-done c =
 
 pub returns-clause-image : goal.returns-clause-image
 unfolding place_of
-returns-clause-image c = IsImage-finished (place_of c) c.args.prev c.args.item.now c.put-2.new.out.items c.in_ok-from_vec.field-0 c.written_agrees.ensures (finished c)
+returns-clause-image c = IsImage-finished (place_of c) c.args.prev c.args.item.now c.put-2.new.out.items c.in_ok-from_vec.field-0
+    c.written_agrees.ensures (finished c)
 
 pub returns-clause-spelled : goal.returns-clause-spelled
 unfolding place_of
-returns-clause-spelled c = spelled_finished (place_of c) c.args.prev c.args.item.now c.put-2.new.out.items c.in_ok-from_vec.field-0 (finished c)
+returns-clause-spelled c = spelled_finished (place_of c) c.args.prev c.args.item.now c.put-2.new.out.items c.in_ok-from_vec.field-0
+    (finished c)

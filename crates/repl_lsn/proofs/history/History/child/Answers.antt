@@ -1,14 +1,14 @@
+-- The own timeline keeps the order behind the others.
 use Rattle.std.proofs.Common.{◌≡◌, ◌++◌, ◌∷◌, [], refl, sym, subst, rules}
 use Rattle.repl_lsn.specs.declared.history.Part.{Part}
 use Rattle.repl_lsn.specs.History.{InOrder}
 use Rattle.repl_lsn.proofs.Timelines.{order_push}
 use Rattle.repl_lsn.proofs.history.History.child.Goals as goal
 
-pub unreachable-requires : goal.unreachable-requires
-unreachable-requires c =
+pub of-requires : goal.of-requires
+of-requires c =
     let path = c.args.self.now in
-    let left : Part = record { tli = path.own; switch = c.args.switch; reason = c.in_ok-promoted.field-0 } in
+    let left : Part = record { tli = path.own; switch = c.args.switch; reason = c.in_ok-copied.field-0 } in
     let parents : c.new.result ≡ path.parents ++ left ∷ [] = search (rules, c.in_ok-push.ensures.items) in
-    let order = order_push path.own c.args.tli path.parents left c.parents.ensures.path refl c.requires.above c.requires.behind in
-    let refused = c.in-None.ensures.taken.1 (subst (InOrder c.args.tli) (sym parents) order) in
-    absurd (cc)
+    subst (InOrder c.args.tli) (sym parents) (order_push path.own c.args.tli path.parents left c.parents.ensures.path refl c.requires.above
+    c.requires.behind)

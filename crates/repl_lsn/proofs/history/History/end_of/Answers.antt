@@ -1,3 +1,4 @@
+-- The timeline that is found ends at its switch point.
 use Rattle.std.proofs.Common.{◌≡◌, ◌<◌, length, get_or, rules}
 use Rattle.repl_lsn.specs.Path.{EndsAt}
 use Rattle.repl_lsn.proofs.Timelines.{item_ends}

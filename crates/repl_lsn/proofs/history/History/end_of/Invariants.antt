@@ -1,3 +1,4 @@
+-- No timeline so far has the number.
 use Rattle.std.proofs.Common.{◌≡◌, ◌≤◌, List, ◌∷◌, ◌++◌, length}
 use Rattle.repl_lsn.specs.declared.history.Part.{Part}
 use Rattle.repl_lsn.proofs.history.History.end_of.Given as goal
@@ -7,5 +8,6 @@ abbrev pub invariant-loop-part : goal.invariant-loop-part
 invariant-loop-part l =
     record {
       parents : l.part-items ≡ l.self.parents;
-      behind : (before : List Part) (p : Part) (after : List Part) → l.self.parents ≡ before ++ p ∷ after → p.tli ≡ l.tli → l.part-index ≤ length before;
+      behind : (before : List Part) (p : Part) (after : List Part) → l.self.parents ≡ before ++ p ∷ after → p.tli ≡ l.tli
+          → l.part-index ≤ length before;
     }

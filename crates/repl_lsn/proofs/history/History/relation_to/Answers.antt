@@ -1,3 +1,4 @@
+-- The relation from what both paths share.
 use Rattle.std.proofs.Common.{◌≡◌, length, sym, ◌∙◌, rules}
 use Rattle.std.proofs.lemmas.List.{length-map}
 use Rattle.repl_lsn.specs.Path.{step, IsSame}

@@ -1,3 +1,4 @@
+-- One more shared step, and the first that differs.
 use Rattle.std.proofs.Common.{◌≡◌, ◌≢◌, ◌<◌, length, get_or, arith, rules}
 use Rattle.std.proofs.lemmas.List.{length_push}
 use Rattle.std.proofs.lemmas.Slice.Zip.{zip_turn}
@@ -15,7 +16,8 @@ returns-then-not-is_same_step c =
     let start = c.into_iter-mine-iterator.result in
     let first : start.a.rest.now ≡ a.parents = search rules in
     let second : start.b.rest.now ≡ b.parents = search rules in
-    let turn = zip_turn a.parents b.parents c.loop-mine.yielded start c.loop-mine.mine-iterator c.next.new.self c.next.result first second c.loop-mine.yielded_by (c.in-Some.mine, c.in-Some.its) c.in-Some.is c.next.ensures.steps in
+    let turn = zip_turn a.parents b.parents c.loop-mine.yielded start c.loop-mine.mine-iterator c.next.new.self c.next.result first second
+    c.loop-mine.yielded_by (c.in-Some.mine, c.in-Some.its) c.in-Some.is c.next.ensures.steps in
     let count : n ≡ length c.loop-mine.yielded = c.loop-mine.invariant.count in
     let ours : n < length a.parents = omega (arith, count, turn.0) in
     let theirs : n < length b.parents = omega (arith, count, turn.1) in
@@ -34,7 +36,8 @@ loop-mine-preserved c =
     let start = c.into_iter-mine-iterator.result in
     let first : start.a.rest.now ≡ a.parents = search rules in
     let second : start.b.rest.now ≡ b.parents = search rules in
-    let turn = zip_turn a.parents b.parents c.loop-mine.yielded start c.loop-mine.mine-iterator c.next.new.self c.next.result first second c.loop-mine.yielded_by (c.in-Some.mine, c.in-Some.its) c.in-Some.is c.next.ensures.steps in
+    let turn = zip_turn a.parents b.parents c.loop-mine.yielded start c.loop-mine.mine-iterator c.next.new.self c.next.result first second
+    c.loop-mine.yielded_by (c.in-Some.mine, c.in-Some.its) c.in-Some.is c.next.ensures.steps in
     let count : n ≡ length c.loop-mine.yielded = c.loop-mine.invariant.count in
     let ours : n < length a.parents = omega (arith, count, turn.0) in
     let theirs : n < length b.parents = omega (arith, count, turn.1) in

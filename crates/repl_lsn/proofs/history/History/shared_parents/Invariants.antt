@@ -1,3 +1,4 @@
+-- The steps so far are shared.
 use Rattle.std.proofs.Common.{◌≡◌, length, map, take}
 use Rattle.repl_lsn.specs.Path.{step}
 use Rattle.repl_lsn.proofs.history.History.shared_parents.Given as goal

@@ -1,3 +1,4 @@
+-- The first timeline that ends behind the position holds it.
 use Rattle.std.proofs.Common.{◌≡◌, ◌<◌, length, get_or, Some, refl, inl, inr, rules}
 use Rattle.repl_lsn.proofs.Timelines.{item_holds}
 use Rattle.repl_lsn.proofs.history.History.timeline_at.Goals as goal
@@ -31,5 +32,6 @@ loop-part-preserved c =
       parents = walked.parents;
       origin = x.switch;
       from = search rules;
-      rest = λ tli start end holds. walked.rest tli start end (item_holds path.parents path.own walked.origin i x within at tli start end (inr holds));
+      rest = λ tli start end holds. walked.rest tli start end (item_holds path.parents path.own walked.origin i x within at tli start end
+          (inr holds));
     }

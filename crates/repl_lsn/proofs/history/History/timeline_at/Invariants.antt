@@ -1,3 +1,4 @@
+-- The timelines passed so far end at the position or before it.
 use Rattle.std.proofs.Common.{◌≡◌, ℕ, ◌≤◌, drop, Option}
 use Rattle.repl_lsn.specs.Path.{Holds}
 use Rattle.repl_lsn.proofs.history.History.timeline_at.Given as goal
@@ -9,5 +10,6 @@ invariant-loop-part l =
       parents : l.part-items ≡ l.self.parents;
       origin : ℕ;
       from : origin ≤ l.at;
-      rest : (tli start : ℕ) (end : Option ℕ) → Holds origin (drop l.part-index l.self.parents) l.self.own tli start end → Holds 0 l.self.parents l.self.own tli start end;
+      rest : (tli start : ℕ) (end : Option ℕ) → Holds origin (drop l.part-index l.self.parents) l.self.own tli start end
+          → Holds 0 l.self.parents l.self.own tli start end;
     }

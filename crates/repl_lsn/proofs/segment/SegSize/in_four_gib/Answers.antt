@@ -1,3 +1,4 @@
+-- Sizes divide 2 ^ 32.
 use Rattle.std.proofs.Common.{◌≡◌, ◌*◌, ◌/◌, ◌^◌, ◌≤◌, subst, sym, ◌∙◌}
 use Rattle.repl_lsn.specs.Segment.{IsSegSize}
 use Rattle.repl_lsn.proofs.Sizes.{four_gib_whole, four_gib_few}

@@ -1,3 +1,4 @@
+-- A power of two in the range is a size.
 use Rattle.std.proofs.Common.{◌^◌, ◌≤◌, refl, sym, rules}
 use Rattle.repl_lsn.specs.Segment.{IsSegSize}
 use Rattle.repl_lsn.proofs.Sizes.{size_from_test, test_of_size}
@@ -18,6 +19,7 @@ returns-then-is_power_of_two c = (is_size c, refl)
 
 pub returns-else-in_range : goal.returns-else-in_range
 returns-else-in_range c = λ h. elim c.else-in_range.branch [
-  | else-in_range-via-then-in_range+else-is_power_of_two w ↦ let test = test_of_size c.args.bytes h in let other = w.if-is_power_of_two.ensures in cc
+  | else-in_range-via-then-in_range+else-is_power_of_two w ↦ let test = test_of_size c.args.bytes h in let other =
+      w.if-is_power_of_two.ensures in cc
   | else-in_range-via-else-in_range w ↦ let out = w.if-in_range.ensures in search rules
 ]

@@ -14,8 +14,10 @@ use Rattle.repl_record.proofs.WalkerSteps.{Walked, begins_next, fault_in_rest, p
 use Rattle.repl_record.proofs.walker.Walker.step.Goals as goal
 
 -- the pages of the rest are on the timeline, from where the walker stands
-pages_on : (old w : Walker) (timeline : ℕ → ℕ) (tli used : ℕ) (bytes : List ℕ) → Walked old w tli bytes used → AreOn timeline tli (position old) (length bytes) → AreOn timeline tli (position w) (length (drop used bytes))
-pages_on old w timeline tli used bytes walked on = subst (λ (p : ℕ). AreOn timeline tli p (length (drop used bytes))) (sym walked.behind) (rest_on timeline tli (position old) used bytes walked.within on)
+pages_on : (old w : Walker) (timeline : ℕ → ℕ) (tli used : ℕ) (bytes : List ℕ) → Walked old w tli bytes used
+    → AreOn timeline tli (position old) (length bytes) → AreOn timeline tli (position w) (length (drop used bytes))
+pages_on old w timeline tli used bytes walked on = subst (λ (p : ℕ). AreOn timeline tli p (length (drop used bytes))) (sym walked.behind)
+    (rest_on timeline tli (position old) used bytes walked.within on)
 
 pub returns-in-Err-clause-answers : goal.returns-in-Err-clause-answers
 returns-in-Err-clause-answers c timeline from prev log stands on =
@@ -25,19 +27,24 @@ returns-in-Err-clause-answers c timeline from prev log stands on =
     let used = c.loop-used.used in
     let walked = c.loop-used.invariant in
     let refusal = c.in-Err.refusal in
-    let Fault : List ℕ → Type 0 = λ rest. AreOn timeline c.args.tli (position w) (length rest) → IsFirstFault w.ident timeline from prev ((log ++ take used bytes) ++ rest) refusal.at refusal.why in
-    let moved : Fault (drop used bytes) = subst Fault (take_rest bytes used) (λ rest_is_on. c.in-Err.ensures.moved timeline from prev (log ++ take used bytes) (walked.stands timeline from prev log stands on) rest_is_on) in
-    let fault = fault_in_rest w.ident timeline from prev log bytes used refusal.at refusal.why (moved (pages_on old w timeline c.args.tli used bytes walked on)) in
+    let Fault : List ℕ → Type 0 = λ rest. AreOn timeline c.args.tli (position w) (length rest)
+    → IsFirstFault w.ident timeline from prev ((log ++ take used bytes) ++ rest) refusal.at refusal.why in
+    let moved : Fault (drop used bytes) = subst Fault (take_rest bytes used) (λ rest_is_on. c.in-Err.ensures.moved timeline from prev (log
+    ++ take used bytes) (walked.stands timeline from prev log stands on) rest_is_on) in
+    let fault = fault_in_rest w.ident timeline from prev log bytes used refusal.at refusal.why
+    (moved (pages_on old w timeline c.args.tli used bytes walked on)) in
     let Same : Ident → Type 0 = λ ident. IsFirstFault ident timeline from prev (log ++ bytes) refusal.at refusal.why in
     let Told : WalkStep → Type 0 = λ answer. Answers old.ident timeline from prev (log ++ bytes) answer in
     subst Told (sym c.refuse.ensures.told) (subst Same walked.same.0 fault)
 
 -- what the last move has reached
 reached_in : (w new : Walker) (timeline : ℕ → ℕ) (tli from prev used taken : ℕ) (log bytes : List ℕ) → used ≤ length bytes
-    → (AreOn timeline tli (position w) (length (take (length bytes - used) (drop used bytes))) → Reached new timeline from prev ((log ++ take used bytes) ++ take taken (take (length bytes - used) (drop used bytes))))
+    → (AreOn timeline tli (position w) (length (take (length bytes - used) (drop used bytes)))
+    → Reached new timeline from prev ((log ++ take used bytes) ++ take taken (take (length bytes - used) (drop used bytes))))
     → AreOn timeline tli (position w) (length (drop used bytes)) → Reached new timeline from prev (log ++ take (used + taken) bytes)
 reached_in w new timeline tli from prev used taken log bytes within moved on =
-    let Moves : List ℕ → Type 0 = λ rest. AreOn timeline tli (position w) (length rest) → Reached new timeline from prev ((log ++ take used bytes) ++ take taken rest) in
+    let Moves : List ℕ → Type 0 = λ rest. AreOn timeline tli (position w) (length rest)
+    → Reached new timeline from prev ((log ++ take used bytes) ++ take taken rest) in
     let After : List ℕ → Type 0 = λ l. Reached new timeline from prev l in
     subst After (part_of_rest log bytes used taken within) (subst Moves (take_rest bytes used) moved on)
 
@@ -52,10 +59,18 @@ returns-then-is_over-clause-answers c timeline from prev log stands on =
     let walked = c.loop-used.invariant in
     let same = c.in-Ok.ensures.same in
     let took = c.in-Ok.ensures.took in
-    let reached = reached_in w new timeline c.args.tli from prev used taken log bytes walked.within (c.in-Ok.ensures.moved timeline from prev (log ++ take used bytes) (walked.stands timeline from prev log stands on)) (pages_on old w timeline c.args.tli used bytes walked on) in
+    let reached = reached_in w new timeline c.args.tli from prev used taken log bytes walked.within (c.in-Ok.ensures.moved timeline from
+    prev (log ++ take used bytes) (walked.stands timeline from prev log stands on)) (pages_on old w timeline c.args.tli used bytes
+    walked on) in
     let end : IsAtEnd new = c.is_over.ensures.0 c.if-is_over.true in
     let size : IsSegSize new.ident.size = subst (λ (ident : Ident). IsSegSize ident.size) (sym same.0) c.in-Ok.ensures.size in
-    let fits : used + taken ≤ length bytes = omega (arith, took.1, walked.within, length-take (length bytes - used) (drop used bytes), length-drop used bytes) in
+    let fits : used + taken ≤ length bytes = omega (
+      arith,
+      took.1,
+      walked.within,
+      length-take (length bytes - used) (drop used bytes),
+      length-drop used bytes,
+    ) in
     let whole = whole_from new timeline from prev log bytes (used + taken) size fits (omega (arith, took.0)) reached end in
     let low : new.from ≤ 2 ^ 63 = omega (arith, reached.keeps.begins, reached.keeps.behind, took.2, walked.behind, c.requires, fits) in
     let next = c.begin_next.ensures.next low in
@@ -73,16 +88,34 @@ returns-then-is_over-clause-goes_on c timeline from prev log stands on =
     let taken = c.in-Ok.taken in
     let walked = c.loop-used.invariant in
     let took = c.in-Ok.ensures.took in
-    let reached = reached_in w new timeline c.args.tli from prev used taken log bytes walked.within (c.in-Ok.ensures.moved timeline from prev (log ++ take used bytes) (walked.stands timeline from prev log stands on)) (pages_on old w timeline c.args.tli used bytes walked on) in
+    let reached = reached_in w new timeline c.args.tli from prev used taken log bytes walked.within (c.in-Ok.ensures.moved timeline from
+    prev (log ++ take used bytes) (walked.stands timeline from prev log stands on)) (pages_on old w timeline c.args.tli used bytes
+    walked on) in
     let end : IsAtEnd new = c.is_over.ensures.0 c.if-is_over.true in
-    let fits : used + taken ≤ length bytes = omega (arith, took.1, walked.within, length-take (length bytes - used) (drop used bytes), length-drop used bytes) in
+    let fits : used + taken ≤ length bytes = omega (
+      arith,
+      took.1,
+      walked.within,
+      length-take (length bytes - used) (drop used bytes),
+      length-drop used bytes,
+    ) in
     let high : new.at ≤ 2 ^ 63 = omega (arith, took.2, walked.behind, c.requires, fits) in
     let low : new.from ≤ 2 ^ 63 = omega (arith, reached.keeps.begins, reached.keeps.behind, high) in
     let next = c.begin_next.ensures.next low in
-    let place : from + length log + (used + taken) ≡ new.at = omega (arith, reached.keeps.behind, length-append log (take (used + taken) bytes), length-take (used + taken) bytes, fits) in
+    let place : from + length log + (used + taken) ≡ new.at = omega (
+      arith,
+      reached.keeps.behind,
+      length-append log (take (used + taken) bytes),
+      length-take (used + taken) bytes,
+      fits,
+    ) in
     let Stood : Walker → Type 0 = λ now. Stands now timeline new.at (start_of new.ident.size new.from) [] in
     let Told : WalkStep → Type 0 = λ answer. GoesOn c.begin_next.new.self timeline from prev log bytes answer in
-    subst Told (sym next.0) (place, subst Stood (sym next.1) (begins_next new timeline from prev (log ++ take (used + taken) bytes) reached end high))
+    subst Told (sym next.0) (
+      place,
+      subst Stood (sym next.1) (begins_next new timeline from prev (log
+          ++ take (used + taken) bytes) reached end high),
+    )
 
 pub returns-then-is_over-clause-passes : goal.returns-then-is_over-clause-passes
 returns-then-is_over-clause-passes c =
@@ -91,8 +124,15 @@ returns-then-is_over-clause-passes c =
     let taken = c.in-Ok.taken in
     let walked = c.loop-used.invariant in
     let took = c.in-Ok.ensures.took in
-    let fits : used + taken ≤ length bytes = omega (arith, took.1, walked.within, length-take (length bytes - used) (drop used bytes), length-drop used bytes) in
-    passes_from c.args.self.now c.begin_next.new.self (length bytes) c.advance.new.self.at (used + taken) c.begin_next.result c.begin_next.ensures.ended (omega (arith, took.0)) fits (omega (arith, c.begin_next.ensures.position, took.2, walked.behind))
+    let fits : used + taken ≤ length bytes = omega (
+      arith,
+      took.1,
+      walked.within,
+      length-take (length bytes - used) (drop used bytes),
+      length-drop used bytes,
+    ) in
+    passes_from c.args.self.now c.begin_next.new.self (length bytes) c.advance.new.self.at (used + taken) c.begin_next.result
+    c.begin_next.ensures.ended (omega (arith, took.0)) fits (omega (arith, c.begin_next.ensures.position, took.2, walked.behind))
 
 pub loop-used-preserved : goal.loop-used-preserved
 loop-used-preserved c =
@@ -102,10 +142,12 @@ loop-used-preserved c =
     let bytes = c.args.bytes.now in
     let used = c.loop-used.used in
     let taken = c.in-Ok.taken in
-    let After : List ℕ → Type 0 = λ rest. (timeline : ℕ → ℕ) (from prev : ℕ) (log : List ℕ) → Stands w timeline from prev log → AreOn timeline c.args.tli (position w) (length rest) → Reached new timeline from prev (log ++ take taken rest) in
+    let After : List ℕ → Type 0 = λ rest. (timeline : ℕ → ℕ) (from prev : ℕ) (log : List ℕ) → Stands w timeline from prev log
+    → AreOn timeline c.args.tli (position w) (length rest) → Reached new timeline from prev (log ++ take taken rest) in
     let Fits : List ℕ → Type 0 = λ rest. taken ≤ length rest in
     let took = c.in-Ok.ensures.took in
-    walked_on old w new c.args.tli bytes used taken c.loop-used.invariant (subst Fits (take_rest bytes used) took.1) took.2 c.in-Ok.ensures.same (subst After (take_rest bytes used) c.in-Ok.ensures.moved) (iff_false c.is_over.ensures c.if-is_over.false)
+    walked_on old w new c.args.tli bytes used taken c.loop-used.invariant (subst Fits (take_rest bytes used) took.1) took.2
+    c.in-Ok.ensures.same (subst After (take_rest bytes used) c.in-Ok.ensures.moved) (iff_false c.is_over.ensures c.if-is_over.false)
 
 pub returns-clause-answers : goal.returns-clause-answers
 returns-clause-answers c timeline from prev log stands on =

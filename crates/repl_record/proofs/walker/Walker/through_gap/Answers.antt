@@ -16,9 +16,14 @@ returns-then-any-clause-moved c timeline from prev log s =
     let bytes = c.args.bytes.now in
     let taken = c.min-taken.result in
     let same_at = ap (λ (n : Walker). n.at) c.self.view_is in
-    let part = gap_part bytes taken s c.requires.size c.requires.outside c.requires.finished c.requires.some (λ i. omega (arith, c.type_inv.bytes i)) (omega arith) in
-    let any = any_from_yields_List is_other _ _ c.any.result c.any.ensures.ran (YieldsList-from_slice (take taken bytes) cc) (λ x b q k. search (rules, tests)) in
-    let start : c.start.result ≡ start_of w.ident.size from = c.start.ensures (omega (arith, s.keeps.begins, s.keeps.behind)) ∙ ap (start_of w.ident.size) s.keeps.begins in
+    let part = gap_part bytes taken s c.requires.size c.requires.outside c.requires.finished c.requires.some (λ i. omega (
+      arith,
+      c.type_inv.bytes i,
+    )) (omega arith) in
+    let any = any_from_yields_List is_other _ _ c.any.result c.any.ensures.ran (YieldsList-from_slice (take taken bytes) cc) (λ x b q k.
+    search (rules, tests)) in
+    let start : c.start.result ≡ start_of w.ident.size from = c.start.ensures (omega (arith, s.keeps.begins, s.keeps.behind))
+    ∙ ap (start_of w.ident.size) s.keeps.begins in
     gap_differs part (first_other (take taken bytes) (sym any ∙ c.if-any.true)) start
 
 pub returns-clause-moved : goal.returns-clause-moved
@@ -27,8 +32,12 @@ returns-clause-moved c timeline from prev log s =
     let bytes = c.args.bytes.now in
     let taken = c.min-taken.result in
     let same_at = ap (λ (n : Walker). n.at) c.self.view_is in
-    let part = gap_part bytes taken s c.requires.size c.requires.outside c.requires.finished c.requires.some (λ i. omega (arith, c.type_inv.bytes i)) (omega arith) in
-    let any = any_from_yields_List is_other _ _ c.any.result c.any.ensures.ran (YieldsList-from_slice (take taken bytes) cc) (λ x b q k. search (rules, tests)) in
+    let part = gap_part bytes taken s c.requires.size c.requires.outside c.requires.finished c.requires.some (λ i. omega (
+      arith,
+      c.type_inv.bytes i,
+    )) (omega arith) in
+    let any = any_from_yields_List is_other _ _ c.any.result c.any.ensures.ran (YieldsList-from_slice (take taken bytes) cc) (λ x b q k.
+    search (rules, tests)) in
     let all : length (take taken bytes) ≡ taken = length-take-le taken bytes (omega arith) in
     let zeros = all_zero (take taken bytes) (sym any ∙ c.if-any.false) in
     let zero : (i : ℕ) → i < taken → get_or bytes i 0 ≡ 0 = λ i below. sym (get_or-take taken bytes i 0 below) ∙ zeros i (omega arith) in

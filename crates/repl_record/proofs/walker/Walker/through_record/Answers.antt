@@ -14,7 +14,10 @@ returns-in-Ok-clause-moved c timeline from prev log stands =
     let taken = c.min-taken.result in
     let After : Walker → Type 0 = λ new. Reached new timeline from prev (log ++ take taken bytes) in
     let kept = c.keep_record.ensures in
-    let part = record_part bytes taken stands c.requires.size c.requires.outside c.requires.unfinished c.requires.some (λ i. omega (arith, c.type_inv.bytes i)) (omega (arith, c.goal-goal.ensures, c.place.ensures)) in
+    let part = record_part bytes taken stands c.requires.size c.requires.outside c.requires.unfinished c.requires.some (λ i. omega (
+      arith,
+      c.type_inv.bytes i,
+    )) (omega (arith, c.goal-goal.ensures, c.place.ensures)) in
     subst After (sym kept) (record_reached w timeline from prev log bytes taken (omega arith) part (subst IsFine kept c.in-Ok.ensures.fine))
 
 pub returns-in-Err-clause-moved : goal.returns-in-Err-clause-moved
@@ -24,8 +27,13 @@ returns-in-Err-clause-moved c timeline from prev log stands =
     let taken = c.min-taken.result in
     let Wrong : Walker → Type 0 = λ new. IsWrong new c.in-Err.why in
     let kept = c.keep_record.ensures in
-    let part = record_part bytes taken stands c.requires.size c.requires.outside c.requires.unfinished c.requires.some (λ i. omega (arith, c.type_inv.bytes i)) (omega (arith, c.goal-goal.ensures, c.place.ensures)) in
+    let part = record_part bytes taken stands c.requires.size c.requires.outside c.requires.unfinished c.requires.some (λ i. omega (
+      arith,
+      c.type_inv.bytes i,
+    )) (omega (arith, c.goal-goal.ensures, c.place.ensures)) in
     let begins : c.keep_record.new.self.from ≡ from = ap (λ (new : Walker). new.from) kept ∙ stands.keeps.begins in
     let low : c.keep_record.new.self.from ≤ 2 ^ 63 = omega (arith, begins, stands.keeps.behind, c.requires.room) in
-    let place = c.start.ensures low ∙ ap (λ (new : Walker). start_of new.ident.size new.from) kept ∙ ap (start_of w.ident.size) stands.keeps.begins in
-    record_refused w timeline from prev log bytes taken c.start.result c.in-Err.why (omega arith) part (subst Wrong kept c.in-Err.ensures.wrong) place
+    let place = c.start.ensures low ∙ ap (λ (new : Walker). start_of new.ident.size new.from) kept
+    ∙ ap (start_of w.ident.size) stands.keeps.begins in
+    record_refused w timeline from prev log bytes taken c.start.result c.in-Err.why (omega arith) part
+    (subst Wrong kept c.in-Err.ensures.wrong) place

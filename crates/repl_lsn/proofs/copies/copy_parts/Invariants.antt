@@ -1,5 +1,6 @@
+-- The parts so far are copied.
 use Rattle.std.proofs.Common.{◌≡◌, take}
-use Rattle.repl_lsn.proofs.path.copy_parts.Given as goal
+use Rattle.repl_lsn.proofs.copies.copy_parts.Given as goal
 
 abbrev pub invariant-loop-part : goal.invariant-loop-part
 invariant-loop-part l = l.copies.items ≡ take l.part-index l.parts
