@@ -9,6 +9,10 @@ RoseBy n before now = min (before + n) (2 ^ 64 - 1) ≤ now
 abbrev pub Rose : ℕ → ℕ → Type 0
 Rose before now = RoseBy 1 before now
 
+-- one event came
+abbrev pub RoseOnce : ℕ → ℕ → Type 0
+RoseOnce before now = now ≡ min (before + 1) (2 ^ 64 - 1)
+
 -- no event came
 abbrev pub Stood : ℕ → ℕ → Type 0
 Stood before now = now ≡ before
@@ -17,3 +21,8 @@ Stood before now = now ≡ before
 abbrev pub RoseExactly : Bool → ℕ → ℕ → Type 0
 RoseExactly true before now = Rose before now
 RoseExactly false before now = Stood before now
+
+-- one event came exactly where the test holds, and no other
+abbrev pub RoseOnceExactly : Bool → ℕ → ℕ → Type 0
+RoseOnceExactly true before now = RoseOnce before now
+RoseOnceExactly false before now = Stood before now

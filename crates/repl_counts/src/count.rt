@@ -1,4 +1,5 @@
-ghost use Rattle.std.specs.Prelude.{◌≡◌, ℕ, ◌+◌, ◌-◌, ◌^◌, ◌<◌, min};
+ghost use Rattle.std.specs.Prelude.{◌≡◌, ℕ, ◌^◌, ◌<◌};
+ghost use Rattle.repl_counts.specs.Counts.{RoseOnce};
 
 use std::marker::Model;
 
@@ -35,7 +36,7 @@ impl Count {
 
     /// Counts one more event.
     pub fn raise(&mut self)
-        ensures { self.new ≡ min (self.old + 1) (2 ^ 64 - 1) }
+        ensures { RoseOnce self.old self.new }
     {
         self.events = self.events.saturating_add(1);
     }

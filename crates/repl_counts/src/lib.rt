@@ -5,6 +5,12 @@
 //! count go together, so that code above it can be held to its answers: a fault is answered only where
 //! the count of faults rose. `specs/Counts.antt` has the words on counts, `specs/Told.antt` those on
 //! bytes. `Count` is the counter that the objects of this repository keep. Stands on std alone.
+//!
+//! ```text
+//! let mut faults = Count::new();
+//! faults.raise();
+//! faults.get() // 1
+//! ```
 #![tactic(auto)]
 
 mod count;

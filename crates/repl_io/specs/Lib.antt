@@ -3,5 +3,4 @@ pub mod Sink
 pub mod Steady
 pub mod Step
 pub mod Script
-pub mod Link
 pub mod Streams

@@ -1,7 +1,9 @@
 -- What a scripted link tells, and how it follows its script.
-use Rattle.std.specs.Prelude.{◌≡◌, ℕ, ◌+◌, ◌-◌, ◌^◌, ◌<◌, ◌≤◌, ◌↔◌, min, List, [], ◌++◌, Some, take, drop, length, Contains}
+use Rattle.std.specs.Prelude.{◌≡◌, ℕ, ◌+◌, ◌-◌, ◌<◌, ◌≤◌, ◌↔◌, min, List, [], ◌++◌, Some, take, drop, length, Contains}
 use Rattle.std.specs.List.{flat_map}
-use Rattle.repl_counts.specs.Told.{Told}
+use Rattle.repl_counts.specs.Counts.{RoseOnce}
+use Rattle.repl_io.specs.Source.{SourceState}
+use Rattle.repl_io.specs.Sink.{SinkState}
 use Rattle.repl_io.specs.declared.source.Got.{Got}
 use Rattle.repl_io.specs.declared.source.Got.TheVariants as got
 use Rattle.repl_io.specs.declared.sink.Put.{Put}
@@ -11,60 +13,36 @@ use Rattle.repl_io.specs.declared.script.LinkStep.TheVariants as step
 use Rattle.repl_io.specs.declared.script.ScriptLink.{ScriptLink}
 use Rattle.repl_io.specs.Step.{bytes_of, step_at}
 
--- the bytes of the steps that are done, and of the present one what is taken
-abbrev pub given_of : ScriptLink → Told
-given_of link = Some (flat_map bytes_of (take link.next link.steps.items) ++ take link.taken (bytes_of (step_at link.steps.items link.next)))
+-- given are the bytes of the steps that are done, and of the present one what is taken; left are the bytes of the
+-- steps from the present one on, but for what is taken
+abbrev pub source_of : ScriptLink → SourceState
+source_of link = record {
+  given = Some (flat_map bytes_of (take link.next link.steps.items) ++ take link.taken (bytes_of (step_at link.steps.items link.next)));
+  left = Some (drop link.taken (flat_map bytes_of (drop link.next link.steps.items)));
+  faults = link.read_faults;
+  quiets = link.quiets;
+  ends = link.ends;
+}
 
--- the bytes of the steps from the present one on, but for what is taken
-abbrev pub left_of : ScriptLink → Told
-left_of link = Some (drop link.taken (flat_map bytes_of (drop link.next link.steps.items)))
-
-abbrev pub written_of : ScriptLink → Told
-written_of link = Some link.written.items
-
-abbrev pub read_faults_of : ScriptLink → ℕ
-read_faults_of link = link.read_faults
-
-abbrev pub quiets_of : ScriptLink → ℕ
-quiets_of link = link.quiets
-
-abbrev pub ends_of : ScriptLink → ℕ
-ends_of link = link.ends
-
-abbrev pub write_faults_of : ScriptLink → ℕ
-write_faults_of link = link.write_faults
-
-abbrev pub wants_of : ScriptLink → ℕ
-wants_of link = link.wants
+abbrev pub sink_of : ScriptLink → SinkState
+sink_of link = record { written = Some link.written.items; faults = link.write_faults; wants = link.wants }
 
 -- a read leaves the writing side as it was
-pub record KeepsSink (old new : ScriptLink) : Type 0 where
-  pub written : written_of new ≡ written_of old
-  pub faults : write_faults_of new ≡ write_faults_of old
-  pub wants : wants_of new ≡ wants_of old
+abbrev pub KeepsSink : ScriptLink → ScriptLink → Type 0
+KeepsSink old new = sink_of new ≡ sink_of old
 
 -- a write leaves the reading side as it was
-pub record KeepsSource (old new : ScriptLink) : Type 0 where
-  pub given : given_of new ≡ given_of old
-  pub left : left_of new ≡ left_of old
-  pub faults : read_faults_of new ≡ read_faults_of old
-  pub quiets : quiets_of new ≡ quiets_of old
-  pub ends : ends_of new ≡ ends_of old
+abbrev pub KeepsSource : ScriptLink → ScriptLink → Type 0
+KeepsSource old new = source_of new ≡ source_of old
 
 -- a link at its first step, to which nothing is written yet
 pub record IsFresh (steps : List LinkStep) (failing : List ℕ) (link : ScriptLink) : Type 0 where
   pub steps_are : link.steps.items ≡ steps
   pub failing_are : link.failing.items ≡ failing
-  pub given : given_of link ≡ Some []
-  pub left : left_of link ≡ Some (flat_map bytes_of steps)
-  pub written : written_of link ≡ Some []
+  pub source : source_of link ≡ record { given = Some []; left = Some (flat_map bytes_of steps); faults = 0; quiets = 0; ends = 0 }
+  pub sink : sink_of link ≡ record { written = Some []; faults = 0; wants = 0 }
   pub no_read : (link.next ≡ 0) × (link.taken ≡ 0)
   pub no_write : link.writes ≡ 0
-  pub read_faults : read_faults_of link ≡ 0
-  pub quiets : quiets_of link ≡ 0
-  pub ends : ends_of link ≡ 0
-  pub write_faults : write_faults_of link ≡ 0
-  pub wants : wants_of link ≡ 0
 
 -- a read into a room of this length at a step that gives these bytes: as many of those that are left as
 -- fit, or a quiet where the step has none; and the next step exactly where none is left then
@@ -90,5 +68,5 @@ pub record FollowsStep (room : ℕ) (old : ScriptLink) (answer : Got) (new : Scr
 -- a write fails exactly where its number is on the list
 pub record FollowsList (old : ScriptLink) (answer : Put) (new : ScriptLink) : Type 0 where
   pub list_stays : new.failing.items ≡ old.failing.items
-  pub counted : new.writes ≡ min (old.writes + 1) (2 ^ 64 - 1)
+  pub counted : RoseOnce old.writes new.writes
   pub fails : (answer ≡ put.Failed) ↔ Contains old.failing.items new.writes

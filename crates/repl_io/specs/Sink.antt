@@ -1,10 +1,17 @@
--- What a write does to a sink.
+-- What a sink tells, and what a write does to it.
 use Rattle.std.specs.Prelude.{◌≡◌, ℕ, ◌<◌, ◌≤◌, ⊤, List, length, take, Bool, true, false}
+use Rattle.repl_counts.specs.Counts.{RoseExactly, RoseOnceExactly}
 use Rattle.repl_counts.specs.Told.{Told, Gained, Kept}
 use Rattle.repl_io.specs.declared.sink.Put.{Put}
 use Rattle.repl_io.specs.declared.sink.Put.TheVariants as put
 use Rattle.repl_io.specs.declared.sink.Sent.{Sent}
 use Rattle.repl_io.specs.declared.sink.Sent.TheVariants as sent
+
+-- the bytes that were written so far, where the sink tells them, and how many writes answered `Failed` and `Memory`
+pub record SinkState : Type 0 where
+  pub written : Told
+  pub faults : ℕ
+  pub wants : ℕ
 
 -- n bytes at the front of the piece were written
 pub record WritesBytes (n : ℕ) (piece : List ℕ) (written written' : Told) : Type 0 where
@@ -13,10 +20,10 @@ pub record WritesBytes (n : ℕ) (piece : List ℕ) (written written' : Told) : 
   pub gained : Gained written written' (take n piece)
 
 -- the piece, and the bytes written before and after a write
-abbrev pub Writes : Put → List ℕ → Told → Told → Type 0
-Writes (put.Wrote n) piece written written' = WritesBytes n piece written written'
-Writes put.Failed piece written written' = Kept written written'
-Writes put.Memory piece written written' = Kept written written'
+abbrev pub WriteMoves : Put → List ℕ → Told → Told → Type 0
+WriteMoves (put.Wrote n) piece written written' = WritesBytes n piece written written'
+WriteMoves put.Failed piece written written' = Kept written written'
+WriteMoves put.Memory piece written written' = Kept written written'
 
 -- a write that succeeds writes the whole piece, as a link in memory does
 abbrev pub WritesWhole : Put → List ℕ → Type 0
@@ -34,6 +41,19 @@ is_memory put.Memory = true
 is_memory put.Failed = false
 is_memory (put.Wrote n) = false
 
+-- what a write of this piece with this answer leaves of the sink
+pub record Writes (answer : Put) (piece : List ℕ) (old new : SinkState) : Type 0 where
+  pub moved : WriteMoves answer piece old.written new.written
+  pub faults : RoseExactly (is_failed answer) old.faults new.faults
+  pub wants : RoseExactly (is_memory answer) old.wants new.wants
+
+-- each answer was counted once
+pub record CountsWrite (answer : Put) (old new : SinkState) : Type 0 where
+  pub faults : RoseOnceExactly (is_failed answer) old.faults new.faults
+  pub wants : RoseOnceExactly (is_memory answer) old.wants new.wants
+
+-- ---- the writing of many bytes
+
 -- a front of the bytes, less than all, was written
 pub record WritesFront (bytes : List ℕ) (written written' : Told) : Type 0 where
   pub front : ℕ
@@ -41,10 +61,10 @@ pub record WritesFront (bytes : List ℕ) (written written' : Told) : Type 0 whe
   pub gained : Gained written written' (take front bytes)
 
 -- the bytes, and the bytes written before and after the writing of all of them
-abbrev pub Sends : Sent → List ℕ → Told → Told → Type 0
-Sends sent.All bytes written written' = Gained written written' bytes
-Sends sent.Failed bytes written written' = WritesFront bytes written written'
-Sends sent.Memory bytes written written' = WritesFront bytes written written'
+abbrev pub SendMoves : Sent → List ℕ → Told → Told → Type 0
+SendMoves sent.All bytes written written' = Gained written written' bytes
+SendMoves sent.Failed bytes written written' = WritesFront bytes written written'
+SendMoves sent.Memory bytes written written' = WritesFront bytes written written'
 
 abbrev pub has_failed : Sent → Bool
 has_failed sent.Failed = true
@@ -55,3 +75,9 @@ abbrev pub wants_memory : Sent → Bool
 wants_memory sent.Memory = true
 wants_memory sent.All = false
 wants_memory sent.Failed = false
+
+-- what the writing of all these bytes leaves of the sink
+pub record Sends (answer : Sent) (bytes : List ℕ) (old new : SinkState) : Type 0 where
+  pub moved : SendMoves answer bytes old.written new.written
+  pub faults : RoseExactly (has_failed answer) old.faults new.faults
+  pub wants : RoseExactly (wants_memory answer) old.wants new.wants

@@ -3,22 +3,22 @@ use Rattle.std.specs.Prelude.{◌≡◌, ℕ, ◌<◌, ◌↔◌, min, List, [],
 use Rattle.repl_counts.specs.Told.{Told, IfTold}
 use Rattle.repl_io.specs.declared.source.Got.{Got}
 use Rattle.repl_io.specs.declared.source.Got.TheVariants as got
+use Rattle.repl_io.specs.Source.{SourceState}
+use Rattle.repl_io.specs.Sink.{SinkState}
 use Rattle.repl_io.specs.declared.steady.SteadyLink.{SteadyLink}
 
-abbrev pub given_of : SteadyLink → Told
-given_of link = Some (take link.taken link.input.items)
+-- its input is given up to what is taken, and it is never faulty or quiet
+abbrev pub source_of : SteadyLink → SourceState
+source_of link = record {
+  given = Some (take link.taken link.input.items);
+  left = Some (drop link.taken link.input.items);
+  faults = 0;
+  quiets = 0;
+  ends = link.ends;
+}
 
-abbrev pub left_of : SteadyLink → Told
-left_of link = Some (drop link.taken link.input.items)
-
-abbrev pub written_of : SteadyLink → Told
-written_of link = Some link.written.items
-
-abbrev pub ends_of : SteadyLink → ℕ
-ends_of link = link.ends
-
-abbrev pub wants_of : SteadyLink → ℕ
-wants_of link = link.wants
+abbrev pub sink_of : SteadyLink → SinkState
+sink_of link = record { written = Some link.written.items; faults = 0; wants = link.wants }
 
 -- a read into a room of this length gives as many of these bytes as fit, and the end exactly where there are none
 pub record GivesAllOf (room : ℕ) (left : List ℕ) (answer : Got) : Type 0 where
@@ -30,20 +30,14 @@ abbrev pub GivesAll : ℕ → Told → Got → Type 0
 GivesAll room left answer = IfTold left (λ bytes. GivesAllOf room bytes answer)
 
 -- a read leaves the writing side as it was
-pub record KeepsSink (old new : SteadyLink) : Type 0 where
-  pub written : written_of new ≡ written_of old
-  pub wants : wants_of new ≡ wants_of old
+abbrev pub KeepsSink : SteadyLink → SteadyLink → Type 0
+KeepsSink old new = sink_of new ≡ sink_of old
 
 -- a write leaves the reading side as it was
-pub record KeepsSource (old new : SteadyLink) : Type 0 where
-  pub given : given_of new ≡ given_of old
-  pub left : left_of new ≡ left_of old
-  pub ends : ends_of new ≡ ends_of old
+abbrev pub KeepsSource : SteadyLink → SteadyLink → Type 0
+KeepsSource old new = source_of new ≡ source_of old
 
 -- a link that gives these bytes, none of them given and nothing written so far
 pub record IsFresh (input : List ℕ) (link : SteadyLink) : Type 0 where
-  pub given : given_of link ≡ Some []
-  pub left : left_of link ≡ Some input
-  pub written : written_of link ≡ Some []
-  pub ends : ends_of link ≡ 0
-  pub wants : wants_of link ≡ 0
+  pub source : source_of link ≡ record { given = Some []; left = Some input; faults = 0; quiets = 0; ends = 0 }
+  pub sink : sink_of link ≡ record { written = Some []; faults = 0; wants = 0 }

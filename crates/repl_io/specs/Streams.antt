@@ -1,13 +1,23 @@
 -- What the adapters of std's readers and writers do to the bytes that those tell.
-use Rattle.std.specs.Prelude.{◌≡◌, ℕ, List, take}
+use Rattle.std.specs.Prelude.{◌≡◌, ℕ, List, take, None}
 use Rattle.std.specs.Io.KnownBytes.{Appends, Consumes, IsAtEnd, Keeps}
 use Rattle.repl_counts.specs.Told.{Told}
 use Rattle.repl_io.specs.declared.source.Got.{Got}
 use Rattle.repl_io.specs.declared.source.Got.TheVariants as got
 use Rattle.repl_io.specs.declared.sink.Put.{Put}
 use Rattle.repl_io.specs.declared.sink.Put.TheVariants as put
+use Rattle.repl_io.specs.Source.{SourceState}
+use Rattle.repl_io.specs.Sink.{SinkState}
 use Rattle.repl_io.specs.declared.std_stream.StdSource.{StdSource}
 use Rattle.repl_io.specs.declared.std_stream.StdSink.{StdSink}
+
+-- a source of std tells no bytes, and counts
+abbrev pub source_of : {R : Type 0} → StdSource R → SourceState
+source_of source = record { given = None; left = None; faults = source.faults; quiets = source.quiets; ends = source.ends }
+
+-- a sink of std tells no bytes, and counts
+abbrev pub sink_of : {W : Type 0} → StdSink W → SinkState
+sink_of sink = record { written = None; faults = sink.faults; wants = sink.wants }
 
 -- the bytes that the reader has left, where it tells them
 abbrev pub reader_left : {R : Type 0} → (R → Told) → StdSource R → Told

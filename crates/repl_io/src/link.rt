@@ -1,30 +1,44 @@
-ghost use Rattle.std.specs.Prelude.{refl};
-ghost use Rattle.repl_io.specs.Link.{SinkStays, SourceStays};
+ghost use Rattle.std.specs.Prelude.{◌≡◌};
+ghost use Rattle.repl_io.specs.Sink.{Sends};
 
 use crate::script::ScriptLink;
-use crate::sink::Sink;
+use crate::sink::{Put, Sent, Sink};
 use crate::source::Source;
 use crate::steady::SteadyLink;
 
 /// The two sides of one connection: a source and a sink that leave each other as they are.
 pub trait Link: Source + Sink {
     /// A read changes neither what is written nor the counts of the writes.
-    ghost reads_keep: { (s t : Self) → Self.read_keeps s t
-        → SinkStays (Self.written s) (Self.written t) (Self.Sink.faults s) (Self.Sink.faults t) (Self.wants s) (Self.wants t) };
+    ghost reads_keep: { (s t : Self) → Self.read_keeps s t → Self.sink t ≡ Self.sink s };
 
     /// A write changes neither what is given and left nor the counts of the reads.
-    ghost writes_keep: { (s t : Self) → Self.write_keeps s t
-        → SourceStays (Self.given s) (Self.given t) (Self.left s) (Self.left t) (Self.Source.faults s) (Self.Source.faults t) (Self.quiets s) (Self.quiets t) (Self.ends s) (Self.ends t) };
+    ghost writes_keep: { (s t : Self) → Self.write_keeps s t → Self.source t ≡ Self.source s };
 }
 
 impl Link for SteadyLink {
-    ghost reads_keep = { λ s t k. record { written = k.written; faults = refl; wants = k.wants } };
+    ghost reads_keep = { λ s t kept. kept };
 
-    ghost writes_keep = { λ s t k. record { given = k.given; left = k.left; faults = refl; quiets = refl; ends = k.ends } };
+    ghost writes_keep = { λ s t kept. kept };
 }
 
 impl Link for ScriptLink {
-    ghost reads_keep = { λ s t k. record { written = k.written; faults = k.faults; wants = k.wants } };
+    ghost reads_keep = { λ s t kept. kept };
 
-    ghost writes_keep = { λ s t k. record { given = k.given; left = k.left; faults = k.faults; quiets = k.quiets; ends = k.ends } };
+    ghost writes_keep = { λ s t kept. kept };
+}
+
+/// Writes all the bytes to a link, as `write_all` does to a sink, and leaves its reading side as it was.
+pub fn send_all<L: Link>(link: &mut L, bytes: &[u8]) -> Sent
+    ensures sends { Sends result bytes.now (L.sink link.old) (L.sink link.new) }
+    ensures source { L.source link.new ≡ L.source link.old }
+{
+    let mut start = 0;
+    while start < bytes.len() {
+        match link.write(&bytes[start..]) {
+            Put::Wrote(n) => start += n,
+            Put::Failed => return Sent::Failed,
+            Put::Memory => return Sent::Memory,
+        }
+    }
+    Sent::All
 }

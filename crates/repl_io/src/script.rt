@@ -38,7 +38,7 @@ pub struct ScriptLink {
 
 impl ScriptLink {
     ghost use Rattle.std.specs.Prelude.{Some, IfOk};
-    ghost use Rattle.repl_io.specs.Script.{IsFresh, written_of};
+    ghost use Rattle.repl_io.specs.Script.{IsFresh, sink_of};
 
     /// A link that reads by these steps, and whose writes with these numbers, counted from 1, fail.
     pub fn new(
@@ -65,36 +65,25 @@ impl ScriptLink {
 
     /// What was written so far.
     pub fn written(&self) -> &[u8]
-        ensures { written_of self.now ≡ Some result.now }
+        ensures { (sink_of self.now).written ≡ Some result.now }
     {
         &self.written
     }
 }
 
 impl Source for ScriptLink {
-    ghost use Rattle.repl_counts.specs.Counts.{RoseExactly};
-    ghost use Rattle.repl_io.specs.Source.{Reads, is_quiet, is_end, is_failed};
-    ghost use Rattle.repl_io.specs.Script.{given_of, left_of, read_faults_of, quiets_of, ends_of, KeepsSink, FollowsStep};
+    ghost use Rattle.repl_io.specs.Source.{CountsRead, Reads};
+    ghost use Rattle.repl_io.specs.Script.{source_of, KeepsSink, FollowsStep};
 
-    ghost given = { given_of };
-
-    ghost left = { left_of };
-
-    ghost faults = { read_faults_of };
-
-    ghost quiets = { quiets_of };
-
-    ghost ends = { ends_of };
+    ghost source = { source_of };
 
     ghost read_keeps = { KeepsSink };
 
     /// Reads as the next step says, and past the last step answers `End`.
     fn read(&mut self, room: &mut [u8]) -> Got
         requires { 0 < length room.old }
-        ensures moved { Reads result room.new (given_of self.old) (given_of self.new) (left_of self.old) (left_of self.new) }
-        ensures faults { RoseExactly (is_failed result) (read_faults_of self.old) (read_faults_of self.new) }
-        ensures quiets { RoseExactly (is_quiet result) (quiets_of self.old) (quiets_of self.new) }
-        ensures ends { RoseExactly (is_end result) (ends_of self.old) (ends_of self.new) }
+        ensures reads { Reads result room.new (source_of self.old) (source_of self.new) }
+        ensures counts { CountsRead result (source_of self.old) (source_of self.new) }
         ensures others { KeepsSink self.old self.new }
         ensures script { FollowsStep (length room.old) self.old result self.new }
     {
@@ -132,24 +121,18 @@ impl Source for ScriptLink {
 }
 
 impl Sink for ScriptLink {
-    ghost use Rattle.repl_counts.specs.Counts.{RoseExactly};
-    ghost use Rattle.repl_io.specs.Sink.{Writes, WritesWhole, is_failed, is_memory};
-    ghost use Rattle.repl_io.specs.Script.{written_of, write_faults_of, wants_of, KeepsSource, FollowsList};
+    ghost use Rattle.repl_io.specs.Sink.{CountsWrite, Writes, WritesWhole};
+    ghost use Rattle.repl_io.specs.Script.{sink_of, KeepsSource, FollowsList};
 
-    ghost written = { written_of };
-
-    ghost faults = { write_faults_of };
-
-    ghost wants = { wants_of };
+    ghost sink = { sink_of };
 
     ghost write_keeps = { KeepsSource };
 
     /// Fails at the writes of the list, and else writes the whole piece or answers `Memory`.
     fn write(&mut self, piece: &[u8]) -> Put
         requires { 0 < length piece.now }
-        ensures moved { Writes result piece.now (written_of self.old) (written_of self.new) }
-        ensures faults { RoseExactly (is_failed result) (write_faults_of self.old) (write_faults_of self.new) }
-        ensures wants { RoseExactly (is_memory result) (wants_of self.old) (wants_of self.new) }
+        ensures writes { Writes result piece.now (sink_of self.old) (sink_of self.new) }
+        ensures counts { CountsWrite result (sink_of self.old) (sink_of self.new) }
         ensures others { KeepsSource self.old self.new }
         ensures whole { WritesWhole result piece.now }
         ensures script { FollowsList self.old result self.new }

@@ -1,7 +1,5 @@
-ghost use Rattle.std.specs.Prelude.{◌≡◌, ℕ, ◌<◌, List, Option, length, take};
-ghost use Rattle.repl_counts.specs.Counts.{RoseExactly, Stood};
-ghost use Rattle.repl_counts.specs.Told.{Gained};
-ghost use Rattle.repl_io.specs.Sink.{Writes, Sends, is_failed, is_memory, has_failed, wants_memory};
+ghost use Rattle.std.specs.Prelude.{◌<◌, length};
+ghost use Rattle.repl_io.specs.Sink.{Writes, Sends, SinkState};
 
 /// What one write answers.
 #[derive(Clone, Copy, Debug, PartialEq, Eq)]
@@ -16,14 +14,8 @@ pub enum Put {
 
 /// Something that takes bytes, in order.
 pub trait Sink {
-    /// The bytes written so far, where the sink tells them.
-    ghost written: { Self → Option (List ℕ) };
-
-    /// How many writes answered `Failed`.
-    ghost faults: { Self → ℕ };
-
-    /// How many writes answered `Memory`.
-    ghost wants: { Self → ℕ };
+    /// What the sink tells, and its counts.
+    ghost sink: { Self → SinkState };
 
     /// What a write leaves as it was in an object that is more than a sink, as the bytes that a link has
     /// left to read. Holds of the object before and after each write.
@@ -32,9 +24,7 @@ pub trait Sink {
     /// Writes the front of `piece`, which is not empty.
     fn write(&mut self, piece: &[u8]) -> Put
         requires { 0 < length piece.now }
-        ensures moved { Writes result piece.now (written self.old) (written self.new) }
-        ensures faults { RoseExactly (is_failed result) (faults self.old) (faults self.new) }
-        ensures wants { RoseExactly (is_memory result) (wants self.old) (wants self.new) }
+        ensures writes { Writes result piece.now (sink self.old) (sink self.new) }
         ensures others { write_keeps self.old self.new };
 }
 
@@ -51,9 +41,7 @@ pub enum Sent {
 
 /// Writes all the bytes, in as many writes as the sink takes, and none of them again.
 pub fn write_all<K: Sink>(out: &mut K, bytes: &[u8]) -> Sent
-    ensures moved { Sends result bytes.now (K.written out.old) (K.written out.new) }
-    ensures faults { RoseExactly (has_failed result) (K.faults out.old) (K.faults out.new) }
-    ensures wants { RoseExactly (wants_memory result) (K.wants out.old) (K.wants out.new) }
+    ensures { Sends result bytes.now (K.sink out.old) (K.sink out.new) }
 {
     let mut start = 0;
     while start < bytes.len() {

@@ -1,5 +1,4 @@
-ghost use Rattle.std.specs.Prelude.{◌≡◌, ℕ, ◌<◌, None, length};
-ghost use Rattle.repl_counts.specs.Counts.{RoseExactly};
+ghost use Rattle.std.specs.Prelude.{◌<◌, length};
 
 use crate::sink::{Put, Sink};
 use crate::source::{Got, Source};
@@ -37,26 +36,16 @@ impl<R: Read> StdSource<R> {
 }
 
 impl<R: Read> Source for StdSource<R> {
-    ghost use Rattle.repl_io.specs.Source.{Reads, is_quiet, is_end, is_failed};
-    ghost use Rattle.repl_io.specs.Streams.{reader_left, TakesTold};
+    ghost use Rattle.repl_io.specs.Source.{CountsRead, Reads};
+    ghost use Rattle.repl_io.specs.Streams.{reader_left, source_of, TakesTold};
 
-    ghost given = { λ _. None };
-
-    ghost left = { λ _. None };
-
-    ghost faults = { λ s. s.faults };
-
-    ghost quiets = { λ s. s.quiets };
-
-    ghost ends = { λ s. s.ends };
+    ghost source = { source_of };
 
     /// A read that a signal interrupts is quiet.
     fn read(&mut self, room: &mut [u8]) -> Got
         requires { 0 < length room.old }
-        ensures moved { Reads result room.new None None None None }
-        ensures faults { RoseExactly (is_failed result) self.old.faults self.new.faults }
-        ensures quiets { RoseExactly (is_quiet result) self.old.quiets self.new.quiets }
-        ensures ends { RoseExactly (is_end result) self.old.ends self.new.ends }
+        ensures reads { Reads result room.new (source_of self.old) (source_of self.new) }
+        ensures counts { CountsRead result (source_of self.old) (source_of self.new) }
         ensures told { TakesTold result room.new (reader_left R.remaining self.old) (reader_left R.remaining self.new) }
     {
         match self.reader.read(room) {
@@ -107,21 +96,16 @@ impl<W: Write> StdSink<W> {
 }
 
 impl<W: Write> Sink for StdSink<W> {
-    ghost use Rattle.repl_io.specs.Sink.{Writes, is_failed, is_memory};
-    ghost use Rattle.repl_io.specs.Streams.{writer_holds, AddsTold};
+    ghost use Rattle.repl_io.specs.Sink.{CountsWrite, Writes};
+    ghost use Rattle.repl_io.specs.Streams.{sink_of, writer_holds, AddsTold};
 
-    ghost written = { λ _. None };
-
-    ghost faults = { λ s. s.faults };
-
-    ghost wants = { λ s. s.wants };
+    ghost sink = { sink_of };
 
     /// A write that takes nothing is a fault.
     fn write(&mut self, piece: &[u8]) -> Put
         requires { 0 < length piece.now }
-        ensures moved { Writes result piece.now None None }
-        ensures faults { RoseExactly (is_failed result) self.old.faults self.new.faults }
-        ensures wants { RoseExactly (is_memory result) self.old.wants self.new.wants }
+        ensures writes { Writes result piece.now (sink_of self.old) (sink_of self.new) }
+        ensures counts { CountsWrite result (sink_of self.old) (sink_of self.new) }
         ensures told { AddsTold result piece.now (writer_holds W.contents self.old) (writer_holds W.contents self.new) }
     {
         match self.writer.write(piece) {

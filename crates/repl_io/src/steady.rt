@@ -20,7 +20,7 @@ pub struct SteadyLink {
 
 impl SteadyLink {
     ghost use Rattle.std.specs.Prelude.{[], Some, IfOk};
-    ghost use Rattle.repl_io.specs.Steady.{IsFresh, written_of};
+    ghost use Rattle.repl_io.specs.Steady.{IsFresh, sink_of};
 
     /// A link that gives this input, and to which nothing is written yet.
     pub fn new(alloc: Global, input: Vec<u8>) -> Result<SteadyLink, AllocError>
@@ -37,7 +37,7 @@ impl SteadyLink {
 
     /// What was written so far.
     pub fn written(&self) -> &[u8]
-        ensures { written_of self.now ≡ Some result.now }
+        ensures { (sink_of self.now).written ≡ Some result.now }
     {
         &self.written
     }
@@ -45,31 +45,20 @@ impl SteadyLink {
 
 impl Source for SteadyLink {
     ghost use Rattle.std.specs.Prelude.{◌<◌};
-    ghost use Rattle.repl_counts.specs.Counts.{RoseExactly};
-    ghost use Rattle.repl_io.specs.Source.{Reads, is_quiet, is_end, is_failed};
-    ghost use Rattle.repl_io.specs.Steady.{given_of, left_of, ends_of, GivesAll, KeepsSink};
+    ghost use Rattle.repl_io.specs.Source.{CountsRead, Reads};
+    ghost use Rattle.repl_io.specs.Steady.{source_of, GivesAll, KeepsSink};
 
-    ghost given = { given_of };
-
-    ghost left = { left_of };
-
-    ghost faults = { λ _. 0 };
-
-    ghost quiets = { λ _. 0 };
-
-    ghost ends = { ends_of };
+    ghost source = { source_of };
 
     ghost read_keeps = { KeepsSink };
 
     /// Gives as much of the input as fits the room, and at its end `End`.
     fn read(&mut self, room: &mut [u8]) -> Got
         requires { 0 < length room.old }
-        ensures moved { Reads result room.new (given_of self.old) (given_of self.new) (left_of self.old) (left_of self.new) }
-        ensures faults { RoseExactly (is_failed result) 0 0 }
-        ensures quiets { RoseExactly (is_quiet result) 0 0 }
-        ensures ends { RoseExactly (is_end result) (ends_of self.old) (ends_of self.new) }
+        ensures reads { Reads result room.new (source_of self.old) (source_of self.new) }
+        ensures counts { CountsRead result (source_of self.old) (source_of self.new) }
         ensures others { KeepsSink self.old self.new }
-        ensures all { GivesAll (length room.old) (left_of self.old) result }
+        ensures all { GivesAll (length room.old) (source_of self.old).left result }
     {
         if self.taken == self.input.len() {
             self.ends.raise();
@@ -83,24 +72,18 @@ impl Source for SteadyLink {
 
 impl Sink for SteadyLink {
     ghost use Rattle.std.specs.Prelude.{◌<◌};
-    ghost use Rattle.repl_counts.specs.Counts.{RoseExactly};
-    ghost use Rattle.repl_io.specs.Sink.{Writes, WritesWhole, is_failed, is_memory};
-    ghost use Rattle.repl_io.specs.Steady.{written_of, wants_of, KeepsSource};
+    ghost use Rattle.repl_io.specs.Sink.{CountsWrite, Writes, WritesWhole};
+    ghost use Rattle.repl_io.specs.Steady.{sink_of, KeepsSource};
 
-    ghost written = { written_of };
-
-    ghost faults = { λ _. 0 };
-
-    ghost wants = { wants_of };
+    ghost sink = { sink_of };
 
     ghost write_keeps = { KeepsSource };
 
     /// Writes the whole piece, or answers `Memory`.
     fn write(&mut self, piece: &[u8]) -> Put
         requires { 0 < length piece.now }
-        ensures moved { Writes result piece.now (written_of self.old) (written_of self.new) }
-        ensures faults { RoseExactly (is_failed result) 0 0 }
-        ensures wants { RoseExactly (is_memory result) (wants_of self.old) (wants_of self.new) }
+        ensures writes { Writes result piece.now (sink_of self.old) (sink_of self.new) }
+        ensures counts { CountsWrite result (sink_of self.old) (sink_of self.new) }
         ensures others { KeepsSource self.old self.new }
         ensures whole { WritesWhole result piece.now }
     {

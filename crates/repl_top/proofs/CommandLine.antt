@@ -1,4 +1,4 @@
--- Command lines word by word: which numbers the words say, and where words that are no command line go
+-- Task lines word by word: which numbers the words say, and where words that are no command line go
 -- wrong.
 use Rattle.std.proofs.Common.{◌≡◌, ℕ, ◌+◌, ◌<◌, ◌≤◌, List, [], ◌∷◌, ◌++◌, length, get_or, take, refl, sym, ap, subst, ◌∙◌, arith, codes}
 use Rattle.std.proofs.lemmas.List.{take_all}
@@ -7,10 +7,10 @@ use Rattle.repl_lsn.specs.Position.{Spells}
 use Rattle.repl_lsn.proofs.Splits.{one_position}
 use Rattle.repl_message.specs.declared.message.Side.{Side}
 use Rattle.repl_message.specs.declared.message.Side.TheVariants as side
-use Rattle.repl_top.specs.declared.words.Identity.{Identity}
-use Rattle.repl_top.specs.declared.words.Command.{Command}
-use Rattle.repl_top.specs.declared.words.Command.TheVariants as command
-use Rattle.repl_top.specs.Words.{IsDecimal, IsSystem, IsTimeline, IsIdentify, IsFrames, IsNames, IsHistory, IsCommand, IsCommandLine, IsUsage, side_word}
+use Rattle.repl_top.specs.declared.words.SystemIdentity.{SystemIdentity}
+use Rattle.repl_top.specs.declared.words.Task.{Task}
+use Rattle.repl_top.specs.declared.words.Task.TheVariants as task
+use Rattle.repl_top.specs.Words.{IsDecimal, IsSystem, IsTimeline, IsIdentify, IsFrames, IsNames, IsHistory, IsTask, IsCommandLine, IsUsage, side_word}
 
 -- ---- the first word tells the command
 
@@ -32,7 +32,7 @@ frames_or_history e = cc
 names_or_history : codes "names" ≡ codes "history" → ⊥
 names_or_history e = cc
 
-identify_first : (words : List (List ℕ)) (identity : Identity) → IsIdentify words identity → get_or words 0 [] ≡ codes "identify"
+identify_first : (words : List (List ℕ)) (identity : SystemIdentity) → IsIdentify words identity → get_or words 0 [] ≡ codes "identify"
 identify_first words identity h = ap (λ w. get_or w 0 []) h.parts
 
 frames_first : (words : List (List ℕ)) (s : Side) → IsFrames words s → get_or words 0 [] ≡ codes "frames"
@@ -44,48 +44,48 @@ names_first words text h = ap (λ w. get_or w 0 []) h
 history_first : (words : List (List ℕ)) (own : ℕ) → IsHistory words own → get_or words 0 [] ≡ codes "history"
 history_first words own h = ap (λ w. get_or w 0 []) h.parts
 
-of_identify : (words : List (List ℕ)) (c : Command) → get_or words 0 [] ≡ codes "identify" → IsCommand words c → (identity : Identity) × IsIdentify words identity
-of_identify words (command.Identify identity) first h = (identity, h)
-of_identify words (command.Frames s) first h = absurd (identify_or_frames (sym first ∙ frames_first words s h))
-of_identify words command.Names first h = absurd (identify_or_names (sym first ∙ names_first words h.0 h.1))
-of_identify words (command.History own) first h = absurd (identify_or_history (sym first ∙ history_first words own h))
+of_identify : (words : List (List ℕ)) (c : Task) → get_or words 0 [] ≡ codes "identify" → IsTask words c → (identity : SystemIdentity) × IsIdentify words identity
+of_identify words (task.Identify identity) first h = (identity, h)
+of_identify words (task.Frames s) first h = absurd (identify_or_frames (sym first ∙ frames_first words s h))
+of_identify words task.Names first h = absurd (identify_or_names (sym first ∙ names_first words h.0 h.1))
+of_identify words (task.History own) first h = absurd (identify_or_history (sym first ∙ history_first words own h))
 
-of_frames : (words : List (List ℕ)) (c : Command) → get_or words 0 [] ≡ codes "frames" → IsCommand words c → (s : Side) × IsFrames words s
-of_frames words (command.Identify identity) first h = absurd (identify_or_frames (sym (identify_first words identity h) ∙ first))
-of_frames words (command.Frames s) first h = (s, h)
-of_frames words command.Names first h = absurd (frames_or_names (sym first ∙ names_first words h.0 h.1))
-of_frames words (command.History own) first h = absurd (frames_or_history (sym first ∙ history_first words own h))
+of_frames : (words : List (List ℕ)) (c : Task) → get_or words 0 [] ≡ codes "frames" → IsTask words c → (s : Side) × IsFrames words s
+of_frames words (task.Identify identity) first h = absurd (identify_or_frames (sym (identify_first words identity h) ∙ first))
+of_frames words (task.Frames s) first h = (s, h)
+of_frames words task.Names first h = absurd (frames_or_names (sym first ∙ names_first words h.0 h.1))
+of_frames words (task.History own) first h = absurd (frames_or_history (sym first ∙ history_first words own h))
 
-of_names : (words : List (List ℕ)) (c : Command) → get_or words 0 [] ≡ codes "names" → IsCommand words c → (text : List ℕ) × IsNames words text
-of_names words (command.Identify identity) first h = absurd (identify_or_names (sym (identify_first words identity h) ∙ first))
-of_names words (command.Frames s) first h = absurd (frames_or_names (sym (frames_first words s h) ∙ first))
-of_names words command.Names first h = h
-of_names words (command.History own) first h = absurd (names_or_history (sym first ∙ history_first words own h))
+of_names : (words : List (List ℕ)) (c : Task) → get_or words 0 [] ≡ codes "names" → IsTask words c → (text : List ℕ) × IsNames words text
+of_names words (task.Identify identity) first h = absurd (identify_or_names (sym (identify_first words identity h) ∙ first))
+of_names words (task.Frames s) first h = absurd (frames_or_names (sym (frames_first words s h) ∙ first))
+of_names words task.Names first h = h
+of_names words (task.History own) first h = absurd (names_or_history (sym first ∙ history_first words own h))
 
-of_history : (words : List (List ℕ)) (c : Command) → get_or words 0 [] ≡ codes "history" → IsCommand words c → (own : ℕ) × IsHistory words own
-of_history words (command.Identify identity) first h = absurd (identify_or_history (sym (identify_first words identity h) ∙ first))
-of_history words (command.Frames s) first h = absurd (frames_or_history (sym (frames_first words s h) ∙ first))
-of_history words command.Names first h = absurd (names_or_history (sym (names_first words h.0 h.1) ∙ first))
-of_history words (command.History own) first h = (own, h)
+of_history : (words : List (List ℕ)) (c : Task) → get_or words 0 [] ≡ codes "history" → IsTask words c → (own : ℕ) × IsHistory words own
+of_history words (task.Identify identity) first h = absurd (identify_or_history (sym (identify_first words identity h) ∙ first))
+of_history words (task.Frames s) first h = absurd (frames_or_history (sym (frames_first words s h) ∙ first))
+of_history words task.Names first h = absurd (names_or_history (sym (names_first words h.0 h.1) ∙ first))
+of_history words (task.History own) first h = (own, h)
 
 -- no other first word is one of a command
-no_other_first : (words : List (List ℕ)) (c : Command) → (get_or words 0 [] ≡ codes "identify" → ⊥) → (get_or words 0 [] ≡ codes "frames" → ⊥) → (get_or words 0 [] ≡ codes "names" → ⊥) → (get_or words 0 [] ≡ codes "history" → ⊥) → IsCommand words c → ⊥
-no_other_first words (command.Identify identity) i f n y h = i (identify_first words identity h)
-no_other_first words (command.Frames s) i f n y h = f (frames_first words s h)
-no_other_first words command.Names i f n y h = n (names_first words h.0 h.1)
-no_other_first words (command.History own) i f n y h = y (history_first words own h)
+no_other_first : (words : List (List ℕ)) (c : Task) → (get_or words 0 [] ≡ codes "identify" → ⊥) → (get_or words 0 [] ≡ codes "frames" → ⊥) → (get_or words 0 [] ≡ codes "names" → ⊥) → (get_or words 0 [] ≡ codes "history" → ⊥) → IsTask words c → ⊥
+no_other_first words (task.Identify identity) i f n y h = i (identify_first words identity h)
+no_other_first words (task.Frames s) i f n y h = f (frames_first words s h)
+no_other_first words task.Names i f n y h = n (names_first words h.0 h.1)
+no_other_first words (task.History own) i f n y h = y (history_first words own h)
 
 -- ---- `identify`
 
 -- what each word is
-pub record WordByWord (words : List (List ℕ)) (identity : Identity) : Type 0 where
+pub record WordByWord (words : List (List ℕ)) (identity : SystemIdentity) : Type 0 where
   pub four : length words ≡ 4
   pub first : get_or words 0 [] ≡ codes "identify"
   pub system : IsSystem (get_or words 1 []) identity.system
   pub timeline : IsTimeline (get_or words 2 []) identity.timeline
   pub flushed : Spells (get_or words 3 []) identity.flushed
 
-pub word_by_word : (words : List (List ℕ)) (identity : Identity) → IsIdentify words identity → WordByWord words identity
+pub word_by_word : (words : List (List ℕ)) (identity : SystemIdentity) → IsIdentify words identity → WordByWord words identity
 word_by_word words identity h = subst (λ w. WordByWord w identity) (sym h.parts) (record {
   four = refl;
   first = refl;
@@ -128,12 +128,12 @@ zero_position =
 
 pub command_line : (system timeline flushed : List ℕ) (s t f : ℕ) → IsSystem system s → IsTimeline timeline t → Spells flushed f → IsCommandLine (codes "identify" ∷ system ∷ timeline ∷ flushed ∷ [])
 command_line system timeline flushed s t f s_is t_is f_is = (
-  command.Identify (record { system = s; timeline = t; flushed = f }),
+  task.Identify (record { system = s; timeline = t; flushed = f }),
   record { system_word = system; timeline_word = timeline; flushed_word = flushed; parts = refl; system = s_is; timeline = t_is; flushed = f_is },
 )
 
 -- what a command line is that begins with the word `identify`
-like_identify : (words other : List (List ℕ)) (place : ℕ) → get_or words 0 [] ≡ codes "identify" → Follows [] words place other → IsCommandLine other → (identity : Identity) × WordByWord other identity
+like_identify : (words other : List (List ℕ)) (place : ℕ) → get_or words 0 [] ≡ codes "identify" → Follows [] words place other → IsCommandLine other → (identity : SystemIdentity) × WordByWord other identity
 like_identify words other place first f p =
     let found = of_identify other p.0 (f.same 0 (omega arith) ∙ first) p.1 in
     (found.0, word_by_word other found.0 found.1)
@@ -144,7 +144,7 @@ pub stops_at_command : (words : List (List ℕ)) → (get_or words 0 [] ≡ code
 stops_at_command words i f n y = record {
   place = 0;
   number = refl;
-  stops = stops_from IsCommandLine [] words 0 (omega arith) (codes "frames" ∷ codes "front" ∷ [], (command.Frames side.Front, refl))
+  stops = stops_from IsCommandLine [] words 0 (omega arith) (codes "frames" ∷ codes "front" ∷ [], (task.Frames side.Front, refl))
       (λ other g p. let same = sym (g.same 0 (omega arith)) in no_other_first other p.0 (λ e. i (same ∙ e)) (λ e. f (same ∙ e)) (λ e. n (same ∙ e)) (λ e. y (same ∙ e)) p.1);
 }
 
@@ -238,7 +238,7 @@ stops_at_side (a ∷ words) first front back = record {
   place = 1;
   number = refl;
   stops = stops_from IsCommandLine [] (a ∷ words) 1 (omega arith)
-      (codes "front" ∷ [], subst (λ w. IsCommandLine (w ∷ codes "front" ∷ [])) (sym first) (command.Frames side.Front, refl))
+      (codes "front" ∷ [], subst (λ w. IsCommandLine (w ∷ codes "front" ∷ [])) (sym first) (task.Frames side.Front, refl))
       (λ other f p.
       let found = like_frames (a ∷ words) other 1 first f p in
       no_other_side (get_or (a ∷ words) 1 []) found.0 front back (sym (f.same 1 (omega arith)) ∙ ap (λ w. get_or w 1 []) found.1));
@@ -260,7 +260,7 @@ stops_after_side words s first second more = record {
   place = 2;
   number = refl;
   stops = stops_from IsCommandLine [] words 2 (omega arith)
-      ([], (command.Frames s, ap (λ w. w ++ []) (frames_words words s first second)))
+      ([], (task.Frames s, ap (λ w. w ++ []) (frames_words words s first second)))
       (λ other g p.
       let found = like_frames words other 2 first g p in
       omega (arith, g.long more, ap (λ w. length w) found.1));
@@ -288,7 +288,7 @@ stops_at_text (a ∷ []) first few = record {
     refused = λ p.
         let found = of_names (a ∷ []) p.0 first p.1 in
         omega (arith, ap (λ w. length w) found.1);
-    goes_on = ([] ∷ [], (command.Names, ([], ap (λ w. w ∷ [] ∷ []) first)));
+    goes_on = ([] ∷ [], (task.Names, ([], ap (λ w. w ∷ [] ∷ []) first)));
     stops = λ more. absurd (omega (arith, more));
   };
 }
@@ -301,7 +301,7 @@ stops_after_text (a ∷ b ∷ words) first more = record {
   place = 2;
   number = refl;
   stops = stops_from IsCommandLine [] (a ∷ b ∷ words) 2 (omega arith)
-      ([], (command.Names, (b, ap (λ w. w ∷ b ∷ []) first)))
+      ([], (task.Names, (b, ap (λ w. w ∷ b ∷ []) first)))
       (λ other g p.
       let found = of_names other p.0 (g.same 0 (omega arith) ∙ first) p.1 in
       omega (arith, g.long more, ap (λ w. length w) found.1));
@@ -310,7 +310,7 @@ stops_after_text (a ∷ b ∷ words) first more = record {
 -- ---- `history`
 
 history_line : (word : List ℕ) (own : ℕ) → IsTimeline word own → IsCommandLine (codes "history" ∷ word ∷ [])
-history_line word own is = (command.History own, record { own_word = word; parts = refl; timeline = is })
+history_line word own is = (task.History own, record { own_word = word; parts = refl; timeline = is })
 
 -- the second word says the timeline
 second_own : (words : List (List ℕ)) (own : ℕ) → IsHistory words own → IsTimeline (get_or words 1 []) own
@@ -360,7 +360,7 @@ is_history words own first own_is all = record {
 one_decimal : (word : List ℕ) (a b : ℕ) → IsDecimal word a → IsDecimal word b → a ≡ b
 one_decimal word a b p q = p.value ∙ sym q.value
 
-pub one_identity : (words : List (List ℕ)) (a b : Identity) → IsIdentify words a → IsIdentify words b → a ≡ b
+pub one_identity : (words : List (List ℕ)) (a b : SystemIdentity) → IsIdentify words a → IsIdentify words b → a ≡ b
 one_identity words a b p q =
     let u = word_by_word words a p in
     let v = word_by_word words b q in
@@ -376,23 +376,23 @@ one_own : (words : List (List ℕ)) (a b : ℕ) → IsHistory words a → IsHist
 one_own words a b p q = one_decimal (get_or words 1 []) a b (second_own words a p).0 (second_own words b q).0
 
 -- the words tell the command
-pub one_command : (words : List (List ℕ)) (a b : Command) → IsCommand words a → IsCommand words b → a ≡ b
-one_command words (command.Identify a) (command.Identify b) p q = ap (λ i. command.Identify i) (one_identity words a b p q)
-one_command words (command.Identify a) (command.Frames t) p q = absurd (identify_or_frames (sym (identify_first words a p) ∙ frames_first words t q))
-one_command words (command.Identify a) command.Names p q = absurd (identify_or_names (sym (identify_first words a p) ∙ names_first words q.0 q.1))
-one_command words (command.Identify a) (command.History b) p q = absurd (identify_or_history (sym (identify_first words a p) ∙ history_first words b q))
-one_command words (command.Frames s) (command.Identify b) p q = absurd (identify_or_frames (sym (identify_first words b q) ∙ frames_first words s p))
-one_command words (command.Frames s) (command.Frames t) p q = ap (λ side. command.Frames side) (one_side s t (ap (λ w. get_or w 1 []) (sym p ∙ q)))
-one_command words (command.Frames s) command.Names p q = absurd (frames_or_names (sym (frames_first words s p) ∙ names_first words q.0 q.1))
-one_command words (command.Frames s) (command.History b) p q = absurd (frames_or_history (sym (frames_first words s p) ∙ history_first words b q))
-one_command words command.Names (command.Identify b) p q = absurd (identify_or_names (sym (identify_first words b q) ∙ names_first words p.0 p.1))
-one_command words command.Names (command.Frames t) p q = absurd (frames_or_names (sym (frames_first words t q) ∙ names_first words p.0 p.1))
-one_command words command.Names command.Names p q = refl
-one_command words command.Names (command.History b) p q = absurd (names_or_history (sym (names_first words p.0 p.1) ∙ history_first words b q))
-one_command words (command.History a) (command.Identify b) p q = absurd (identify_or_history (sym (identify_first words b q) ∙ history_first words a p))
-one_command words (command.History a) (command.Frames t) p q = absurd (frames_or_history (sym (frames_first words t q) ∙ history_first words a p))
-one_command words (command.History a) command.Names p q = absurd (names_or_history (sym (names_first words q.0 q.1) ∙ history_first words a p))
-one_command words (command.History a) (command.History b) p q = ap (λ own. command.History own) (one_own words a b p q)
+pub one_command : (words : List (List ℕ)) (a b : Task) → IsTask words a → IsTask words b → a ≡ b
+one_command words (task.Identify a) (task.Identify b) p q = ap (λ i. task.Identify i) (one_identity words a b p q)
+one_command words (task.Identify a) (task.Frames t) p q = absurd (identify_or_frames (sym (identify_first words a p) ∙ frames_first words t q))
+one_command words (task.Identify a) task.Names p q = absurd (identify_or_names (sym (identify_first words a p) ∙ names_first words q.0 q.1))
+one_command words (task.Identify a) (task.History b) p q = absurd (identify_or_history (sym (identify_first words a p) ∙ history_first words b q))
+one_command words (task.Frames s) (task.Identify b) p q = absurd (identify_or_frames (sym (identify_first words b q) ∙ frames_first words s p))
+one_command words (task.Frames s) (task.Frames t) p q = ap (λ side. task.Frames side) (one_side s t (ap (λ w. get_or w 1 []) (sym p ∙ q)))
+one_command words (task.Frames s) task.Names p q = absurd (frames_or_names (sym (frames_first words s p) ∙ names_first words q.0 q.1))
+one_command words (task.Frames s) (task.History b) p q = absurd (frames_or_history (sym (frames_first words s p) ∙ history_first words b q))
+one_command words task.Names (task.Identify b) p q = absurd (identify_or_names (sym (identify_first words b q) ∙ names_first words p.0 p.1))
+one_command words task.Names (task.Frames t) p q = absurd (frames_or_names (sym (frames_first words t q) ∙ names_first words p.0 p.1))
+one_command words task.Names task.Names p q = refl
+one_command words task.Names (task.History b) p q = absurd (names_or_history (sym (names_first words p.0 p.1) ∙ history_first words b q))
+one_command words (task.History a) (task.Identify b) p q = absurd (identify_or_history (sym (identify_first words b q) ∙ history_first words a p))
+one_command words (task.History a) (task.Frames t) p q = absurd (frames_or_history (sym (frames_first words t q) ∙ history_first words a p))
+one_command words (task.History a) task.Names p q = absurd (names_or_history (sym (names_first words q.0 q.1) ∙ history_first words a p))
+one_command words (task.History a) (task.History b) p q = ap (λ own. task.History own) (one_own words a b p q)
 
 pub one_usage : (words : List (List ℕ)) (j k : ℕ) → IsUsage words j → IsUsage words k → j ≡ k
 one_usage words j k p q = p.number ∙ ap (λ place. place + 1) (one_place IsCommandLine words p.place q.place p.stops q.stops) ∙ sym q.number

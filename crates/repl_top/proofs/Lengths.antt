@@ -7,7 +7,7 @@ use Rattle.std.proofs.lemmas.List.Concat.{flat_map-append}
 use Rattle.repl_lsn.specs.Position.{position_text, IsCanonical}
 use Rattle.repl_message.specs.declared.back.Back.{Back}
 use Rattle.repl_message.specs.Message.{back_spelling, counted, column}
-use Rattle.repl_top.specs.declared.words.Identity.{Identity}
+use Rattle.repl_top.specs.declared.words.SystemIdentity.{SystemIdentity}
 use Rattle.repl_top.specs.Answer.{answer_row}
 
 -- a position's text has at most two halves of eight digits and a slash
@@ -19,7 +19,7 @@ length-canonical text position canonical =
 pub length-column : (text : List ℕ) (others : List (Option (List ℕ))) → length (flat_map column (Some text ∷ others)) ≡ length text + 4 + length (flat_map column others)
 length-column text others = omega (arith, length-append (column (Some text)) (flat_map column others))
 
-pub length-answer_row : (identity : Identity) → length (decimal identity.system) ≤ 20 → length (decimal identity.timeline) ≤ 20 → length (position_text identity.flushed) ≤ 17 → length (counted column (answer_row identity)) ≤ 100
+pub length-answer_row : (identity : SystemIdentity) → length (decimal identity.system) ≤ 20 → length (decimal identity.timeline) ≤ 20 → length (position_text identity.flushed) ≤ 17 → length (counted column (answer_row identity)) ≤ 100
 length-answer_row identity system timeline flushed =
     let third : List (Option (List ℕ)) = Some (position_text identity.flushed) ∷ None ∷ [] in
     let a = length-column (decimal identity.system) (Some (decimal identity.timeline) ∷ third) in

@@ -2,7 +2,7 @@ pub mod Moves
 pub mod Lengths
 pub mod Decimal
 pub mod CommandLine
-pub mod Parameters
+pub mod Replication
 pub mod Stages
 pub mod Sessions
 pub mod Messages
@@ -11,3 +11,4 @@ pub mod Steps
 pub mod HistoryEnds
 pub mod Streams
 pub mod FrameLines
+pub mod FrameProgress

@@ -12,7 +12,7 @@ use Rattle.repl_lsn.proofs.Canonical.{position_text_canonical}
 use Rattle.repl_message.specs.declared.back.TransactionStatus.TheVariants.{Idle}
 use Rattle.repl_message.specs.declared.back.Back.TheVariants as back
 use Rattle.repl_message.specs.Message.{counted, column, AreBytes, FitsField, IsBack, AreMessages, back_spelling}
-use Rattle.repl_top.specs.declared.words.Identity.{Identity}
+use Rattle.repl_top.specs.declared.words.SystemIdentity.{SystemIdentity}
 use Rattle.repl_top.specs.Words.{IsIdentify}
 use Rattle.repl_top.specs.Answer.{greeting, identification, answer, answer_fields, answer_row, text_field, int8_field}
 use Rattle.repl_top.proofs.Lengths.{length-canonical, length-answer_row}
@@ -80,12 +80,12 @@ description =
     record { fits = (omega arith, (systemid, (timeline, (xlogpos, (dbname, tt))))); within = omega arith }
 
 -- an identity whose numbers have their types
-pub record IsInRange (identity : Identity) : Type 0 where
+pub record IsInRange (identity : SystemIdentity) : Type 0 where
   pub system : identity.system < 2 ^ 64
   pub timeline : identity.timeline < 2 ^ 32
   pub flushed : identity.flushed < 2 ^ 64
 
-row : (identity : Identity) → IsInRange identity → IsBack (back.DataRow (answer_row identity))
+row : (identity : SystemIdentity) → IsInRange identity → IsBack (back.DataRow (answer_row identity))
 row identity h =
     let canonical = position_text_canonical identity.flushed h.flushed in
     let system = length-decimal-le 20 identity.system (omega arith) (omega (arith, h.system)) h.system in
@@ -97,7 +97,7 @@ row identity h =
       within = omega (arith, short);
     }
 
-identification_messages : (identity : Identity) → IsInRange identity → AllByRecursion IsBack (identification identity)
+identification_messages : (identity : SystemIdentity) → IsInRange identity → AllByRecursion IsBack (identification identity)
 identification_messages identity h =
     let complete : IsBack (back.CommandComplete (codes "IDENTIFY_SYSTEM")) = record { fits = text_from_test (codes "IDENTIFY_SYSTEM") refl; within = omega arith } in
     (description, (row identity h, (complete, (ready, tt))))
@@ -110,14 +110,14 @@ all_repeated : {A : Type 0} (P : A → Type 0) (n : ℕ) (xs : List A) → AllBy
 all_repeated P zero xs all = tt
 all_repeated P (suc n) xs all = all_both P xs (repeat n xs) all (all_repeated P n xs all)
 
-pub answer_messages : (identity : Identity) (questions : ℕ) → IsInRange identity → AreMessages (flat_map back_spelling (answer identity questions)) (answer identity questions)
+pub answer_messages : (identity : SystemIdentity) (questions : ℕ) → IsInRange identity → AreMessages (flat_map back_spelling (answer identity questions)) (answer identity questions)
 answer_messages identity questions h = record {
   each = all_both IsBack (greeting 1) (repeat questions (identification identity)) greeting_messages (all_repeated IsBack questions (identification identity) (identification_messages identity h));
   spelled = refl;
 }
 
 -- the words of a command say such an identity
-pub identify_in_range : (words : List (List ℕ)) (identity : Identity) → IsIdentify words identity → IsInRange identity
+pub identify_in_range : (words : List (List ℕ)) (identity : SystemIdentity) → IsIdentify words identity → IsInRange identity
 identify_in_range words identity h =
     let spells = h.flushed in
     record {

@@ -11,17 +11,17 @@ use Rattle.repl_wire.specs.declared.fault.WireFault.{WireFault}
 use Rattle.repl_wire.specs.declared.taking.Taken.TheVariants as taken
 use Rattle.repl_wire.specs.Judging.{judge}
 use Rattle.repl_wire.specs.Reader.{Reading, Waits, AreRead, fed}
-use Rattle.repl_top.specs.declared.session.Session.{Session}
+use Rattle.repl_top.specs.declared.stage.Session.{Session}
 use Rattle.repl_top.specs.declared.stage.Stage.{Stage}
 use Rattle.repl_top.specs.declared.stage.Stage.TheVariants as stage
-use Rattle.repl_top.specs.Session.{AreSomeSession, IsSession, IsRefusedAt}
-use Rattle.repl_top.specs.Stages.{counted, Goes, Lead, Halts, Walked, Stuck}
+use Rattle.repl_top.specs.Session.{AreSomeSession, IsSession, IsNoSessionAt}
+use Rattle.repl_top.specs.Stages.{asks, Goes, Lead, Halts, Walked, Stuck}
 use Rattle.repl_top.proofs.Stages.{lead_then, lead_one, lead_to_one, goes_few, session_from, session_leads, stage_begins, begins_goes, session_over, over}
 use Rattle.repl_top.proofs.Streams.{read_then, read_more, read_one, spelling_some, stuck_short, stuck_wrong, judge_empty, refused_some, front_one, Further, readings, none_further, all_one}
 
 -- ---- a reader gives messages
 
-pub walked_none : (r : Reading) (a : Stage) → counted a ≤ r.place → Walked r a r a
+pub walked_none : (r : Reading) (a : Stage) → asks a ≤ r.place → Walked r a r a
 walked_none r a few = record { messages = []; read = (refl, refl); place = refl; lead = refl; few = few }
 
 pub walked_more : (old r new : Reading) (from a b : Stage) (m : Message) (behind : List ℕ) → Walked old from r a → old.place + length old.rest < 2 ^ 64 → Belongs r.phase m → r.rest ≡ spelling m ++ behind
@@ -40,7 +40,7 @@ walked_more old r new from a b m behind w fits belongs parts next goes =
     })
 
 -- where a message is left, there are fewer than 2^64 - 1
-pub counted_less : (old r : Reading) (from a : Stage) (m : Message) (behind : List ℕ) → Walked old from r a → old.place + length old.rest < 2 ^ 64 → r.rest ≡ spelling m ++ behind → counted a < 2 ^ 64 - 1
+pub counted_less : (old r : Reading) (from a : Stage) (m : Message) (behind : List ℕ) → Walked old from r a → old.place + length old.rest < 2 ^ 64 → r.rest ≡ spelling m ++ behind → asks a < 2 ^ 64 - 1
 counted_less old r from a m behind w fits parts =
     omega (arith, w.few, w.place, fits, ap length parts, length-append (spelling m) behind, spelling_some m)
 
@@ -85,7 +85,7 @@ pub record SoFar (input left : List ℕ) (r : Reading) (a : Stage) : Type 0 wher
   pub read : AreRead phase.Startup done messages r.phase r.rest
   pub lead : Lead (stage.Starting 0) messages a
   pub place : r.place + length r.rest ≡ length done
-  pub few : counted a ≤ r.place
+  pub few : asks a ≤ r.place
   pub waits : Waits r
 
 pub so_far_none : (input : List ℕ) (r : Reading) → r ≡ record { phase = phase.Startup; place = 0; rest = [] } → SoFar input input r (stage.Starting 0)
@@ -108,7 +108,7 @@ pub record Fed (input rest : List ℕ) (s : Reading) (a : Stage) : Type 0 where
   pub read : AreRead phase.Startup done messages s.phase s.rest
   pub lead : Lead (stage.Starting 0) messages a
   pub place : s.place + length s.rest ≡ length done
-  pub few : counted a ≤ s.place
+  pub few : asks a ≤ s.place
 
 pub fed_more : (input left piece rest : List ℕ) (r s : Reading) (a : Stage) → SoFar input left r a → left ≡ piece ++ rest → s ≡ fed r piece → Fed input rest s a
 fed_more input left piece rest r s a f parts is = rw is (record {
@@ -149,7 +149,7 @@ so_far_more input rest s t a b f w waits =
 -- ---- the place where an input is refused
 
 refused_from : (input : List ℕ) (place : ℕ) (ms : List Message) (q : Phase) (rest : List ℕ) (a : Stage) → AreRead phase.Startup input ms q rest → place + length rest ≡ length input → Lead (stage.Starting 0) ms a
-    → Halts q rest a → (rest ≡ [] → (s : Session) → a ≡ stage.Over s → ⊥) → IsRefusedAt input place
+    → Halts q rest a → (rest ≡ [] → (s : Session) → a ≡ stage.Over s → ⊥) → IsNoSessionAt input place
 refused_from input place ms q rest a read at lead halts unended = record {
   messages = ms;
   last = q;
@@ -168,7 +168,7 @@ empty_front : (front more : List ℕ) → front ++ more ≡ [] → front ≡ []
 empty_front [] more e = refl
 empty_front (b ∷ front) more e = absurd cc
 
-pub refused_stuck : (input rest : List ℕ) (s : Reading) (a : Stage) (place : ℕ) → Fed input rest s a → Stuck s a place → IsRefusedAt input place
+pub refused_stuck : (input rest : List ℕ) (s : Reading) (a : Stage) (place : ℕ) → Fed input rest s a → Stuck s a place → IsNoSessionAt input place
 refused_stuck input rest s a place f k =
     let all = walked_all input rest s k.new a k.to f k.walked in
     let read = read_more phase.Startup k.new.phase f.done k.new.rest rest (f.messages ++ k.walked.messages) all.0 in
@@ -188,7 +188,7 @@ read_whole input left r s f none empty = record {
   are_session = session_from f.messages s f.lead;
 }
 
-pub refused_end : (input left : List ℕ) (r : Reading) (a : Stage) (place : ℕ) → SoFar input left r a → left ≡ [] → place ≡ r.place → (r.rest ≡ [] → (s : Session) → a ≡ stage.Over s → ⊥) → IsRefusedAt input place
+pub refused_end : (input left : List ℕ) (r : Reading) (a : Stage) (place : ℕ) → SoFar input left r a → left ≡ [] → place ≡ r.place → (r.rest ≡ [] → (s : Session) → a ≡ stage.Over s → ⊥) → IsNoSessionAt input place
 refused_end input left r a place f none at unended =
     let all = done_all input left r a f none in
     refused_from input place f.messages r.phase r.rest a (rw all at f.read) (omega (arith, at, f.place, ap length all)) f.lead
@@ -216,14 +216,14 @@ begins_one ms ns m more longer b =
     (more ++ b.0, subst AreSomeSession parts b.1)
 
 -- messages that go on past the place do not begin a session
-not_further : (input : List ℕ) (place : ℕ) (r : IsRefusedAt input place) (ns : List Message) → Further r.last r.rest r.messages ns → Begins AreSomeSession ns → ⊥
+not_further : (input : List ℕ) (place : ℕ) (r : IsNoSessionAt input place) (ns : List Message) → Further r.last r.rest r.messages ns → Begins AreSomeSession ns → ⊥
 not_further input place r ns f b =
     r.stops f.message (spelling f.message) f.behind f.parts (record { belongs = f.belongs; spelled = refl }) (begins_one r.messages ns f.message f.more f.longer b)
 
 session_begins : (ms : List Message) → AreSomeSession ms → Begins AreSomeSession ms
 session_begins ms s = ([], subst AreSomeSession (sym (append-nil ms)) s)
 
-pub not_both : (input : List ℕ) (requests questions place : ℕ) → IsSession input requests questions → IsRefusedAt input place → ⊥
+pub not_both : (input : List ℕ) (requests questions place : ℕ) → IsSession input requests questions → IsNoSessionAt input place → ⊥
 not_both input requests questions place s r =
     let some : AreSomeSession s.messages = (requests, questions, s.are_session) in
     elim (readings phase.Startup r.last s.are_all.0 input r.rest [] r.messages s.messages r.read s.are_all.1) [
@@ -234,7 +234,7 @@ not_both input requests questions place s r =
       ]
     ]
 
-pub one_place : (input : List ℕ) (a b : ℕ) → IsRefusedAt input a → IsRefusedAt input b → a ≡ b
+pub one_place : (input : List ℕ) (a b : ℕ) → IsNoSessionAt input a → IsNoSessionAt input b → a ≡ b
 one_place input a b x y =
     elim (readings phase.Startup x.last y.last input x.rest y.rest x.messages y.messages x.read y.read) [
       | inl s ↦ omega (arith, x.at, y.at, ap length s.left_over)

@@ -8,11 +8,11 @@ use Rattle.repl_message.specs.declared.startup.Startup.TheVariants as startup
 use Rattle.repl_message.specs.declared.front.Front.TheVariants as front
 use Rattle.repl_message.specs.declared.message.Message.{Message}
 use Rattle.repl_message.specs.declared.message.Message.TheVariants as message
-use Rattle.repl_top.specs.declared.session.Session.{Session}
+use Rattle.repl_top.specs.declared.stage.Session.{Session}
 use Rattle.repl_top.specs.declared.stage.Stage.{Stage}
 use Rattle.repl_top.specs.declared.stage.Stage.TheVariants as stage
 use Rattle.repl_top.specs.Session.{IsOption, IsReplication, IsRequest, IsQuestion, AreSession, AreSomeSession}
-use Rattle.repl_top.specs.Stages.{counted, IsStart, IsEnd, Goes, Lead}
+use Rattle.repl_top.specs.Stages.{asks, IsStart, IsEnd, Goes, Lead}
 
 -- ---- steps
 
@@ -54,7 +54,7 @@ lead_to_one a b c (m ∷ ms) x y =
     lead_to_one x.0 b c ms x.2 (subst (λ (s : Stage). Lead s ms c) (sym (goes_one a x.0 y.0 m x.1 y.1)) y.2)
 
 -- a message counts once at most
-pub goes_few : (a b : Stage) (m : Message) → Goes a m b → counted b ≤ counted a + 1
+pub goes_few : (a b : Stage) (m : Message) → Goes a m b → asks b ≤ asks a + 1
 goes_few (stage.Starting n) b m (inl x) = rw x.1 (omega arith)
 goes_few (stage.Starting n) b m (inr x) = rw x.1 (omega arith)
 goes_few (stage.Asking s) b m (inl x) = rw x.1 (omega arith)

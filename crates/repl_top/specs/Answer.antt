@@ -9,7 +9,7 @@ use Rattle.repl_message.specs.declared.back.Back.{Back}
 use Rattle.repl_message.specs.declared.back.Back.TheVariants as back
 use Rattle.repl_message.specs.Message.{back_spelling, back_body, back_limit}
 use Rattle.repl_lsn.specs.Position.{position_text}
-use Rattle.repl_top.specs.declared.words.Identity.{Identity}
+use Rattle.repl_top.specs.declared.words.SystemIdentity.{SystemIdentity}
 
 -- what every client is told first, in the session with this number
 abbrev pub greeting : ℕ → List Back
@@ -36,11 +36,11 @@ abbrev pub answer_fields : List Field
 answer_fields = text_field (codes "systemid") ∷ int8_field (codes "timeline") ∷ text_field (codes "xlogpos") ∷ text_field (codes "dbname") ∷ []
 
 -- its row: the system, the timeline, the flushed end, and no database
-abbrev pub answer_row : Identity → List (Option (List ℕ))
+abbrev pub answer_row : SystemIdentity → List (Option (List ℕ))
 answer_row identity = Some (decimal identity.system) ∷ Some (decimal identity.timeline) ∷ Some (position_text identity.flushed) ∷ None ∷ []
 
 -- the answer to IDENTIFY_SYSTEM
-abbrev pub identification : Identity → List Back
+abbrev pub identification : SystemIdentity → List Back
 identification identity =
     back.RowDescription answer_fields
     ∷ back.DataRow (answer_row identity)
@@ -49,7 +49,7 @@ identification identity =
     ∷ []
 
 -- the messages of a session, which is the first one, that asks so often
-abbrev pub answer : Identity → ℕ → List Back
+abbrev pub answer : SystemIdentity → ℕ → List Back
 answer identity questions = greeting 1 ++ repeat questions (identification identity)
 
 -- each request for encryption is answered by `N`, with no message round it
@@ -57,7 +57,7 @@ abbrev pub refused_requests : ℕ → List ℕ
 refused_requests requests = replicate requests 78
 
 -- the bytes that answer so many requests and questions
-abbrev pub answer_bytes : Identity → ℕ → ℕ → List ℕ
+abbrev pub answer_bytes : SystemIdentity → ℕ → ℕ → List ℕ
 answer_bytes identity requests questions = refused_requests requests ++ flat_map back_spelling (answer identity questions)
 
 -- the message's length is within its limit

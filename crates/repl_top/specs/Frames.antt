@@ -2,14 +2,15 @@
 use Rattle.std.specs.Prelude.{◌≡◌, ◌≢◌, ℕ, ◌+◌, ◌-◌, ◌^◌, ◌≤◌, ◌⊎◌, List, [], ◌∷◌, ◌++◌, length, codes}
 use Rattle.std.specs.Fmt.{decimal}
 use Rattle.repl_counts.specs.Counts.{Rose, RoseBy}
-use Rattle.repl_counts.specs.Told.{Gained, Lost}
+use Rattle.repl_counts.specs.Told.{Lost}
 use Rattle.repl_message.specs.declared.message.Message.{Message}
 use Rattle.repl_message.specs.declared.message.Message.TheVariants as message
 use Rattle.repl_message.specs.declared.message.Phase.{Phase}
 use Rattle.repl_message.specs.declared.message.Side.{Side}
 use Rattle.repl_message.specs.Message.{front_kind, back_kind, length_field, spelling}
 use Rattle.repl_message.specs.Encoding.{capped}
-use Rattle.repl_io.specs.Sink.{WritesFront}
+use Rattle.repl_io.specs.Source.{SourceState}
+use Rattle.repl_io.specs.Sink.{SinkState}
 use Rattle.repl_wire.specs.declared.fault.WireFault.{WireFault}
 use Rattle.repl_wire.specs.declared.fault.WireFault.TheVariants as fault
 use Rattle.repl_wire.specs.declared.taking.Taken.TheVariants as taken
@@ -17,7 +18,7 @@ use Rattle.repl_wire.specs.Judging.{judge}
 use Rattle.repl_wire.specs.Reader.{AreRead, first_phase, at_place}
 use Rattle.repl_top.specs.declared.status.Status.{Status}
 use Rattle.repl_top.specs.declared.status.Status.TheVariants as status
-use Rattle.repl_top.specs.Outcome.{Reading, Writing, IsReadOut, WroteSome}
+use Rattle.repl_top.specs.Outcome.{IsReadOut, Wrote, WroteFront, WroteSome}
 
 -- the type byte; a startup packet has none
 abbrev pub kind_text : Message → List ℕ
@@ -42,30 +43,30 @@ place_of (fault.Body place) = place
 
 -- What is left behind the messages is refused there. Or it is the beginning of a message and the input ends in it,
 -- and then the place is that of its first byte.
-abbrev pub IsWrongAt : Phase → List ℕ → ℕ → ℕ → Reading → Type 0
-IsWrongAt last rest behind place r =
+abbrev pub IsWrongAt : Phase → List ℕ → ℕ → ℕ → SourceState → Type 0
+IsWrongAt last rest behind place now =
     ((found : WireFault) × (judge last rest ≡ taken.Wrong found) × (place ≡ place_of (at_place behind found)))
-    ⊎ (IsReadOut r × (judge last rest ≡ taken.Short) × (rest ≢ []) × (place ≡ behind))
+    ⊎ (IsReadOut now × (judge last rest ≡ taken.Short) × (rest ≢ []) × (place ≡ behind))
 
 -- How the printing of these lines ends, where so many bytes were read, and what is left of them is behind the last
 -- message, whose end is this place. A fault is told only where it came, and want of time where the reads that gave
 -- bytes and those that gave none are 2^62 at least.
-abbrev pub FramesEnd : Status → ℕ → Phase → List ℕ → ℕ → List ℕ → Reading → Writing → Type 0
-FramesEnd status.Ok count last rest behind printed r w = IsReadOut r × (rest ≡ []) × Gained w.written w.written_after printed
-FramesEnd (status.BadInput place) count last rest behind printed r w = IsWrongAt last rest behind place r × Gained w.written w.written_after printed
-FramesEnd status.ReadFault count last rest behind printed r w = Rose r.faults r.faults_after × Gained w.written w.written_after printed
-FramesEnd status.TurnsSpent count last rest behind printed r w = ((quiet : ℕ) × RoseBy quiet r.quiets r.quiets_after × (2 ^ 62 ≤ count + quiet)) × Gained w.written w.written_after printed
-FramesEnd status.WriteFault count last rest behind printed r w = Rose w.faults w.faults_after × WritesFront printed w.written w.written_after
-FramesEnd status.Memory count last rest behind printed r w = WroteSome printed w
-FramesEnd (status.Usage word) count last rest behind printed r w = ⊥
+abbrev pub FramesEnd : Status → ℕ → Phase → List ℕ → ℕ → List ℕ → SourceState → SourceState → SinkState → SinkState → Type 0
+FramesEnd status.Ok count last rest behind printed r r' w w' = IsReadOut r' × (rest ≡ []) × Wrote printed w w'
+FramesEnd (status.BadInput place) count last rest behind printed r r' w w' = IsWrongAt last rest behind place r' × Wrote printed w w'
+FramesEnd status.ReadFault count last rest behind printed r r' w w' = Rose r.faults r'.faults × Wrote printed w w'
+FramesEnd status.TurnsSpent count last rest behind printed r r' w w' = ((quiet : ℕ) × RoseBy quiet r.quiets r'.quiets × (2 ^ 62 ≤ count + quiet)) × Wrote printed w w'
+FramesEnd status.WriteFault count last rest behind printed r r' w w' = Rose w.faults w'.faults × WroteFront printed w w'
+FramesEnd status.Memory count last rest behind printed r r' w w' = WroteSome printed w w'
+FramesEnd (status.Usage word) count last rest behind printed r r' w w' = ⊥
 
 -- What `frames` does over an input of this side: it reads some of it, which are these messages and what is left, and
 -- prints their lines.
-pub record Framed (s : Side) (end : Status) (r : Reading) (w : Writing) : Type 0 where
+pub record Framed (s : Side) (end : Status) (r r' : SourceState) (w w' : SinkState) : Type 0 where
   pub bytes : List ℕ
   pub messages : List Message
   pub last : Phase
   pub rest : List ℕ
-  pub lost : Lost r.left r.left_after bytes
+  pub lost : Lost r.left r'.left bytes
   pub read : AreRead (first_phase s) bytes messages last rest
-  pub ends : FramesEnd end (length bytes) last rest (capped (length bytes - length rest)) (lines 0 messages) r w
+  pub ends : FramesEnd end (length bytes) last rest (capped (length bytes - length rest)) (lines 0 messages) r r' w w'

@@ -8,6 +8,7 @@ pub mod Frames
 pub mod Printing
 pub mod Names
 pub mod Histories
+pub mod Identify
 pub mod Tool
 pub mod Stages
 pub mod Stream

@@ -1,10 +1,8 @@
 -- What the parts of `frames` do: the lines of the messages that a reader holds are made and written.
 use Rattle.std.specs.Prelude.{◌≡◌, ℕ, ◌+◌, ◌-◌, ◌⊎◌, List, length}
 use Rattle.repl_counts.specs.Counts.{Rose}
-use Rattle.repl_counts.specs.Told.{Gained, Kept}
 use Rattle.repl_message.specs.declared.message.Message.{Message}
 use Rattle.repl_message.specs.Encoding.{capped}
-use Rattle.repl_io.specs.Sink.{WritesFront}
 use Rattle.repl_wire.specs.declared.fault.WireFault.{WireFault}
 use Rattle.repl_wire.specs.declared.taking.Taken.TheVariants as taken
 use Rattle.repl_wire.specs.Judging.{judge}
@@ -14,31 +12,32 @@ use Rattle.repl_top.specs.declared.frames.Drained.TheVariants as drained
 use Rattle.repl_top.specs.declared.status.Status.{Status}
 use Rattle.repl_top.specs.declared.status.Status.TheVariants as status
 use Rattle.repl_top.specs.Frames.{lines, place_of}
-use Rattle.repl_top.specs.Outcome.{Writing}
+use Rattle.repl_io.specs.Sink.{SinkState}
+use Rattle.repl_top.specs.Outcome.{Wrote, WroteFront, WroteNothing}
 
 -- a reader gave these messages, and this happened to their lines
-pub record Printed (old new : Reading) (Wrote : List ℕ → Type 0) : Type 0 where
+pub record GivesLines (old new : Reading) (How : List ℕ → Type 0) : Type 0 where
   pub messages : List Message
   pub read : AreRead old.phase old.rest messages new.phase new.rest
   pub place : new.place ≡ capped (old.place + (length old.rest - length new.rest))
-  pub wrote : Wrote (lines old.place messages)
+  pub wrote : How (lines old.place messages)
 
 -- what is left in the reader is refused there
-abbrev pub IsRefusedAt : Reading → ℕ → Type 0
-IsRefusedAt r place = (found : WireFault) × (judge r.phase r.rest ≡ taken.Wrong found) × (place ≡ place_of (at_place r.place found))
+abbrev pub IsFrameFaultAt : Reading → ℕ → Type 0
+IsFrameFaultAt r place = (found : WireFault) × (judge r.phase r.rest ≡ taken.Wrong found) × (place ≡ place_of (at_place r.place found))
 
 -- how the reader is emptied; where memory runs out nothing is said
 abbrev pub Drains : Drained → Reading → Reading → List ℕ → Type 0
-Drains drained.Waits old new text = Waits new × Printed old new (λ made. text ≡ made)
-Drains (drained.Refused place) old new text = IsRefusedAt new place × Printed old new (λ made. text ≡ made)
+Drains drained.Waits old new text = Waits new × GivesLines old new (λ made. text ≡ made)
+Drains (drained.Refused place) old new text = IsFrameFaultAt new place × GivesLines old new (λ made. text ≡ made)
 Drains drained.Memory old new text = Unit {0}
 
 -- how the printing ends at a piece
-abbrev pub PieceEnds : Status → Reading → Reading → Writing → Type 0
-PieceEnds (status.BadInput place) old new w = IsRefusedAt new place × Printed old new (Gained w.written w.written_after)
-PieceEnds status.WriteFault old new w = Rose w.faults w.faults_after × Printed old new (λ made. WritesFront made w.written w.written_after)
-PieceEnds status.Memory old new w = Kept w.written w.written_after ⊎ Printed old new (λ made. WritesFront made w.written w.written_after)
-PieceEnds status.Ok old new w = ⊥
-PieceEnds (status.Usage word) old new w = ⊥
-PieceEnds status.ReadFault old new w = ⊥
-PieceEnds status.TurnsSpent old new w = ⊥
+abbrev pub PieceEnds : Status → Reading → Reading → SinkState → SinkState → Type 0
+PieceEnds (status.BadInput place) old new w w' = IsFrameFaultAt new place × GivesLines old new (λ made. Wrote made w w')
+PieceEnds status.WriteFault old new w w' = Rose w.faults w'.faults × GivesLines old new (λ made. WroteFront made w w')
+PieceEnds status.Memory old new w w' = WroteNothing w w' ⊎ GivesLines old new (λ made. WroteFront made w w')
+PieceEnds status.Ok old new w w' = ⊥
+PieceEnds (status.Usage word) old new w w' = ⊥
+PieceEnds status.ReadFault old new w w' = ⊥
+PieceEnds status.TurnsSpent old new w w' = ⊥

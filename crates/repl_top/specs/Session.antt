@@ -87,7 +87,7 @@ pub record IsSession (input : List ℕ) (requests questions : ℕ) : Type 0 wher
 
 -- The input is no session. Up to this place it is messages that begin one, and none goes on with a message that
 -- stands there, or the input ends there too early.
-pub record IsRefusedAt (input : List ℕ) (place : ℕ) : Type 0 where
+pub record IsNoSessionAt (input : List ℕ) (place : ℕ) : Type 0 where
   pub messages : List Message
   pub last : Phase
   pub rest : List ℕ

@@ -13,10 +13,10 @@ use Rattle.repl_top.specs.declared.stage.Stage.TheVariants as stage
 use Rattle.repl_top.specs.Session.{IsReplication, IsRequest, IsQuestion}
 
 -- how many requests and questions there were
-abbrev pub counted : Stage → ℕ
-counted (stage.Starting requests) = requests
-counted (stage.Asking session) = session.requests + session.questions
-counted (stage.Over session) = session.requests + session.questions
+abbrev pub asks : Stage → ℕ
+asks (stage.Starting requests) = requests
+asks (stage.Asking session) = session.requests + session.questions
+asks (stage.Over session) = session.requests + session.questions
 
 -- a startup packet for physical replication
 abbrev pub IsStart : Message → Type 0
@@ -53,7 +53,7 @@ pub record Walked (old : Reading) (from : Stage) (new : Reading) (to : Stage) : 
   pub read : AreRead old.phase old.rest messages new.phase new.rest
   pub place : new.place + length new.rest ≡ old.place + length old.rest
   pub lead : Lead from messages to
-  pub few : counted to ≤ new.place
+  pub few : asks to ≤ new.place
 
 -- a reader gave messages up to this place, and none that may stand there leads on, whatever follows
 pub record Stuck (old : Reading) (from : Stage) (place : ℕ) : Type 0 where

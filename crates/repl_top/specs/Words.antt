@@ -6,9 +6,9 @@ use Rattle.repl_text.specs.Language.{StopsAt}
 use Rattle.repl_lsn.specs.Position.{Spells}
 use Rattle.repl_message.specs.declared.message.Side.{Side}
 use Rattle.repl_message.specs.declared.message.Side.TheVariants as side
-use Rattle.repl_top.specs.declared.words.Identity.{Identity}
-use Rattle.repl_top.specs.declared.words.Command.{Command}
-use Rattle.repl_top.specs.declared.words.Command.TheVariants as command
+use Rattle.repl_top.specs.declared.words.SystemIdentity.{SystemIdentity}
+use Rattle.repl_top.specs.declared.words.Task.{Task}
+use Rattle.repl_top.specs.declared.words.Task.TheVariants as task
 
 -- the words, each as its bytes
 abbrev pub texts : List (String Global) → List (List ℕ)
@@ -29,7 +29,7 @@ abbrev pub IsTimeline : List ℕ → ℕ → Type 0
 IsTimeline word n = IsDecimal word n × (0 < n) × (n < 2 ^ 32)
 
 -- `identify SYSID TLI LSN`
-pub record IsIdentify (words : List (List ℕ)) (identity : Identity) : Type 0 where
+pub record IsIdentify (words : List (List ℕ)) (identity : SystemIdentity) : Type 0 where
   pub system_word : List ℕ
   pub timeline_word : List ℕ
   pub flushed_word : List ℕ
@@ -57,15 +57,15 @@ pub record IsHistory (words : List (List ℕ)) (own : ℕ) : Type 0 where
   pub timeline : IsTimeline own_word own
 
 -- the words are this command with its arguments
-abbrev pub IsCommand : List (List ℕ) → Command → Type 0
-IsCommand words (command.Identify identity) = IsIdentify words identity
-IsCommand words (command.Frames s) = IsFrames words s
-IsCommand words command.Names = (text : List ℕ) × IsNames words text
-IsCommand words (command.History own) = IsHistory words own
+abbrev pub IsTask : List (List ℕ) → Task → Type 0
+IsTask words (task.Identify identity) = IsIdentify words identity
+IsTask words (task.Frames s) = IsFrames words s
+IsTask words task.Names = (text : List ℕ) × IsNames words text
+IsTask words (task.History own) = IsHistory words own
 
 -- the words are a command with its arguments
 abbrev pub IsCommandLine : List (List ℕ) → Type 0
-IsCommandLine words = (c : Command) × IsCommand words c
+IsCommandLine words = (c : Task) × IsTask words c
 
 -- counted from 1, the first word with which no command line goes on, or the one missing after the last
 pub record IsUsage (words : List (List ℕ)) (word : ℕ) : Type 0 where

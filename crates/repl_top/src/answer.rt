@@ -4,8 +4,8 @@ ghost use Rattle.repl_text.specs.Text.{IsText};
 ghost use Rattle.repl_message.specs.Message.{back_spelling, counted, column};
 ghost use Rattle.repl_top.specs.Answer.{greeting, identification, answer_bytes, answer_fields, answer_row, text_field, int8_field, IsWithin};
 
-use crate::session::Session;
-use crate::words::Identity;
+use crate::stage::Session;
+use crate::words::SystemIdentity;
 use bytes::Bytes;
 use repl_wire::{
     Back, Column, Columns, EncodeFault, Field, Fields, Text, TransactionStatus, encode_back,
@@ -15,7 +15,7 @@ use std::alloc::{AllocError, Global};
 /// The bytes that answer the session.
 pub(crate) fn answer(
     alloc: Global,
-    identity: &Identity,
+    identity: &SystemIdentity,
     session: Session,
 ) -> Result<Vec<u8>, AllocError>
     ensures { IfOk result (λ bytes. bytes.items ≡ answer_bytes identity.now session.requests session.questions) }
@@ -83,7 +83,7 @@ fn setting(alloc: Global, name: &str, value: &str) -> Result<Back, AllocError>
 }
 
 /// The answer to IDENTIFY_SYSTEM.
-fn identification(alloc: Global, identity: &Identity) -> Result<Vec<Back>, AllocError>
+fn identification(alloc: Global, identity: &SystemIdentity) -> Result<Vec<Back>, AllocError>
     ensures made { IfOk result (λ messages. messages.items ≡ identification identity.now) }
     ensures within { IfOk result (λ messages. AllByRecursion IsWithin messages.items) }
 {
@@ -141,7 +141,7 @@ fn int8_field(alloc: Global, name: &str) -> Result<Field, AllocError>
 }
 
 /// The answer's one row.
-fn row(alloc: Global, identity: &Identity) -> Result<Columns, AllocError>
+fn row(alloc: Global, identity: &SystemIdentity) -> Result<Columns, AllocError>
     ensures made { IfOk result (λ columns. columns ≡ answer_row identity.now) }
     ensures small { OnOk result (length (counted column (answer_row identity.now)) ≤ 100) }
 {

@@ -1,13 +1,14 @@
 ghost use Rattle.std.specs.Prelude.{◌≡◌, ◌≢◌, ◌≤◌, ◌⊎◌, ◌∷◌, [], ◌++◌, length, IfErr, OnOk};
 ghost use Rattle.repl_counts.specs.Counts.{RoseExactly, Stood};
-ghost use Rattle.repl_counts.specs.Told.{Gained};
+ghost use Rattle.repl_top.specs.Outcome.{Wrote};
 ghost use Rattle.repl_message.specs.Message.{length_field};
 ghost use Rattle.repl_wire.specs.Reader.{Waits, fed};
 ghost use Rattle.repl_top.specs.declared.status.Status.TheVariants as status;
 ghost use Rattle.repl_top.specs.Status.{is_read_fault, is_write_fault};
 ghost use Rattle.repl_top.specs.Frames.{Framed, kind_text, line, place_of};
-ghost use Rattle.repl_top.specs.Printing.{Printed, Drains, PieceEnds};
+ghost use Rattle.repl_top.specs.Printing.{GivesLines, Drains, PieceEnds};
 
+use crate::limits::FRAME_TURNS;
 use crate::status::Status;
 use itoa::Buffer;
 use repl_io::{Got, Sent, Sink, Source, write_all};
@@ -16,11 +17,8 @@ use repl_wire::{
 };
 use std::alloc::{AllocError, Global};
 
-/// The most reads of an input without a bound.
-pub const FRAME_TURNS: u64 = 1 << 62;
-
 /// How the messages that a reader holds came to an end.
-#[derive(Clone, Copy, Debug, PartialEq, Eq)]
+#[derive(Drop, PartialEq)]
 enum Drained {
     /// The reader waits for more.
     Waits,
@@ -38,11 +36,9 @@ pub(crate) fn frames<S: Source, K: Sink>(
     input: &mut S,
     out: &mut K,
 ) -> Status
-    ensures ends { Framed side result
-        (record { left = S.left input.old; left_after = S.left input.new; faults = S.faults input.old; faults_after = S.faults input.new; quiets = S.quiets input.old; quiets_after = S.quiets input.new })
-        (record { written = K.written out.old; written_after = K.written out.new; faults = K.faults out.old; faults_after = K.faults out.new; wants = K.wants out.old; wants_after = K.wants out.new }) }
-    ensures read_fault { RoseExactly (is_read_fault result) (S.faults input.old) (S.faults input.new) }
-    ensures write_fault { RoseExactly (is_write_fault result) (K.faults out.old) (K.faults out.new) }
+    ensures ends { Framed side result (S.source input.old) (S.source input.new) (K.sink out.old) (K.sink out.new) }
+    ensures read_fault { RoseExactly (is_read_fault result) (S.source input.old).faults (S.source input.new).faults }
+    ensures write_fault { RoseExactly (is_write_fault result) (K.sink out.old).faults (K.sink out.new).faults }
 {
     let Ok(mut reader) = FrameReader::new(alloc, side) else {
         return Status::Memory;
@@ -89,10 +85,9 @@ fn print_piece<K: Sink>(
 ) -> Result<(), Status>
     requires waits { Waits reader.old }
     requires short { length piece.now ≤ PIECE_LIMIT }
-    ensures ok { OnOk result (Waits reader.new × Printed (fed reader.old piece.now) reader.new (Gained (K.written out.old) (K.written out.new)) × Stood (K.faults out.old) (K.faults out.new)) }
-    ensures err { IfErr result (λ end. PieceEnds end (fed reader.old piece.now) reader.new
-        (record { written = K.written out.old; written_after = K.written out.new; faults = K.faults out.old; faults_after = K.faults out.new; wants = K.wants out.old; wants_after = K.wants out.new })) }
-    ensures fault { IfErr result (λ end. RoseExactly (is_write_fault end) (K.faults out.old) (K.faults out.new)) }
+    ensures ok { OnOk result (Waits reader.new × GivesLines (fed reader.old piece.now) reader.new (λ text. Wrote text (K.sink out.old) (K.sink out.new)) × Stood (K.sink out.old).faults (K.sink out.new).faults) }
+    ensures err { IfErr result (λ end. PieceEnds end (fed reader.old piece.now) reader.new (K.sink out.old) (K.sink out.new)) }
+    ensures fault { IfErr result (λ end. RoseExactly (is_write_fault end) (K.sink out.old).faults (K.sink out.new).faults) }
 {
     reader.feed(piece);
     let drained = drain(alloc, reader, lines);

@@ -4,8 +4,7 @@ ghost use Rattle.repl_counts.specs.Told.{IfTold, Lost};
 ghost use Rattle.repl_top.specs.declared.gather.Stop.TheVariants as stop;
 ghost use Rattle.repl_top.specs.Gathering.{has_failed};
 
-use crate::histories::HISTORY_INPUT;
-use crate::tool::TURNS;
+use crate::limits::{HISTORY_INPUT, TURNS};
 use repl_io::{Got, Source};
 use std::alloc::{AllocError, Global};
 
@@ -13,7 +12,6 @@ use std::alloc::{AllocError, Global};
 const ROOM: usize = 8_192;
 
 /// Why an input was not gathered.
-#[derive(Clone, Copy, Debug, PartialEq, Eq)]
 pub(crate) enum Stop {
     /// The source is faulty.
     ReadFault,
@@ -36,11 +34,11 @@ impl From<AllocError> for Stop {
 /// Reads the whole input, or so many of its first bytes where there are more.
 pub(crate) fn gather<S: Source>(alloc: Global, input: &mut S, limit: usize) -> Result<Vec<u8>, Stop>
     requires { limit ≤ HISTORY_INPUT }
-    ensures bytes { IfOk result (λ bytes. IfTold (S.left input.old) (λ left. bytes.items ≡ take limit left)) }
+    ensures bytes { IfOk result (λ bytes. IfTold (S.source input.old).left (λ left. bytes.items ≡ take limit left)) }
     // Those bytes were read, and no others.
-    ensures lost { IfOk result (λ bytes. Lost (S.left input.old) (S.left input.new) bytes.items) }
-    ensures fault { RoseExactly (has_failed result) (S.faults input.old) (S.faults input.new) }
-    ensures spent { result ≡ Err stop.TurnsSpent → RoseBy (2 ^ 62) (S.quiets input.old) (S.quiets input.new) }
+    ensures lost { IfOk result (λ bytes. Lost (S.source input.old).left (S.source input.new).left bytes.items) }
+    ensures fault { RoseExactly (has_failed result) (S.source input.old).faults (S.source input.new).faults }
+    ensures spent { result ≡ Err stop.TurnsSpent → RoseBy (2 ^ 62) (S.source input.old).quiets (S.source input.new).quiets }
 {
     let mut bytes = Vec::new(alloc);
     let mut room = [0; ROOM];

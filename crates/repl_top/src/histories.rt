@@ -3,17 +3,16 @@ ghost use Rattle.repl_counts.specs.Counts.{RoseExactly};
 ghost use Rattle.repl_lsn.specs.declared.fault.HistoryFault.TheVariants as history_fault;
 ghost use Rattle.repl_lsn.specs.History.{Path, canonical};
 ghost use Rattle.repl_top.specs.Status.{is_read_fault, is_write_fault};
-ghost use Rattle.repl_top.specs.Histories.{HistoryEnds, HasReadHistory, IsAtLine, IsOf, IsWrong};
-ghost use Rattle.repl_top.specs.Tool.{Replies};
+ghost use Rattle.repl_top.specs.Outcome.{HasRead};
+ghost use Rattle.repl_top.specs.Histories.{HistoryEnds, IsAtLine, IsOf, IsWrong};
 
 use crate::gather::{Stop, gather};
+use crate::limits::HISTORY_INPUT;
+use crate::reply::reply;
 use crate::status::Status;
-use repl_io::{Sent, Sink, Source, write_all};
+use repl_io::{Sink, Source};
 use repl_lsn::{HistoryFault, Tli, history_text, parse_history};
 use std::alloc::Global;
-
-/// The most bytes of input that `history` reads: one more than a history's text may have, to see that it is too long.
-pub const HISTORY_INPUT: usize = 65_537;
 
 /// Prints the canonical text of the timeline's history that the input says.
 pub(crate) fn history<S: Source, K: Sink>(
@@ -22,12 +21,10 @@ pub(crate) fn history<S: Source, K: Sink>(
     input: &mut S,
     out: &mut K,
 ) -> Status
-    ensures ends { HistoryEnds own result
-        (record { left = S.left input.old; left_after = S.left input.new; faults = S.faults input.old; faults_after = S.faults input.new; quiets = S.quiets input.old; quiets_after = S.quiets input.new })
-        (record { written = K.written out.old; written_after = K.written out.new; faults = K.faults out.old; faults_after = K.faults out.new; wants = K.wants out.old; wants_after = K.wants out.new }) }
-    ensures has_read { HasReadHistory result (record { left = S.left input.old; left_after = S.left input.new; faults = S.faults input.old; faults_after = S.faults input.new; quiets = S.quiets input.old; quiets_after = S.quiets input.new }) }
-    ensures read_fault { RoseExactly (is_read_fault result) (S.faults input.old) (S.faults input.new) }
-    ensures write_fault { RoseExactly (is_write_fault result) (K.faults out.old) (K.faults out.new) }
+    ensures ends { HistoryEnds own result (S.source input.old) (S.source input.new) (K.sink out.old) (K.sink out.new) }
+    ensures has_read { HasRead HISTORY_INPUT result (S.source input.old) (S.source input.new) }
+    ensures read_fault { RoseExactly (is_read_fault result) (S.source input.old).faults (S.source input.new).faults }
+    ensures write_fault { RoseExactly (is_write_fault result) (K.sink out.old).faults (K.sink out.new).faults }
 {
     let bytes = match gather(alloc, input, HISTORY_INPUT) {
         Ok(bytes) => bytes,
@@ -36,7 +33,7 @@ pub(crate) fn history<S: Source, K: Sink>(
         Err(Stop::Memory) => return Status::Memory,
     };
     match canonical_text(alloc, own, &bytes) {
-        Ok(text) => write_text(&text, out),
+        Ok(text) => reply(&text, out),
         Err(end) => end,
     }
 }
@@ -68,17 +65,5 @@ fn refusal(fault: HistoryFault) -> Status
         | HistoryFault::NotBelowOwn(line)
         | HistoryFault::SwitchFalls(line) => Status::BadInput(line),
         HistoryFault::Memory => Status::Memory,
-    }
-}
-
-fn write_text<K: Sink>(text: &[u8], out: &mut K) -> Status
-    ensures ends { Replies text.now result
-        (record { written = K.written out.old; written_after = K.written out.new; faults = K.faults out.old; faults_after = K.faults out.new; wants = K.wants out.old; wants_after = K.wants out.new }) }
-    ensures write_fault { RoseExactly (is_write_fault result) (K.faults out.old) (K.faults out.new) }
-{
-    match write_all(out, text) {
-        Sent::All => Status::Ok,
-        Sent::Failed => Status::WriteFault,
-        Sent::Memory => Status::Memory,
     }
 }

@@ -15,28 +15,20 @@ mod answer;
 mod frames;
 mod gather;
 mod histories;
+mod identify;
 mod laws;
+mod limits;
 mod names;
+mod parameters;
+mod reply;
 mod session;
 mod stage;
 mod status;
 mod tool;
 mod words;
 
-pub use frames::FRAME_TURNS;
-pub use histories::HISTORY_INPUT;
 pub use laws::one_session;
+pub use limits::{FRAME_TURNS, HISTORY_INPUT, INPUT_LIMIT, TURNS};
 pub use status::{Status, status_line, status_number};
-pub use tool::{INPUT_LIMIT, TURNS, run_tool};
-pub use words::Identity;
-
-#[cfg(test)]
-mod frames_tests;
-#[cfg(test)]
-mod history_tests;
-#[cfg(test)]
-mod identify_tests;
-#[cfg(test)]
-mod names_tests;
-#[cfg(test)]
-mod tests;
+pub use tool::run_tool;
+pub use words::SystemIdentity;

@@ -6,19 +6,19 @@ ghost use Rattle.repl_names.specs.Grammar.{IsRead};
 ghost use Rattle.repl_top.specs.Status.{is_write_fault};
 ghost use Rattle.repl_top.specs.Names.{IsPlace, NamesEnd, names_line};
 
+use crate::reply::reply;
 use crate::status::Status;
-use repl_io::{Sent, Sink, write_all};
+use repl_io::Sink;
 use repl_names::{NamesFault, StandbyList, parse_names, print_names};
 use std::alloc::{AllocError, Global};
 
 /// Prints the spelling of the standby list that the text says, on one line.
 pub(crate) fn names<K: Sink>(alloc: Global, text: &[u8], out: &mut K) -> Status
-    ensures ends { NamesEnd text.now result
-        (record { written = K.written out.old; written_after = K.written out.new; faults = K.faults out.old; faults_after = K.faults out.new; wants = K.wants out.old; wants_after = K.wants out.new }) }
+    ensures ends { NamesEnd text.now result (K.sink out.old) (K.sink out.new) }
     // A list is printed, unless the sink is faulty or there is no memory.
-    ensures complete { (list : Listing) → IsRead text.now list → ¬ Rose (K.faults out.old) (K.faults out.new) →
+    ensures complete { (list : Listing) → IsRead text.now list → ¬ Rose (K.sink out.old).faults (K.sink out.new).faults →
         (result ≡ Status.Ok) ⊎ (result ≡ Status.Memory) }
-    ensures write_fault { RoseExactly (is_write_fault result) (K.faults out.old) (K.faults out.new) }
+    ensures write_fault { RoseExactly (is_write_fault result) (K.sink out.old).faults (K.sink out.new).faults }
 {
     let list = match parse_names(alloc, text) {
         Ok(list) => list,
@@ -27,11 +27,7 @@ pub(crate) fn names<K: Sink>(alloc: Global, text: &[u8], out: &mut K) -> Status
     let Ok(line) = line(alloc, &list) else {
         return Status::Memory;
     };
-    match write_all(out, &line) {
-        Sent::All => Status::Ok,
-        Sent::Failed => Status::WriteFault,
-        Sent::Memory => Status::Memory,
-    }
+    reply(&line, out)
 }
 
 /// The status of a text that is no list. One whose list is too long is wrong behind its last byte, since the

@@ -1,25 +1,15 @@
-ghost use Rattle.std.specs.Prelude.{◌≡◌, ◌<◌, ◌≤◌, ◌+◌, ℕ, ◌↔◌, length, IsTrue, IfOk, OnOk, Err};
+ghost use Rattle.std.specs.Prelude.{◌≡◌, ◌<◌, ◌≤◌, ◌+◌, ℕ, length, IfOk, OnOk, Err};
 ghost use Rattle.repl_wire.specs.Reader.{Waits};
 ghost use Rattle.repl_top.specs.declared.session.NoSession.TheVariants as NoSession;
-ghost use Rattle.repl_top.specs.Stages.{counted, Goes, Walked, Stuck};
+ghost use Rattle.repl_top.specs.Stages.{asks, Goes, Walked, Stuck};
 ghost use Rattle.repl_top.specs.declared.stage.Stage.{Stage};
-ghost use Rattle.repl_top.specs.Session.{IsSession, IsRefusedAt, IsReplication, HasUser, IsPhysical, HasNoOption, IsOption, IsTrueValue};
+ghost use Rattle.repl_top.specs.Session.{IsSession, IsNoSessionAt};
 
-use crate::stage::Stage;
-use repl_wire::{FrameReader, Message, PIECE_LIMIT, Pair, Pairs, Side, Step};
+use crate::stage::{Session, Stage};
+use repl_wire::{FrameReader, Message, PIECE_LIMIT, Side, Step};
 use std::alloc::{AllocError, Global};
 
-/// What a session asks for.
-#[derive(Clone, Copy, Debug, PartialEq, Eq)]
-pub(crate) struct Session {
-    /// How many requests for encryption come before the startup packet.
-    pub(crate) requests: usize,
-    /// How many times IDENTIFY_SYSTEM is asked.
-    pub(crate) questions: usize,
-}
-
 /// Why an input is not answered as a session.
-#[derive(Clone, Copy, Debug, PartialEq, Eq)]
 pub(crate) enum NoSession {
     /// The first packet or message that is not allowed or not whole begins here.
     At(u64),
@@ -41,7 +31,7 @@ impl From<AllocError> for NoSession {
 /// replication, queries IDENTIFY_SYSTEM, and the end, with nothing after it.
 pub(crate) fn read_session(alloc: Global, input: &[u8]) -> Result<Session, NoSession>
     ensures read { IfOk result (λ session. IsSession input.now session.requests session.questions) }
-    ensures refused { (place : ℕ) → result ≡ Err (NoSession.At place) → IsRefusedAt input.now place }
+    ensures refused { (place : ℕ) → result ≡ Err (NoSession.At place) → IsNoSessionAt input.now place }
 {
     let mut reader = FrameReader::new(alloc, Side::Front)?;
     let mut stage = Stage::Starting(0);
@@ -58,7 +48,7 @@ pub(crate) fn read_session(alloc: Global, input: &[u8]) -> Result<Session, NoSes
 /// The stage behind the messages that the reader has whole, which it gives.
 fn walk(alloc: Global, reader: &mut FrameReader, from: Stage) -> Result<Stage, NoSession>
     requires fits { reader.old.place + length reader.old.rest ≤ u64.MAX }
-    requires few { counted from ≤ reader.old.place }
+    requires few { asks from ≤ reader.old.place }
     ensures walked { IfOk result (λ to. Walked reader.old from reader.new to) }
     ensures waits { OnOk result (Waits reader.new) }
     ensures stuck { (place : ℕ) → result ≡ Err (NoSession.At place) → Stuck reader.old from place }
@@ -77,7 +67,7 @@ fn walk(alloc: Global, reader: &mut FrameReader, from: Stage) -> Result<Stage, N
 
 /// The stage behind a message whose first byte is at this place.
 fn advance(alloc: Global, from: Stage, message: Message, place: u64) -> Result<Stage, NoSession>
-    requires { counted from < usize.MAX }
+    requires { asks from < usize.MAX }
     ensures leads { IfOk result (λ to. Goes from message to) }
     ensures refuses { (at : ℕ) → result ≡ Err (NoSession.At at) → (at ≡ place) × ((to : Stage) → ¬ Goes from message to) }
 {
@@ -85,55 +75,4 @@ fn advance(alloc: Global, from: Stage, message: Message, place: u64) -> Result<S
         Some(to) => Ok(to),
         None => Err(NoSession::At(place)),
     }
-}
-
-/// Whether the parameters have a user, ask for physical replication, and name no option of the protocol.
-pub(crate) fn asks_for_replication(pairs: &Pairs) -> bool
-    ensures { IsTrue result ↔ IsReplication pairs.now }
-{
-    let pairs = pairs.as_slice();
-    has_user(pairs) && is_physical(pairs) && has_no_option(pairs)
-}
-
-fn has_user(pairs: &[Pair]) -> bool
-    ensures { IsTrue result ↔ HasUser pairs.now }
-{
-    pairs
-        .iter()
-        .any(|pair| pair.name.as_slice() == b"user".as_slice())
-}
-
-fn has_no_option(pairs: &[Pair]) -> bool
-    ensures { IsTrue result ↔ HasNoOption pairs.now }
-{
-    pairs.iter().all(|pair| is_no_option(pair.name.as_slice()))
-}
-
-/// Whether a parameter of this name is none of the protocol's options.
-fn is_no_option(name: &[u8]) -> bool
-    ensures { IsTrue result ↔ (¬ IsOption name.now) }
-{
-    !name.starts_with(b"_pq_.")
-}
-
-/// Whether the last value of `replication` asks for physical replication.
-fn is_physical(pairs: &[Pair]) -> bool
-    ensures { IsTrue result ↔ IsPhysical pairs.now }
-{
-    let mut physical = false;
-    for pair in pairs {
-        if pair.name.as_slice() == b"replication".as_slice() {
-            physical = is_true_value(pair.value.as_slice());
-        }
-    }
-    physical
-}
-
-fn is_true_value(value: &[u8]) -> bool
-    ensures { IsTrue result ↔ IsTrueValue value.now }
-{
-    value == b"true".as_slice()
-        || value == b"on".as_slice()
-        || value == b"yes".as_slice()
-        || value == b"1".as_slice()
 }

@@ -1,16 +1,25 @@
 ghost use Rattle.std.specs.Prelude.{◌≡◌, ◌<◌, ◌↔◌, ℕ, IsTrue, IfOk, MatchOption};
 ghost use Rattle.repl_top.specs.declared.stage.Stage.TheVariants as Stage;
-ghost use Rattle.repl_top.specs.Stages.{Goes, counted};
+ghost use Rattle.repl_top.specs.Stages.{Goes, asks};
 ghost use Rattle.repl_cmd.specs.declared.command.Command.TheVariants as command;
 ghost use Rattle.repl_cmd.specs.Command as commands;
 
-use crate::session::{Session, asks_for_replication};
+use crate::parameters::asks_for_replication;
 use repl_cmd::{CmdFault, Command, parse_command};
 use repl_wire::{Front, Message, Startup};
 use std::alloc::{AllocError, Global};
 
+/// What a session asks for.
+#[derive(Clone, Copy)]
+pub(crate) struct Session {
+    /// How many requests for encryption come before the startup packet.
+    pub(crate) requests: usize,
+    /// How many times IDENTIFY_SYSTEM is asked.
+    pub(crate) questions: usize,
+}
+
 /// How far a session has come.
-#[derive(Clone, Copy, Debug, PartialEq, Eq)]
+#[derive(Clone, Copy)]
 pub(crate) enum Stage {
     /// A startup packet comes, behind so many requests for encryption.
     Starting(usize),
@@ -23,7 +32,7 @@ pub(crate) enum Stage {
 impl Stage {
     /// The stage behind this message, or `None` where no session goes on with it.
     pub(crate) fn after(self, alloc: Global, message: &Message) -> Result<Option<Stage>, AllocError>
-        requires { counted self < usize.MAX }
+        requires { asks self < usize.MAX }
         ensures { IfOk result (λ found. MatchOption found ((next : Stage) → ¬ Goes self message.now next) (λ next. Goes self message.now next)) }
     {
         match self {

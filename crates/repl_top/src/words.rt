@@ -1,5 +1,5 @@
 ghost use Rattle.std.specs.Prelude.{◌≡◌, ℕ, ◌≤◌, ◌<◌, List, [], get_or, codes, IfOk, IfErr, IfSome, IfNone};
-ghost use Rattle.repl_top.specs.Words.{IsCommand, IsIdentify, IsFrames, IsHistory, IsUsage, IsDecimal, IsSystem, IsTimeline, texts};
+ghost use Rattle.repl_top.specs.Words.{IsTask, IsIdentify, IsFrames, IsHistory, IsUsage, IsDecimal, IsSystem, IsTimeline, texts};
 ghost use Rattle.repl_lsn.specs.Position.{Spells};
 
 use repl_lsn::{Lsn, Tli};
@@ -8,7 +8,7 @@ use repl_wire::Side;
 /// What a server says of itself to IDENTIFY_SYSTEM (PostgreSQL 17 manual, section "Streaming Replication
 /// Protocol").
 #[derive(Clone, Copy, Debug, PartialEq, Eq)]
-pub struct Identity {
+pub struct SystemIdentity {
     /// The cluster's system identifier.
     pub system: u64,
     /// The timeline it is on.
@@ -18,10 +18,9 @@ pub struct Identity {
 }
 
 /// What a command line asks for.
-#[derive(Clone, Copy, Debug, PartialEq, Eq)]
-pub(crate) enum Command {
+pub(crate) enum Task {
     /// `identify SYSID TLI LSN`.
-    Identify(Identity),
+    Identify(SystemIdentity),
     /// `frames front` or `frames back`.
     Frames(Side),
     /// `names TEXT`: the text is the second word.
@@ -34,23 +33,23 @@ pub(crate) enum Command {
 ///
 /// A fault is the number, counted from 1, of the first word with which no command line goes on, or of the
 /// word that is missing after the last.
-pub(crate) fn read_words(words: &[String]) -> Result<Command, usize>
-    ensures read { IfOk result (λ command. IsCommand (texts words.now) command) }
+pub(crate) fn read_words(words: &[String]) -> Result<Task, usize>
+    ensures read { IfOk result (λ task. IsTask (texts words.now) task) }
     ensures wrong { IfErr result (λ word. IsUsage (texts words.now) word) }
 {
     match word_at(words, 0) {
-        "identify" => Ok(Command::Identify(read_identity(words)?)),
-        "frames" => Ok(Command::Frames(read_side(words)?)),
-        "names" if words.len() == 2 => Ok(Command::Names),
+        "identify" => Ok(Task::Identify(read_identity(words)?)),
+        "frames" => Ok(Task::Frames(read_side(words)?)),
+        "names" if words.len() == 2 => Ok(Task::Names),
         "names" if words.len() < 2 => Err(2),
         "names" => Err(3),
-        "history" => Ok(Command::History(read_own(words)?)),
+        "history" => Ok(Task::History(read_own(words)?)),
         _ => Err(1),
     }
 }
 
 /// The arguments of `identify`, whose word is there.
-fn read_identity(words: &[String]) -> Result<Identity, usize>
+fn read_identity(words: &[String]) -> Result<SystemIdentity, usize>
     requires { get_or (texts words.now) 0 [] ≡ codes "identify" }
     ensures read { IfOk result (λ identity. IsIdentify (texts words.now) identity) }
     ensures wrong { IfErr result (λ word. IsUsage (texts words.now) word) }
@@ -67,7 +66,7 @@ fn read_identity(words: &[String]) -> Result<Identity, usize>
     if words.len() > 4 {
         return Err(5);
     }
-    Ok(Identity {
+    Ok(SystemIdentity {
         system,
         timeline,
         flushed,

@@ -1,3 +1,4 @@
+-- What the loop of `write_all` keeps: a front is written, and no fault and no want of memory was counted.
 use Rattle.std.proofs.Common.{length, ◌-◌, ◌≡◌, ◌≤◌, take}
 use Rattle.repl_counts.specs.Told.{Gained}
 use Rattle.repl_io.proofs.sink.write_all.Given as goal
@@ -5,9 +6,9 @@ use Rattle.repl_io.proofs.sink.write_all.Given as goal
 abbrev pub invariant-loop-start : goal.invariant-loop-start
 invariant-loop-start g l = record {
   within : l.start ≤ length l.bytes;
-  gained : Gained (g.K.Sink.written l.initial.out) (g.K.Sink.written l.out) (take l.start l.bytes);
-  faults : g.K.Sink.faults l.out ≡ g.K.Sink.faults l.initial.out;
-  wants : g.K.Sink.wants l.out ≡ g.K.Sink.wants l.initial.out;
+  gained : Gained (g.K.Sink.sink l.initial.out).written (g.K.Sink.sink l.out).written (take l.start l.bytes);
+  faults : (g.K.Sink.sink l.out).faults ≡ (g.K.Sink.sink l.initial.out).faults;
+  wants : (g.K.Sink.sink l.out).wants ≡ (g.K.Sink.sink l.initial.out).wants;
 }
 
 abbrev pub decreases-loop-start : goal.decreases-loop-start

@@ -1,10 +1,10 @@
 use Rattle.std.proofs.Common.{◌≡◌, ◌<◌, ◌^◌, length}
-use Rattle.repl_top.specs.Printing.{Printed}
+use Rattle.repl_top.specs.Printing.{GivesLines}
 use Rattle.repl_top.proofs.frames.drain.Given as goal
 
 abbrev pub invariant-loop-message : goal.invariant-loop-message
 invariant-loop-message l = record {
-  printed : Printed l.initial.reader l.reader (λ made. l.lines.items ≡ made);
+  printed : GivesLines l.initial.reader l.reader (λ made. l.lines.items ≡ made);
   place_is : l.place ≡ l.reader.place;
   fits : l.initial.reader.place < 2 ^ 64;
 }

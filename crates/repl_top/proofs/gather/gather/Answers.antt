@@ -6,17 +6,17 @@ use Rattle.repl_top.proofs.gather.gather.Goals.{in-Bytes+in_ok-extend_from_slice
 
 pub returns-then-free-eq0-clause-bytes : goal.returns-then-free-eq0-clause-bytes
 returns-then-free-eq0-clause-bytes g c =
-    Lost-front (g.S.Source.left c.args.input.now) (g.S.Source.left c.loop.input) c.loop.bytes.items c.args.limit (omega (arith, c.loop.bytes.ok.0)) c.loop.invariant.lost
+    Lost-front (g.S.Source.source c.args.input.now).left (g.S.Source.source c.loop.input).left c.loop.bytes.items c.args.limit (omega (arith, c.loop.bytes.ok.0)) c.loop.invariant.lost
 
 pub returns-in-End-clause-bytes : goal.returns-in-End-clause-bytes
 returns-in-End-clause-bytes g c =
-    Lost-all (g.S.Source.left c.args.input.now) (g.S.Source.left c.loop.input) c.loop.bytes.items c.args.limit (omega (arith, c.loop.bytes.ok.0)) c.in-End.ensures.moved.1 c.loop.invariant.lost
+    Lost-all (g.S.Source.source c.args.input.now).left (g.S.Source.source c.loop.input).left c.loop.bytes.items c.args.limit (omega (arith, c.loop.bytes.ok.0)) c.in-End.ensures.reads.moved.1 c.loop.invariant.lost
 
 pub loop-preserved : goal.loop-preserved
 loop-preserved g c =
     elim c.match-read.branch [
       | in-Bytes+in_ok-extend_from_slice-in-Bytes w ↦
-          let read = w.in-Bytes.ensures.moved in
+          let read = w.in-Bytes.ensures.reads.moved in
           let room = c.read.new.room in
           let behind : List ℕ = drop c.min-some.result c.loop.room in
           let items = items_of_same _ _ _ w.bytes-is w.in_ok-extend_from_slice-in-Bytes.ensures.items in
@@ -25,17 +25,17 @@ loop-preserved g c =
           let some : length room ≤ c.min-some.result = omega (arith, c.read.auto.room, length-take c.min-some.result c.loop.room) in
           record {
             few = omega (arith, len, size, some, read.fits, c.min-some.ensures, c.len.ensures);
-            lost = Lost-more (g.S.Source.left c.args.input.now) (g.S.Source.left c.loop.input) (g.S.Source.left c.read.new.self) c.loop.bytes.items _ room behind w.in-Bytes.count c.loop.invariant.lost read.lost read.fits items;
-            quiets = omega (arith, len, size, read.some, w.in-Bytes.ensures.quiets, c.loop.invariant.quiets);
-            faults = w.in-Bytes.ensures.faults ∙ c.loop.invariant.faults;
+            lost = Lost-more (g.S.Source.source c.args.input.now).left (g.S.Source.source c.loop.input).left (g.S.Source.source c.read.new.self).left c.loop.bytes.items _ room behind w.in-Bytes.count c.loop.invariant.lost read.lost read.fits items;
+            quiets = omega (arith, len, size, read.some, w.in-Bytes.ensures.reads.quiets, c.loop.invariant.quiets);
+            faults = w.in-Bytes.ensures.reads.faults ∙ c.loop.invariant.faults;
           }
       | in-Quiet w ↦
           let items = ap (λ (v : Vec ℕ Global). v.items) w.bytes-is in
           let len = ap (λ (v : Vec ℕ Global). vec_len v) w.bytes-is in
           record {
             few = omega (arith, len);
-            lost = Lost-still (g.S.Source.left c.args.input.now) (g.S.Source.left c.loop.input) (g.S.Source.left c.read.new.self) c.loop.bytes.items c.match-read.bytes.items c.loop.invariant.lost w.in-Quiet.ensures.moved.left_stays items;
-            quiets = omega (arith, len, w.in-Quiet.ensures.quiets, c.loop.invariant.quiets);
-            faults = w.in-Quiet.ensures.faults ∙ c.loop.invariant.faults;
+            lost = Lost-still (g.S.Source.source c.args.input.now).left (g.S.Source.source c.loop.input).left (g.S.Source.source c.read.new.self).left c.loop.bytes.items c.match-read.bytes.items c.loop.invariant.lost w.in-Quiet.ensures.reads.moved.left_stays items;
+            quiets = omega (arith, len, w.in-Quiet.ensures.reads.quiets, c.loop.invariant.quiets);
+            faults = w.in-Quiet.ensures.reads.faults ∙ c.loop.invariant.faults;
           }
     ]

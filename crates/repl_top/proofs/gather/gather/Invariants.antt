@@ -6,7 +6,7 @@ use Rattle.repl_top.proofs.gather.gather.Given as goal
 abbrev pub invariant-loop : goal.invariant-loop
 invariant-loop g l = record {
   few : vec_len l.bytes ≤ l.fn.limit;
-  lost : Lost (g.S.Source.left l.initial.input) (g.S.Source.left l.input) l.bytes.items;
-  quiets : RoseBy (l.counter - vec_len l.bytes) (g.S.Source.quiets l.initial.input) (g.S.Source.quiets l.input);
-  faults : Stood (g.S.Source.faults l.initial.input) (g.S.Source.faults l.input);
+  lost : Lost (g.S.Source.source l.initial.input).left (g.S.Source.source l.input).left l.bytes.items;
+  quiets : RoseBy (l.counter - vec_len l.bytes) (g.S.Source.source l.initial.input).quiets (g.S.Source.source l.input).quiets;
+  faults : Stood (g.S.Source.source l.initial.input).faults (g.S.Source.source l.input).faults;
 }

@@ -1,8 +1,7 @@
-use Rattle.std.proofs.Common.{refl, subst}
-use Rattle.repl_top.specs.Histories.{IsWrong}
+use Rattle.std.proofs.Common.{refl}
 use Rattle.repl_top.proofs.HistoryEnds.{refused_ends}
 use Rattle.repl_top.proofs.histories.history.Goals as goal
 
 pub returns-clause-ends : goal.returns-clause-ends
 returns-clause-ends g c =
-    refused_ends c.args.own c.in-Ok.bytes.items c.in-Err.end _ _ c.in-Ok.ensures.bytes (rw c.deref.ensures.value at c.in-Err.ensures.err) refl
+    refused_ends c.args.own c.in-Ok.bytes.items c.in-Err.end _ _ _ _ c.in-Ok.ensures.bytes (rw c.deref.ensures.value at c.in-Err.ensures.err) refl

@@ -2,7 +2,7 @@ use Rattle.std.proofs.Common.{◌≡◌, [], Result, Err, sym, ap, subst, ◌∙
 use Rattle.std.specs.Slice.Iter.{chunks_rest}
 use Rattle.std.proofs.lemmas.List.{nil_from_length}
 use Rattle.std.proofs.lemmas.Result.{err_from_is_err_and}
-use Rattle.repl_top.specs.declared.session.Session.{Session}
+use Rattle.repl_top.specs.declared.stage.Session.{Session}
 use Rattle.repl_top.specs.declared.stage.Stage.{Stage}
 use Rattle.repl_top.specs.declared.stage.Stage.TheVariants as stage
 use Rattle.repl_top.specs.declared.session.NoSession.{NoSession}

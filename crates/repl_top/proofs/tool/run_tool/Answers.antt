@@ -8,11 +8,11 @@ use Rattle.repl_top.proofs.tool.run_tool.Goals as goal
 
 pub returns-in-Identify-clause-ends : goal.returns-in-Identify-clause-ends
 returns-in-Identify-clause-ends g c = λ other said.
-    identify_ends (texts c.args.words.now) c.in-Ok.command other c.in-Identify.identity c.identify.result _ _ c.in-Identify.is c.in-Ok.ensures.read said c.identify.ensures.ends c.identify.ensures.has_read
+    identify_ends (texts c.args.words.now) c.in-Ok.task other c.in-Identify.identity c.identify.result _ _ _ _ c.in-Identify.is c.in-Ok.ensures.read said c.identify.ensures.ends c.identify.ensures.has_read
 
 pub returns-in-History-clause-ends : goal.returns-in-History-clause-ends
 returns-in-History-clause-ends g c = λ other said.
-    history_ends (texts c.args.words.now) c.in-Ok.command other c.in-History.own c.history.result _ _ c.in-History.is c.in-Ok.ensures.read said c.history.ensures.ends c.history.ensures.has_read
+    history_ends (texts c.args.words.now) c.in-Ok.task other c.in-History.own c.history.result _ _ _ _ c.in-History.is c.in-Ok.ensures.read said c.history.ensures.ends c.history.ensures.has_read
 
 pub returns-in-Err-clause-usage : goal.returns-in-Err-clause-usage
 returns-in-Err-clause-usage g c = λ word. (

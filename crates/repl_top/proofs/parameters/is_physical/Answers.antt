@@ -2,9 +2,9 @@ use Rattle.std.proofs.Common.{◌≡◌, ◌<◌, length, codes, slice_index_or,
 use Rattle.std.proofs.lemmas.Bool.Decides.{Decides-eqb}
 use Rattle.std.proofs.lemmas.Slice.Eq.{slice_eq-Decides}
 use Rattle.std.proofs.lemmas.List.{take_more}
-use Rattle.repl_top.proofs.Parameters.{physical_named, physical_other}
-use Rattle.repl_top.proofs.session.is_physical.Goals as goal
-use Rattle.repl_top.proofs.session.is_physical.Goals.{then-eq, else-eq}
+use Rattle.repl_top.proofs.Replication.{physical_named, physical_other}
+use Rattle.repl_top.proofs.parameters.is_physical.Goals as goal
+use Rattle.repl_top.proofs.parameters.is_physical.Goals.{then-eq, else-eq}
 
 pub loop-pair-preserved : goal.loop-pair-preserved
 loop-pair-preserved c =

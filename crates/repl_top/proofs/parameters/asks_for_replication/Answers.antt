@@ -1,7 +1,7 @@
 use Rattle.std.proofs.Common.{sym, ◌∙◌}
-use Rattle.repl_top.proofs.Parameters.{replicates}
-use Rattle.repl_top.proofs.session.asks_for_replication.Goals as goal
-use Rattle.repl_top.proofs.session.asks_for_replication.Goals.{then-has_user, else-has_user}
+use Rattle.repl_top.proofs.Replication.{replicates}
+use Rattle.repl_top.proofs.parameters.asks_for_replication.Goals as goal
+use Rattle.repl_top.proofs.parameters.asks_for_replication.Goals.{then-has_user, else-has_user}
 
 pub returns-then-is_physical : goal.returns-then-is_physical
 returns-then-is_physical c =

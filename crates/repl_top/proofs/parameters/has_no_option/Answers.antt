@@ -3,8 +3,8 @@ use Rattle.std.proofs.lemmas.Bool.Decides.{when_true}
 use Rattle.std.proofs.lemmas.Iterator.{cases_from_all, YieldsList-from_slice}
 use Rattle.std.proofs.lemmas.Iterator.Search.{true_from_All}
 use Rattle.std.proofs.lemmas.List.Elements.{All-from_all_within}
-use Rattle.repl_top.proofs.Parameters.{IsPlain, IsNotPlain}
-use Rattle.repl_top.proofs.session.has_no_option.Goals as goal
+use Rattle.repl_top.proofs.Replication.{IsPlain, IsNotPlain}
+use Rattle.repl_top.proofs.parameters.has_no_option.Goals as goal
 
 pub returns : goal.returns
 returns c =
