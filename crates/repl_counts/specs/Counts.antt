@@ -17,3 +17,7 @@ Stood before now = now ≡ before
 abbrev pub RoseExactly : Bool → ℕ → ℕ → Type 0
 RoseExactly true before now = Rose before now
 RoseExactly false before now = Stood before now
+
+-- the count did not fall
+abbrev pub DidNotFall : ℕ → ℕ → Type 0
+DidNotFall before now = before ≤ now
