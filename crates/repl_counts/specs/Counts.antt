@@ -26,3 +26,7 @@ RoseExactly false before now = Stood before now
 abbrev pub RoseOnceExactly : Bool → ℕ → ℕ → Type 0
 RoseOnceExactly true before now = RoseOnce before now
 RoseOnceExactly false before now = Stood before now
+
+-- the count did not fall
+abbrev pub DidNotFall : ℕ → ℕ → Type 0
+DidNotFall before now = before ≤ now

@@ -13,7 +13,8 @@ use Rattle.std.proofs.lemmas.Bool.{false≢true}
 use Rattle.repl_disk.proofs.Names.{name_same}
 use Rattle.repl_disk.specs.Memory.{Held, Did, DidNot, before, file_before, certain}
 use Rattle.repl_disk.specs.Stored.{Cut, Stored, settled, renamed, unwritten_all}
-use Rattle.repl_disk.proofs.Folders.{put_at, put_other, put_same, put-put, folder_found, certain_found, certain_is, folder_changed, certain_changed}
+use Rattle.repl_disk.proofs.Folders.{folder_found, certain_found, certain_is, folder_changed, certain_changed}
+use Rattle.repl_disk.specs.Steps.{put_at, put_other, put_same, put-put}
 use Rattle.repl_disk.proofs.Writes.{length-overwritten, torn, unwritten-overwritten}
 
 -- one call more, as the latest

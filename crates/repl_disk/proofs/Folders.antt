@@ -5,29 +5,6 @@ use Rattle.std.specs.Prelude.{bytes_eq}
 use Rattle.repl_disk.specs.Files.{Changed, found, folder_of, certain_of, certain_folder, bytes_of}
 use Rattle.repl_disk.specs.Folder.{Folder, put}
 use Rattle.repl_disk.specs.Stored.{Stored}
-use Rattle.repl_disk.proofs.Names.{same_name, name_same, other_name}
-
--- ---- a name's content
-
-pub put_at : (folder : Folder) (name : List ℕ) (x : Option (List ℕ)) → put folder name x name ≡ x
-put_at folder name x = ap (λ (b : Bool). cond b x (folder name)) (same_name name name refl)
-
-pub put_other : (folder : Folder) (name other : List ℕ) (x : Option (List ℕ)) → (other ≡ name → ⊥) → put folder name x other ≡ folder other
-put_other folder name other x differ = ap (λ (b : Bool). cond b x (folder other)) (other_name other name differ)
-
-pub put_same : (folder : Folder) (name : List ℕ) (x : Option (List ℕ)) → x ≡ folder name → put folder name x ≡ folder
-put_same folder name x is = fun_ext (λ other. each other (bytes_eq other name) (name_same other name))
-  where
-    each : (other : List ℕ) (b : Bool) → (b ≡ true → other ≡ name) → cond b x (folder other) ≡ folder other
-    each other true same = is ∙ ap folder (sym (same refl))
-    each other false same = refl
-
-pub put-put : (folder : Folder) (name : List ℕ) (x y : Option (List ℕ)) → put (put folder name x) name y ≡ put folder name y
-put-put folder name x y = fun_ext (λ other. each other (bytes_eq other name))
-  where
-    each : (other : List ℕ) (b : Bool) → cond b y (cond b x (folder other)) ≡ cond b y (folder other)
-    each other true = refl
-    each other false = refl
 
 -- ---- of a list of files
 

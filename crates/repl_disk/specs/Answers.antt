@@ -2,8 +2,10 @@
 use Rattle.std.specs.Prelude.{◌≡◌, ◌≢◌, ℕ, ◌<◌, ◌⊎◌, Bool, true, false, nat_lt, List, Option, Some, None, IsSome, Result, Ok, Err}
 use Rattle.repl_disk.specs.declared.disk.DiskError.{DiskError}
 use Rattle.repl_disk.specs.declared.disk.DiskError.TheVariants as error
-use Rattle.repl_disk.specs.Crash.{Either, Follows, NoneNew}
+use Rattle.repl_counts.specs.Counts.{Rose, RoseExactly}
+use Rattle.repl_disk.specs.Crash.{Either, Elapses, Follows, NoneNew}
 use Rattle.repl_disk.specs.Folder.{Folder, ToldFiles, IfTold, Became, Stayed, put, moved, written}
+use Rattle.repl_disk.specs.State.{DiskState}
 
 abbrev pub is_fault : DiskError → Bool
 is_fault error.Missing = false
@@ -74,3 +76,27 @@ Leaves (Ok x) step old new = Follows step old new
 Leaves (Err error.Missing) step old new = NoneNew old new
 Leaves (Err error.Failed) step old new = Follows (Either step) old new
 Leaves (Err error.Memory) step old new = Follows (Either step) old new
+
+-- ---- how a call ends
+
+-- Time went on, and each count rose exactly where its test holds.
+pub record Counted (failed wanted lacked : Bool) (old new : DiskState) : Type 0 where
+  pub time : Elapses old new
+  pub faults : RoseExactly failed old.faults new.faults
+  pub wants : RoseExactly wanted old.wants new.wants
+  pub lacks : RoseExactly lacked old.lacks new.lacks
+
+-- each error is counted, and no other event
+abbrev pub Ends : {A : Type 0} → Result A DiskError → DiskState → DiskState → Type 0
+Ends result old new = Counted (is_failed result) (is_memory result) (is_missing result) old new
+
+-- the same of a call that reads into so much room, where fewer bytes are a lack too
+abbrev pub EndsRead : ℕ → Result ℕ DiskError → DiskState → DiskState → Type 0
+EndsRead room result old new = Counted (is_failed result) (is_memory result) (is_short room result) old new
+
+-- The answer of some calls has its cause: a fault or a want is answered exactly where one was counted, and a missing file
+-- only where a lack was.
+pub record Caused {A : Type 0} (result : Result A DiskError) (old new : DiskState) : Type 0 where
+  pub faults : RoseExactly (is_failed result) old.faults new.faults
+  pub wants : RoseExactly (is_memory result) old.wants new.wants
+  pub missing : result ≡ Err error.Missing → Rose old.lacks new.lacks

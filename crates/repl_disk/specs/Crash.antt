@@ -4,6 +4,7 @@
 -- happened or not.
 use Rattle.std.specs.Prelude.{◌≡◌, ◌≢◌, ℕ, ◌+◌, ◌<◌, ◌≤◌, ◌⊎◌, max, List, length, get_or, Option, Some, None}
 use Rattle.repl_disk.specs.Folder.{Folder, put, moved}
+use Rattle.repl_disk.specs.State.{DiskState}
 
 -- ---- what calls do to an image, which is what a crash leaves
 
@@ -50,14 +51,14 @@ abbrev pub NoneNew : (Folder → Type 0) → (Folder → Type 0) → Type 0
 NoneNew old new = (image : Folder) → new image → old image
 
 -- Time goes on: a crash since a moment might have left what it might have left before, or what it may leave now.
-pub record Elapses (before now : ℕ) (past since : ℕ → Folder → Type 0) (may_leave : Folder → Type 0) : Type 0 where
-  pub later : before ≤ now
-  pub nothing_else : (t : ℕ) (image : Folder) → t ≤ before → since t image → past t image ⊎ may_leave image
-  pub keeps : (t : ℕ) (image : Folder) → t ≤ before → past t image → since t image
+pub record Elapses (old new : DiskState) : Type 0 where
+  pub later : old.moment ≤ new.moment
+  pub nothing_else : (t : ℕ) (image : Folder) → t ≤ old.moment → new.left_since t image → old.left_since t image ⊎ new.may_leave image
+  pub keeps : (t : ℕ) (image : Folder) → t ≤ old.moment → old.left_since t image → new.left_since t image
 
--- a crash at any moment since the old disk leaves an image that has P
-pub record LeavesOnly {D : Type 0} (moment : D → ℕ) (left_since : D → ℕ → Folder → Type 0) (old new : D) (P : Folder → Type 0) : Type 0 where
-  pub later : moment old ≤ moment new
-  pub each : (image : Folder) → left_since new (moment old) image → P image
+-- a crash at any moment since the old state leaves an image that has P
+pub record LeavesOnly (old new : DiskState) (P : Folder → Type 0) : Type 0 where
+  pub later : old.moment ≤ new.moment
+  pub each : (image : Folder) → new.left_since old.moment image → P image
   -- of a run that began earlier
-  pub before : (t : ℕ) (image : Folder) → t ≤ moment old → left_since new t image → left_since old t image ⊎ P image
+  pub before : (t : ℕ) (image : Folder) → t ≤ old.moment → new.left_since t image → old.left_since t image ⊎ P image

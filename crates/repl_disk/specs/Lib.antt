@@ -1,4 +1,6 @@
 pub mod Folder
+pub mod State
+pub mod Tally
 pub mod Crash
 pub mod Answers
 pub mod Replacing
@@ -6,4 +8,7 @@ pub mod Stored
 pub mod Files
 pub mod Memory
 pub mod Images
+pub mod Keeping
 pub mod Moments
+pub mod Steps
+pub mod Runs

@@ -1,6 +1,6 @@
 -- A disk in memory: its files, and for each call since it was made how to take that back. Whatever a crash may leave, now
 -- or at an earlier moment, is a matter of these.
-use Rattle.std.specs.Prelude.{◌≡◌, ◌≢◌, ◌⊎◌, ◌↔◌, ◌^◌, min, Bool, true, false, Contains, Result, IsErr, string_bytes, ℕ, ◌+◌, ◌-◌, ◌≤◌, List, [], ◌∷◌, length, take, drop, Option, Some, None}
+use Rattle.std.specs.Prelude.{◌≡◌, ◌≢◌, ◌⊎◌, ◌↔◌, ◌^◌, ◌<◌, min, Bool, true, Contains, Result, IsErr, IfSome, string_bytes, ℕ, ◌+◌, ◌-◌, ◌≤◌, List, [], ◌∷◌, length, take, drop, Option, Some, None}
 use Rattle.std.specs.Option.{option_map}
 use Rattle.repl_disk.specs.declared.call.Done.{Done}
 use Rattle.repl_disk.specs.declared.call.Done.TheVariants as done
@@ -8,8 +8,10 @@ use Rattle.repl_disk.specs.declared.disk.DiskError.{DiskError}
 use Rattle.repl_disk.specs.declared.disk.DiskError.TheVariants as error
 use Rattle.repl_disk.specs.Answers.{is_failed}
 use Rattle.repl_disk.specs.Folder.{Folder, put, moved, content}
-use Rattle.repl_disk.specs.Crash.{Elapses, Tears, Syncs, Moves, Removes}
+use Rattle.repl_disk.specs.Crash.{Tears, Syncs, Moves, Removes}
 use Rattle.repl_disk.specs.Files.{folder_of}
+use Rattle.repl_disk.specs.State.{DiskState}
+use Rattle.repl_disk.specs.Tally.{raised}
 use Rattle.repl_disk.specs.Stored.{Cut, Stored, unwritten}
 
 -- ---- taking a call back
@@ -116,22 +118,13 @@ abbrev pub burnt : Option ℕ → Option ℕ
 burnt None = None
 burnt (Some k) = Some (k - 1)
 
--- counted once more, where the test holds
-abbrev pub raised : Bool → ℕ → ℕ
-raised true events = min (events + 1) (2 ^ 64 - 1)
-raised false events = events
+-- with one call more counted, which burns the fuse, and a fault where it is due to fail
+abbrev pub begun : Memory → Bool → Memory
+begun m due = record { files = m.files; calls = m.calls; failing = m.failing; fuse = burnt m.fuse; count = min (m.count + 1) (2 ^ 64 - 1); faults = raised due m.faults; wants = m.wants; lacks = m.lacks }
 
--- with one call more counted, which burns the fuse
-abbrev pub begun : Memory → Memory
-begun m = record { files = m.files; calls = m.calls; failing = m.failing; fuse = burnt m.fuse; count = min (m.count + 1) (2 ^ 64 - 1); faults = m.faults; wants = m.wants; lacks = m.lacks }
-
--- with an event of each kind counted where its test holds
-abbrev pub told : Memory → Bool → Bool → Bool → Memory
-told m failed wanted lacked = record { files = m.files; calls = m.calls; failing = m.failing; fuse = m.fuse; count = m.count; faults = raised failed m.faults; wants = raised wanted m.wants; lacks = raised lacked m.lacks }
-
--- time went on
-abbrev pub Passes : Memory → Memory → Type 0
-Passes old new = Elapses (length old.calls) (length new.calls) (LeftSince old) (LeftSince new) (LeavesNow new)
+-- what it tells and counts
+abbrev pub state_of : Memory → DiskState
+state_of m = record { files = Some (reading m); may_leave = LeavesNow m; moment = length m.calls; left_since = LeftSince m; faults = m.faults; wants = m.wants; lacks = m.lacks }
 
 -- a call is counted, fails exactly where it is due, and has no effect where it answers an error
 pub record Counts {A : Type 0} (old new : Memory) (result : Result A DiskError) : Type 0 where
@@ -140,6 +133,24 @@ pub record Counts {A : Type 0} (old new : Memory) (result : Result A DiskError) 
   pub fuse : new.fuse ≡ burnt old.fuse
   pub due : (is_failed result ≡ true) ↔ IsDue old
   pub idle : IsErr result → (new.files ≡ old.files) × (new.calls ≡ old.calls)
+
+-- none of the next so many calls is due to fail
+pub record AllPass (m : Memory) (made : ℕ) : Type 0 where
+  pub not_listed : (number : ℕ) → m.count < number → number ≤ m.count + made → Contains m.failing number → ⊥
+  pub lasts : IfSome m.fuse (λ k. made ≤ k)
+
+-- What calls keep of a disk in memory, whatever they did: the list of those that fail stays, the fuse is shorter by their
+-- number, and no fault was counted where none of them was due to fail. The count of calls stops at 2 ^ 64 - 1.
+pub record KeepsOn (old new : Memory) : Type 0 where
+  pub made : ℕ
+  pub count : (new.count ≡ old.count + made) ⊎ ((new.count < old.count + made) × (2 ^ 64 - 1 ≤ new.count))
+  pub no_fewer : old.count ≤ new.count
+  pub failing : new.failing ≡ old.failing
+  pub fuse : new.fuse ≡ option_map (λ k. k - made) old.fuse
+  pub passed : AllPass old made → new.faults ≡ old.faults
+  pub faults : old.faults ≤ new.faults
+  pub wants : old.wants ≤ new.wants
+  pub lacks : old.lacks ≤ new.lacks
 
 -- a disk that a crash left: what it reads is all that a further crash may leave, and nothing of its calls is kept
 pub record Crashed (old new : Memory) (folder : Folder) : Type 0 where

@@ -1,8 +1,9 @@
--- Putting other bytes under a name, so that a crash leaves the old ones or the new.
+-- Putting other bytes under a name, so that a crash leaves the old ones or the new. They are written under a second name
+-- first, the temporary one.
 use Rattle.std.specs.Prelude.{◌≡◌, ◌≢◌, ◌⊎◌, ℕ, List, ◌++◌, Option, Some, None, codes}
 use Rattle.repl_disk.specs.Folder.{Folder, ToldFiles, put}
 
--- the name under which the new bytes are written first
+-- the temporary name, unless another is given
 abbrev pub temporary : List ℕ → List ℕ
 temporary name = name ++ codes ".tmp"
 
@@ -26,24 +27,24 @@ IsHalfAside (Some folder) now name = (after : Folder) × (now ≡ Some after) ×
 -- ---- a file replaced
 
 -- the image is one from before, but for the temporary name, and for these bytes under the name itself, if they are there
-pub record IsBeforeOrAfter (old : Folder → Type 0) (name bytes : List ℕ) (image : Folder) : Type 0 where
+pub record IsBeforeOrAfter (old : Folder → Type 0) (name aside bytes : List ℕ) (image : Folder) : Type 0 where
   pub before : Folder
   pub was : old before
-  pub others : (other : List ℕ) → other ≢ name → other ≢ temporary name → image other ≡ before other
+  pub others : (other : List ℕ) → other ≢ name → other ≢ aside → image other ≡ before other
   pub file : (image name ≡ before name) ⊎ (image name ≡ Some bytes)
 
 -- the same with these bytes
-pub record IsAfter (old : Folder → Type 0) (name bytes : List ℕ) (image : Folder) : Type 0 where
+pub record IsAfter (old : Folder → Type 0) (name aside bytes : List ℕ) (image : Folder) : Type 0 where
   pub before : Folder
   pub was : old before
-  pub others : (other : List ℕ) → other ≢ name → other ≢ temporary name → image other ≡ before other
+  pub others : (other : List ℕ) → other ≢ name → other ≢ aside → image other ≡ before other
   pub file : image name ≡ Some bytes
 
 -- the files as they read afterwards
-abbrev pub replaced : Folder → List ℕ → List ℕ → Folder
-replaced folder name bytes = put (put folder (temporary name) None) name (Some bytes)
+abbrev pub replaced : Folder → List ℕ → List ℕ → List ℕ → Folder
+replaced folder name aside bytes = put (put folder aside None) name (Some bytes)
 
 -- the files read so as an image may be, where they are told
-abbrev pub IsHalfDone : ToldFiles → ToldFiles → List ℕ → List ℕ → Type 0
-IsHalfDone None now name bytes = now ≡ None
-IsHalfDone (Some folder) now name bytes = (after : Folder) × (now ≡ Some after) × IsBeforeOrAfter (λ f. f ≡ folder) name bytes after
+abbrev pub IsHalfDone : ToldFiles → ToldFiles → List ℕ → List ℕ → List ℕ → Type 0
+IsHalfDone None now name aside bytes = now ≡ None
+IsHalfDone (Some folder) now name aside bytes = (after : Folder) × (now ≡ Some after) × IsBeforeOrAfter (λ f. f ≡ folder) name aside bytes after

@@ -1,6 +1,5 @@
 //! The files of a disk in memory, and how each of its calls is taken back.
-ghost use Rattle.std.specs.Prelude.{◌≡◌, ℕ, ◌+◌, ◌^◌, ◌<◌, [], length, map, IsSome, OnOk, MatchOption, MatchResult, None, Some, string_bytes, true, false};
-ghost use Rattle.std.specs.Option.{option_map};
+ghost use Rattle.std.specs.Prelude.{◌≡◌, ℕ, ◌+◌, ◌^◌, ◌<◌, ◌≤◌, List, [], length, map, IfOk, IsSome, OnOk, MatchResult, None, Some, string_bytes, true, false};
 ghost use Rattle.repl_disk.specs.declared.disk.DiskError.TheVariants as error;
 ghost use Rattle.repl_disk.specs.Files.{folder_of};
 ghost use Rattle.repl_disk.specs.Folder.{AreNames, ReadsAt, moved, put, written};
@@ -48,17 +47,33 @@ impl History {
     }
 
     /// How many bytes the file has.
-    pub(crate) fn size(&self, name: &str) -> Option<usize>
-        ensures { result ≡ option_map (λ bytes. length bytes) (folder_of self.now.files name.now) }
+    pub(crate) fn size(&self, name: &str) -> Result<u64, DiskError>
+        ensures { MatchResult result
+            (λ n. (bytes : List ℕ) × (folder_of self.now.files name.now ≡ Some bytes) × (n ≡ length bytes))
+            (λ e. (e ≡ error.Missing) × (folder_of self.now.files name.now ≡ None)) }
     {
-        Some(memory_files::find(&self.files, name)?.size())
+        match memory_files::find(&self.files, name) {
+            Some(file) => Ok(file.size() as u64),
+            None => Err(DiskError::Missing),
+        }
     }
 
     /// Copies the file's bytes from `at` on into the front of `room`, and answers how many they are.
-    pub(crate) fn read_at(&self, name: &str, at: u64, room: &mut [u8]) -> Option<usize>
-        ensures { MatchOption result (folder_of self.now.files name.now ≡ None) (λ n. ReadsAt (folder_of self.now.files name.now) at n room.old room.new) }
+    pub(crate) fn read_at(
+        &self,
+        name: &str,
+        at: u64,
+        room: &mut [u8],
+    ) -> Result<usize, DiskError>
+        ensures within { IfOk result (λ n. n ≤ length room.old) }
+        ensures read { MatchResult result
+            (λ n. ReadsAt (folder_of self.now.files name.now) at n room.old room.new)
+            (λ e. (e ≡ error.Missing) × (folder_of self.now.files name.now ≡ None)) }
     {
-        Some(memory_files::find(&self.files, name)?.read(at, room))
+        match memory_files::find(&self.files, name) {
+            Some(file) => Ok(file.read(at, room)),
+            None => Err(DiskError::Missing),
+        }
     }
 
     /// Writes the bytes into the file from `at` on, or makes it.

@@ -15,15 +15,10 @@ mod memory;
 mod memory_file;
 mod memory_files;
 mod replacing;
+mod system;
+mod tally;
 
 pub use disk::{Disk, DiskError};
 pub use folder::FolderDisk;
 pub use memory::MemoryDisk;
-pub use replacing::replace;
-
-#[cfg(test)]
-mod replacing_tests;
-#[cfg(test)]
-mod script_tests;
-#[cfg(test)]
-mod tests;
+pub use replacing::{replace, replace_by};

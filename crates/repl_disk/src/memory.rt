@@ -1,16 +1,15 @@
 //! A disk in memory.
-ghost use Rattle.std.specs.Prelude.{◌≡◌, ℕ, ◌+◌, ◌≤◌, ◌⊎◌, ◌↔◌, [], Contains, List, Option, Some, None, true, false, length, map, string_bytes, IfOk, OnOk};
-ghost use Rattle.repl_counts.specs.Counts.{RoseExactly};
-ghost use Rattle.repl_disk.specs.declared.disk.DiskError.TheVariants as error;
-ghost use Rattle.repl_disk.specs.Folder.{Folder, Stayed, ReadsAt, AreNames};
+ghost use Rattle.std.specs.Prelude.{◌≡◌, ℕ, ◌≤◌, ◌↔◌, ◌+◌, [], Contains, List, Some, None, true, false, length, map, string_bytes, IfOk, refl};
+ghost use Rattle.repl_disk.specs.Folder.{Stayed, ReadsAt, AreNames};
 ghost use Rattle.repl_disk.specs.Crash.{Tears, Syncs, Moves, Removes, NoneNew};
-ghost use Rattle.repl_disk.specs.Answers.{is_failed, is_memory, is_missing, is_short, Wrote, Moved, Removed, OnlyWhereThere, NeverMissing, Leaves};
-ghost use Rattle.repl_disk.specs.Memory.{Memory, Counts, Crashed, IsDue, LeavesNow, LeftSince, Passes, begun, certain_files, reading, told};
+ghost use Rattle.repl_disk.specs.Answers.{Wrote, Moved, Removed, OnlyWhereThere, NeverMissing, Leaves, Ends, EndsRead};
+ghost use Rattle.repl_disk.specs.Memory.{Counts, Crashed, IsDue, KeepsOn, LeavesNow, begun, certain_files, reading, state_of};
 ghost use Rattle.repl_disk.specs.Images.{reads_as_image, image_counts, image_only};
+ghost use Rattle.repl_disk.specs.Keeping.{keeps_itself, keeps_on};
 
 use crate::disk::{Disk, DiskError};
 use crate::history::History;
-use repl_counts::Count;
+use crate::tally::Tally;
 use std::alloc::Global;
 use std::marker::Model;
 
@@ -28,9 +27,7 @@ pub struct MemoryDisk {
     /// How many calls pass before each fails, where that was set.
     fuse: Option<u64>,
     calls: u64,
-    faults: Count,
-    wants: Count,
-    lacks: Count,
+    tally: Tally,
 }
 
 impl Model for MemoryDisk {
@@ -38,7 +35,7 @@ impl Model for MemoryDisk {
 
     ghost Value = { Memory };
 
-    ghost view = { λ d. record { files = d.history.files; calls = d.history.calls; failing = d.failing.items; fuse = d.fuse; count = d.calls; faults = d.faults; wants = d.wants; lacks = d.lacks } };
+    ghost view = { λ d. record { files = d.history.files; calls = d.history.calls; failing = d.failing.items; fuse = d.fuse; count = d.calls; faults = d.tally.faults; wants = d.tally.wants; lacks = d.tally.lacks } };
 }
 
 /// The next number is one of those.
@@ -61,9 +58,7 @@ impl MemoryDisk {
             failing,
             fuse: None,
             calls: 0,
-            faults: Count::new(),
-            wants: Count::new(),
-            lacks: Count::new(),
+            tally: Tally::new(),
         }
     }
 
@@ -103,49 +98,36 @@ impl MemoryDisk {
         self.fuse == Some(0) || follows(self.calls, &self.failing)
     }
 
-    /// Counts a call, and answers whether it is due to fail.
-    fn begin(&mut self) -> bool
-        ensures due { (result ≡ true) ↔ IsDue self.old }
-        ensures counted { self.new ≡ begun self.old }
+    /// Counts a call, and a fault where it is due to fail.
+    fn count_call(&mut self, due: bool)
+        ensures counted { self.new ≡ begun self.old due }
+        ensures no_fewer { self.old.count ≤ self.new.count }
     {
-        let due = self.is_due();
         self.calls = self.calls.saturating_add(1);
         if let Some(left) = self.fuse {
             self.fuse = Some(left.saturating_sub(1));
         }
-        due
+        if due {
+            self.tally.count(DiskError::Failed);
+        }
     }
 
-    /// Counts what went wrong, and gives the answer on.
-    fn tell<T>(&mut self, answer: Result<T, DiskError>) -> Result<T, DiskError>
-        ensures answer { result ≡ answer }
-        ensures counted { self.new ≡ told self.old (is_failed answer) (is_memory answer) (is_missing answer) }
+    /// Counts a call, and answers whether it is due to fail.
+    fn begin(&mut self) -> bool
+        ensures due { (result ≡ true) ↔ IsDue self.old }
+        ensures counted { self.new ≡ begun self.old result }
+        ensures keeps { KeepsOn self.old self.new }
     {
-        if let Err(error) = &answer {
-            match error {
-                DiskError::Missing => self.lacks.raise(),
-                DiskError::Failed => self.faults.raise(),
-                DiskError::Memory => self.wants.raise(),
-            }
-        }
-        answer
+        let due = self.is_due();
+        self.count_call(due);
+        due
     }
 }
 
 impl Disk for MemoryDisk {
-    ghost files = { λ d. Some (reading d) };
+    ghost state = { state_of };
 
-    ghost may_leave = { LeavesNow };
-
-    ghost moment = { λ d. length d.calls };
-
-    ghost left_since = { LeftSince };
-
-    ghost faults = { λ d. d.faults };
-
-    ghost wants = { λ d. d.wants };
-
-    ghost lacks = { λ d. d.lacks };
+    ghost keeps = { KeepsOn };
 
     fn size(&mut self, name: &str) -> Result<u64, DiskError>
         ensures counted { Counts self.old self.new result }
@@ -153,18 +135,14 @@ impl Disk for MemoryDisk {
         ensures there { OnlyWhereThere (Some (reading self.old)) name.now result }
         ensures files { Stayed (Some (reading self.old)) (Some (reading self.new)) }
         ensures crash { NoneNew (LeavesNow self.old) (LeavesNow self.new) }
-        ensures time { Passes self.old self.new }
-        ensures faults { RoseExactly (is_failed result) self.old.faults self.new.faults }
-        ensures wants { RoseExactly (is_memory result) self.old.wants self.new.wants }
-        ensures lacks { RoseExactly (is_missing result) self.old.lacks self.new.lacks }
+        ensures ends { Ends result (state_of self.old) (state_of self.new) }
+        ensures keeps { KeepsOn self.old self.new }
     {
         if self.begin() {
-            return self.tell(Err(DiskError::Failed));
+            return Err(DiskError::Failed);
         }
-        match self.history.size(name) {
-            Some(size) => Ok(size as u64),
-            None => self.tell(Err(DiskError::Missing)),
-        }
+        let answer = self.history.size(name);
+        self.tally.tell(answer)
     }
 
     fn read_at(&mut self, name: &str, at: u64, room: &mut [u8]) -> Result<usize, DiskError>
@@ -174,21 +152,14 @@ impl Disk for MemoryDisk {
         ensures there { OnlyWhereThere (Some (reading self.old)) name.now result }
         ensures files { Stayed (Some (reading self.old)) (Some (reading self.new)) }
         ensures crash { NoneNew (LeavesNow self.old) (LeavesNow self.new) }
-        ensures time { Passes self.old self.new }
-        ensures faults { RoseExactly (is_failed result) self.old.faults self.new.faults }
-        ensures wants { RoseExactly (is_memory result) self.old.wants self.new.wants }
-        ensures lacks { RoseExactly (is_short (length room.old) result) self.old.lacks self.new.lacks }
+        ensures ends { EndsRead (length room.old) result (state_of self.old) (state_of self.new) }
+        ensures keeps { KeepsOn self.old self.new }
     {
         if self.begin() {
-            return self.tell(Err(DiskError::Failed));
+            return Err(DiskError::Failed);
         }
-        let Some(count) = self.history.read_at(name, at, room) else {
-            return self.tell(Err(DiskError::Missing));
-        };
-        if count < room.len() {
-            self.lacks.raise();
-        }
-        Ok(count)
+        let answer = self.history.read_at(name, at, room);
+        self.tally.tell_read(room.len(), answer)
     }
 
     fn write_at(&mut self, name: &str, at: u64, bytes: &[u8]) -> Result<(), DiskError>
@@ -196,19 +167,17 @@ impl Disk for MemoryDisk {
         ensures written { Wrote result (Some (reading self.old)) (Some (reading self.new)) name.now at bytes.now }
         ensures never_missing { NeverMissing result }
         ensures crash { Leaves result (Tears name.now at (length bytes.now)) (LeavesNow self.old) (LeavesNow self.new) }
-        ensures time { Passes self.old self.new }
-        ensures faults { RoseExactly (is_failed result) self.old.faults self.new.faults }
-        ensures wants { RoseExactly (is_memory result) self.old.wants self.new.wants }
-        ensures lacks { RoseExactly (is_missing result) self.old.lacks self.new.lacks }
+        ensures ends { Ends result (state_of self.old) (state_of self.new) }
+        ensures keeps { KeepsOn self.old self.new }
     {
         if self.begin() {
-            return self.tell(Err(DiskError::Failed));
+            return Err(DiskError::Failed);
         }
         if at.checked_add(bytes.len() as u64).is_none() {
-            return self.tell(Err(DiskError::Memory));
+            return self.tally.tell(Err(DiskError::Memory));
         }
         let answer = self.history.write_at(name, at as usize, bytes);
-        self.tell(answer)
+        self.tally.tell(answer)
     }
 
     fn sync(&mut self, name: &str) -> Result<(), DiskError>
@@ -216,16 +185,14 @@ impl Disk for MemoryDisk {
         ensures there { OnlyWhereThere (Some (reading self.old)) name.now result }
         ensures files { Stayed (Some (reading self.old)) (Some (reading self.new)) }
         ensures crash { Leaves result (Syncs name.now (reading self.old name.now)) (LeavesNow self.old) (LeavesNow self.new) }
-        ensures time { Passes self.old self.new }
-        ensures faults { RoseExactly (is_failed result) self.old.faults self.new.faults }
-        ensures wants { RoseExactly (is_memory result) self.old.wants self.new.wants }
-        ensures lacks { RoseExactly (is_missing result) self.old.lacks self.new.lacks }
+        ensures ends { Ends result (state_of self.old) (state_of self.new) }
+        ensures keeps { KeepsOn self.old self.new }
     {
         if self.begin() {
-            return self.tell(Err(DiskError::Failed));
+            return Err(DiskError::Failed);
         }
         let answer = self.history.sync(name);
-        self.tell(answer)
+        self.tally.tell(answer)
     }
 
     fn rename(&mut self, from: &str, to: &str) -> Result<(), DiskError>
@@ -233,16 +200,14 @@ impl Disk for MemoryDisk {
         ensures moved { Moved result (Some (reading self.old)) (Some (reading self.new)) from.now to.now }
         ensures there { OnlyWhereThere (Some (reading self.old)) from.now result }
         ensures crash { Leaves result (Moves from.now to.now) (LeavesNow self.old) (LeavesNow self.new) }
-        ensures time { Passes self.old self.new }
-        ensures faults { RoseExactly (is_failed result) self.old.faults self.new.faults }
-        ensures wants { RoseExactly (is_memory result) self.old.wants self.new.wants }
-        ensures lacks { RoseExactly (is_missing result) self.old.lacks self.new.lacks }
+        ensures ends { Ends result (state_of self.old) (state_of self.new) }
+        ensures keeps { KeepsOn self.old self.new }
     {
         if self.begin() {
-            return self.tell(Err(DiskError::Failed));
+            return Err(DiskError::Failed);
         }
         let answer = self.history.rename(from, to);
-        self.tell(answer)
+        self.tally.tell(answer)
     }
 
     fn remove(&mut self, name: &str) -> Result<(), DiskError>
@@ -250,16 +215,14 @@ impl Disk for MemoryDisk {
         ensures removed { Removed result (Some (reading self.old)) (Some (reading self.new)) name.now }
         ensures there { OnlyWhereThere (Some (reading self.old)) name.now result }
         ensures crash { Leaves result (Removes name.now) (LeavesNow self.old) (LeavesNow self.new) }
-        ensures time { Passes self.old self.new }
-        ensures faults { RoseExactly (is_failed result) self.old.faults self.new.faults }
-        ensures wants { RoseExactly (is_memory result) self.old.wants self.new.wants }
-        ensures lacks { RoseExactly (is_missing result) self.old.lacks self.new.lacks }
+        ensures ends { Ends result (state_of self.old) (state_of self.new) }
+        ensures keeps { KeepsOn self.old self.new }
     {
         if self.begin() {
-            return self.tell(Err(DiskError::Failed));
+            return Err(DiskError::Failed);
         }
         let answer = self.history.remove(name);
-        self.tell(answer)
+        self.tally.tell(answer)
     }
 
     fn names(&mut self) -> Result<Vec<String>, DiskError>
@@ -268,16 +231,14 @@ impl Disk for MemoryDisk {
         ensures never_missing { NeverMissing result }
         ensures files { Stayed (Some (reading self.old)) (Some (reading self.new)) }
         ensures crash { NoneNew (LeavesNow self.old) (LeavesNow self.new) }
-        ensures time { Passes self.old self.new }
-        ensures faults { RoseExactly (is_failed result) self.old.faults self.new.faults }
-        ensures wants { RoseExactly (is_memory result) self.old.wants self.new.wants }
-        ensures lacks { RoseExactly (is_missing result) self.old.lacks self.new.lacks }
+        ensures ends { Ends result (state_of self.old) (state_of self.new) }
+        ensures keeps { KeepsOn self.old self.new }
     {
         if self.begin() {
-            return self.tell(Err(DiskError::Failed));
+            return Err(DiskError::Failed);
         }
         let answer = self.history.names();
-        self.tell(answer)
+        self.tally.tell(answer)
     }
 
     ghost as_it_reads = { λ d. reads_as_image d.calls (reading d) };
@@ -285,4 +246,10 @@ impl Disk for MemoryDisk {
     ghost counts_now = { λ d t image le now. image_counts d.calls (reading d) t image le now };
 
     ghost only_now = { λ d image left. image_only d.calls (reading d) image left };
+
+    ghost keeps_itself = { keeps_itself };
+
+    ghost keeps_on = { keeps_on };
+
+    ghost never_falls = { λ _ _ kept. record { tells = refl; faults = kept.faults; wants = kept.wants; lacks = kept.lacks } };
 }

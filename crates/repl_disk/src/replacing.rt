@@ -1,57 +1,80 @@
-ghost use Rattle.std.specs.Prelude.{◌≡◌, ◌⊎◌, List, ℕ, OnOk, IfErr, Some, Err};
+//! Other bytes under a name, so that a crash leaves the old ones or the new.
+ghost use Rattle.std.specs.Prelude.{◌≡◌, ◌≢◌, ◌⊎◌, OnOk, IfErr, Some, Err};
 ghost use Rattle.repl_counts.specs.Counts.{Rose, RoseBy, RoseExactly, Stood};
 ghost use Rattle.repl_disk.specs.declared.disk.DiskError.TheVariants as DiskError;
-ghost use Rattle.repl_disk.specs.Answers.{is_failed, is_memory, NeverMissing, Removed, Leaves};
+ghost use Rattle.repl_disk.specs.Answers.{is_failed, Caused, NeverMissing, Removed, Leaves};
 ghost use Rattle.repl_disk.specs.Folder.{Folder, IfTold, Became, put};
 ghost use Rattle.repl_disk.specs.Crash.{LeavesOnly, Elapses, Either, Removes};
-ghost use Rattle.repl_disk.specs.Replacing.{IsAside, HasAside, IsHalfAside, IsBeforeOrAfter, IsAfter, IsHalfDone, replaced};
+ghost use Rattle.repl_disk.specs.Replacing.{IsAside, HasAside, IsHalfAside, IsBeforeOrAfter, IsAfter, IsHalfDone, replaced, temporary};
 
 use crate::disk::{Disk, DiskError};
 use std::alloc::Global;
 
-/// Puts these bytes under the name, in the place of the file that had it: writes them into `NAME.tmp`, syncs that, and
-/// renames it. A crash at any moment leaves the old bytes under the name, or the new, and from `Ok` on the new alone.
-/// A file `NAME.tmp` that an earlier crash left is removed. Takes memory for that name.
+/// Puts these bytes under the name as `replace_by` does, with the temporary name `NAME.tmp`. Takes memory for that name.
 pub fn replace<D: Disk>(
     alloc: Global,
     disk: &mut D,
     name: &str,
     bytes: &[u8],
 ) -> Result<(), DiskError>
+    ensures any_moment { IfTold (D.state disk.old).files (λ folder. LeavesOnly (D.state disk.old) (D.state disk.new)
+        (IsBeforeOrAfter (D.state disk.old).may_leave name.now (temporary name.now) bytes.now)) }
+    ensures durable { OnOk result (IfTold (D.state disk.old).files (λ folder. (image : Folder) → (D.state disk.new).may_leave image →
+        IsAfter (D.state disk.old).may_leave name.now (temporary name.now) bytes.now image)) }
+    ensures files { OnOk result (Became (D.state disk.old).files (D.state disk.new).files (λ folder. replaced folder name.now (temporary name.now) bytes.now)) }
+    ensures half_done { IfErr result (λ e. IsHalfDone (D.state disk.old).files (D.state disk.new).files name.now (temporary name.now) bytes.now) }
+    ensures faults { RoseExactly (is_failed result) (D.state disk.old).faults (D.state disk.new).faults }
+    // The temporary name may find no memory.
+    ensures wants { Stood (D.state disk.old).wants (D.state disk.new).wants ⊎ (Rose (D.state disk.old).wants (D.state disk.new).wants × (result ≡ Err DiskError.Memory)) }
+    ensures missing { result ≡ Err DiskError.Missing → Rose (D.state disk.old).lacks (D.state disk.new).lacks }
+    ensures there { IfTold (D.state disk.old).files (λ folder. NeverMissing result) }
+    ensures keeps { D.keeps disk.old disk.new }
+{
+    let aside = format!(in alloc; "{name}.tmp")?;
+    replace_by(disk, name, &aside, bytes)
+}
+
+/// Puts these bytes under the name, in the place of the file that had it: writes them under the temporary name, syncs
+/// that file, and renames it. A crash at any moment leaves the old bytes under the name, or the new, and from `Ok` on the
+/// new alone. A file that has the temporary name, as an earlier crash may leave one, is removed. Takes no memory but what
+/// the disk itself takes.
+pub fn replace_by<D: Disk>(
+    disk: &mut D,
+    name: &str,
+    aside: &str,
+    bytes: &[u8],
+) -> Result<(), DiskError>
+    requires { name.now ≢ aside.now }
     // A crash at any moment of the call leaves the old file or the new, and no other file but the temporary
     // one changed.
-    ensures any_moment { IfTold (D.files disk.old) (λ folder. LeavesOnly D.moment D.left_since disk.old disk.new
-        (IsBeforeOrAfter (D.may_leave disk.old) name.now bytes.now)) }
+    ensures any_moment { IfTold (D.state disk.old).files (λ folder. LeavesOnly (D.state disk.old) (D.state disk.new)
+        (IsBeforeOrAfter (D.state disk.old).may_leave name.now aside.now bytes.now)) }
     // When it is done, a crash leaves the new file.
-    ensures durable { OnOk result (IfTold (D.files disk.old) (λ folder. (image : Folder) → D.may_leave disk.new image →
-        IsAfter (D.may_leave disk.old) name.now bytes.now image)) }
-    ensures files { OnOk result (Became (D.files disk.old) (D.files disk.new) (λ folder. replaced folder name.now bytes.now)) }
+    ensures durable { OnOk result (IfTold (D.state disk.old).files (λ folder. (image : Folder) → (D.state disk.new).may_leave image →
+        IsAfter (D.state disk.old).may_leave name.now aside.now bytes.now image)) }
+    ensures files { OnOk result (Became (D.state disk.old).files (D.state disk.new).files (λ folder. replaced folder name.now aside.now bytes.now)) }
     // After an error the name has the old file or the new, and no other file but the temporary one
     // changed.
-    ensures half_done { IfErr result (λ e. IsHalfDone (D.files disk.old) (D.files disk.new) name.now bytes.now) }
-    // A fault is the disk's own, and none is passed over.
-    ensures faults { RoseExactly (is_failed result) (D.faults disk.old) (D.faults disk.new) }
-    ensures wants { Stood (D.wants disk.old) (D.wants disk.new) ⊎ (Rose (D.wants disk.old) (D.wants disk.new) × (result ≡ Err DiskError.Memory)) }
-    ensures lacks { RoseBy 0 (D.lacks disk.old) (D.lacks disk.new) }
-    ensures missing { result ≡ Err DiskError.Missing → Rose (D.lacks disk.old) (D.lacks disk.new) }
-    ensures there { IfTold (D.files disk.old) (λ folder. NeverMissing result) }
+    ensures half_done { IfErr result (λ e. IsHalfDone (D.state disk.old).files (D.state disk.new).files name.now aside.now bytes.now) }
+    // An error is the disk's own, and none is passed over.
+    ensures caused { Caused result (D.state disk.old) (D.state disk.new) }
+    ensures there { IfTold (D.state disk.old).files (λ folder. NeverMissing result) }
+    ensures keeps { D.keeps disk.old disk.new }
 {
-    let temporary = format!(in alloc; "{name}.tmp")?;
-    write_aside(disk, &temporary, bytes)?;
-    disk.rename(&temporary, name)
+    write_aside(disk, aside, bytes)?;
+    disk.rename(aside, name)
 }
 
 /// Puts these bytes under the name of a file that does not matter otherwise, and syncs it.
 fn write_aside<D: Disk>(disk: &mut D, name: &str, bytes: &[u8]) -> Result<(), DiskError>
-    ensures any_moment { IfTold (D.files disk.old) (λ folder. LeavesOnly D.moment D.left_since disk.old disk.new (IsAside (D.may_leave disk.old) name.now)) }
-    ensures durable { OnOk result (IfTold (D.files disk.old) (λ folder. HasAside (D.may_leave disk.old) (D.may_leave disk.new) name.now bytes.now)) }
-    ensures files { OnOk result (Became (D.files disk.old) (D.files disk.new) (λ folder. put folder name.now (Some bytes.now))) }
-    ensures half_done { IfErr result (λ e. IsHalfAside (D.files disk.old) (D.files disk.new) name.now) }
-    ensures faults { RoseExactly (is_failed result) (D.faults disk.old) (D.faults disk.new) }
-    ensures wants { RoseExactly (is_memory result) (D.wants disk.old) (D.wants disk.new) }
-    ensures lacks { RoseBy 0 (D.lacks disk.old) (D.lacks disk.new) }
-    ensures missing { result ≡ Err DiskError.Missing → Rose (D.lacks disk.old) (D.lacks disk.new) }
-    ensures there { IfTold (D.files disk.old) (λ folder. NeverMissing result) }
+    ensures any_moment { IfTold (D.state disk.old).files (λ folder. LeavesOnly (D.state disk.old) (D.state disk.new) (IsAside (D.state disk.old).may_leave name.now)) }
+    ensures durable { OnOk result (IfTold (D.state disk.old).files (λ folder. HasAside (D.state disk.old).may_leave (D.state disk.new).may_leave name.now bytes.now)) }
+    ensures files { OnOk result (Became (D.state disk.old).files (D.state disk.new).files (λ folder. put folder name.now (Some bytes.now))) }
+    ensures half_done { IfErr result (λ e. IsHalfAside (D.state disk.old).files (D.state disk.new).files name.now) }
+    ensures caused { Caused result (D.state disk.old) (D.state disk.new) }
+    ensures lacks { RoseBy 0 (D.state disk.old).lacks (D.state disk.new).lacks }
+    ensures there { IfTold (D.state disk.old).files (λ folder. NeverMissing result) }
+    ensures keeps { D.keeps disk.old disk.new }
 {
     clear(disk, name)?;
     disk.write_at(name, 0, bytes)?;
@@ -60,13 +83,13 @@ fn write_aside<D: Disk>(disk: &mut D, name: &str, bytes: &[u8]) -> Result<(), Di
 
 /// Removes the file, if it is there.
 fn clear<D: Disk>(disk: &mut D, name: &str) -> Result<(), DiskError>
-    ensures files { Removed result (D.files disk.old) (D.files disk.new) name.now }
+    ensures files { Removed result (D.state disk.old).files (D.state disk.new).files name.now }
     ensures never_missing { NeverMissing result }
-    ensures crash { IfTold (D.files disk.old) (λ folder. Leaves result (Either (Removes name.now)) (D.may_leave disk.old) (D.may_leave disk.new)) }
-    ensures time { Elapses (D.moment disk.old) (D.moment disk.new) (D.left_since disk.old) (D.left_since disk.new) (D.may_leave disk.new) }
-    ensures faults { RoseExactly (is_failed result) (D.faults disk.old) (D.faults disk.new) }
-    ensures wants { RoseExactly (is_memory result) (D.wants disk.old) (D.wants disk.new) }
-    ensures lacks { RoseBy 0 (D.lacks disk.old) (D.lacks disk.new) }
+    ensures crash { IfTold (D.state disk.old).files (λ folder. Leaves result (Either (Removes name.now)) (D.state disk.old).may_leave (D.state disk.new).may_leave) }
+    ensures time { Elapses (D.state disk.old) (D.state disk.new) }
+    ensures caused { Caused result (D.state disk.old) (D.state disk.new) }
+    ensures lacks { RoseBy 0 (D.state disk.old).lacks (D.state disk.new).lacks }
+    ensures keeps { D.keeps disk.old disk.new }
 {
     match disk.remove(name) {
         Err(DiskError::Missing) => Ok(()),

@@ -1,16 +1,27 @@
-use Rattle.std.proofs.Common.{◌∙◌, ap}
+-- What the call leaves, and that its errors are counted.
+use Rattle.std.proofs.Common.{◌≡◌, ◌∙◌, ap, false, rules}
 use Rattle.repl_disk.proofs.memory.MemoryDiskDisk.rename.Goals as goal
-use Rattle.repl_disk.proofs.Images.{held, leaves}
+use Rattle.repl_disk.proofs.Images.{goes, held, tally_of, told_rose}
 use Rattle.repl_disk.specs.Crash.{Moves}
 use Rattle.repl_disk.specs.Folder.{moved}
-use Rattle.repl_disk.specs.Memory.{DidNot}
+use Rattle.repl_disk.specs.Memory.{DidNot, begun}
 
 pub returns-clause-crash : goal.returns-clause-crash
 returns-clause-crash c =
-    (leaves c.args.self.now c.tell-2.new.self c.self.inside.history c.rename-answer.new.self (λ folder. moved folder c.args.from.now c.args.to.now) (Moves c.args.from.now c.args.to.now) (λ e. DidNot c.self.inside.history c.rename-answer.new.self c.args.from.now e) (λ e not. not.unchanged)
-    c.rename-answer.result c.tell-2.result (ap held (c.self.view_is ∙ c.begin.ensures.counted)) (ap held c.tell-2.ensures.counted) c.tell-2.ensures.answer c.rename-answer.ensures.done).0
+    (goes c.args.self.now c.self.inside.history c.rename-answer.new.self (λ folder. moved folder c.args.from.now c.args.to.now)
+    (Moves c.args.from.now c.args.to.now) (λ e. DidNot c.self.inside.history c.rename-answer.new.self c.args.from.now e) (λ e not. not.unchanged)
+    c.rename-answer.result c.tell.result (ap held (c.self.view_is ∙ c.begin.ensures.counted)) c.tell.ensures.answer c.rename-answer.ensures.done).0
 
-pub returns-clause-time : goal.returns-clause-time
-returns-clause-time c =
-    (leaves c.args.self.now c.tell-2.new.self c.self.inside.history c.rename-answer.new.self (λ folder. moved folder c.args.from.now c.args.to.now) (Moves c.args.from.now c.args.to.now) (λ e. DidNot c.self.inside.history c.rename-answer.new.self c.args.from.now e) (λ e not. not.unchanged)
-    c.rename-answer.result c.tell-2.result (ap held (c.self.view_is ∙ c.begin.ensures.counted)) (ap held c.tell-2.ensures.counted) c.tell-2.ensures.answer c.rename-answer.ensures.done).1
+pub returns-clause-ends : goal.returns-clause-ends
+returns-clause-ends c =
+    let passed : c.begin.result ≡ false = search rules in
+    let time = (goes c.args.self.now c.self.inside.history c.rename-answer.new.self (λ folder. moved folder c.args.from.now c.args.to.now)
+    (Moves c.args.from.now c.args.to.now) (λ e. DidNot c.self.inside.history c.rename-answer.new.self c.args.from.now e) (λ e not. not.unchanged)
+    c.rename-answer.result c.tell.result (ap held (c.self.view_is ∙ c.begin.ensures.counted)) c.tell.ensures.answer c.rename-answer.ensures.done).1 in
+    let counts = told_rose c.rename-answer.result c.tell.result (tally_of c.args.self.now) c.self.inside.tally c.tell.new.self (ap tally_of (c.self.view_is ∙ c.begin.ensures.counted ∙ ap (begun c.args.self.now) passed)) c.tell.ensures.counted c.tell.ensures.answer in
+    record {
+      time = record { later = time.later; nothing_else = time.nothing_else; keeps = time.keeps };
+      faults = counts.0;
+      wants = counts.1;
+      lacks = counts.2;
+    }

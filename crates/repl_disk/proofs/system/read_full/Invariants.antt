@@ -1,5 +1,5 @@
 use Rattle.std.proofs.Common.{length, ◌-◌, ◌≤◌}
-use Rattle.repl_disk.proofs.folder.read_full.Given as goal
+use Rattle.repl_disk.proofs.system.read_full.Given as goal
 
 -- what is read is in the room
 abbrev pub invariant-loop-count : goal.invariant-loop-count
