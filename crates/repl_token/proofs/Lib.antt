@@ -1,0 +1,11 @@
+pub mod DigitValues
+pub mod HasReading
+pub mod Leading
+pub mod OneQuoted
+pub mod OneReading
+pub mod OneToken
+pub mod Printing
+pub mod Quoting
+pub mod Runs
+pub mod Steps
+pub mod Written

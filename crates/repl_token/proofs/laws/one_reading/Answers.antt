@@ -1,0 +1,5 @@
+use Rattle.repl_token.proofs.OneReading.{reads_one}
+use Rattle.repl_token.proofs.laws.one_reading.Goals as goal
+
+pub returns : goal.returns
+returns c = reads_one
