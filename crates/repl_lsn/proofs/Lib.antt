@@ -22,3 +22,4 @@ pub mod NameFaults
 pub mod Timelines
 pub mod Relations
 pub mod Equals
+pub mod Holders

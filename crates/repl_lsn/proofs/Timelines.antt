@@ -1,10 +1,10 @@
 -- Which timeline of a path holds a position.
-use Rattle.std.proofs.Common.{◌≡◌, ◌≢◌, ℕ, ◌+◌, ◌<◌, ◌≤◌, List, [], ◌∷◌, ◌++◌, Option, Some, length, get_or, take, drop, refl, sym, ap, subst, ◌∙◌, inl, inr, ⊎_elim, arith}
+use Rattle.std.proofs.Common.{◌≡◌, ◌≢◌, ℕ, ◌+◌, ◌<◌, ◌≤◌, List, [], ◌∷◌, ◌++◌, Option, Some, length, get_or, take, drop, sym, ap, subst, ◌∙◌, inl, inr, ⊎_elim, arith}
 use Rattle.std.proofs.lemmas.Bool.{cases_eq}
-use Rattle.std.proofs.lemmas.List.{drop_more, take-append-drop, get_or_at}
+use Rattle.std.proofs.lemmas.List.{drop_more, take-append-drop, get_or_at, length-take-le}
 use Rattle.repl_lsn.specs.declared.history.Part.{Part}
 use Rattle.repl_lsn.specs.History.{Path, IsPath, InOrder, last_switch}
-use Rattle.repl_lsn.specs.Path.{Holds, IsBelow, IsOn, EndsAt}
+use Rattle.repl_lsn.specs.Path.{Holds, IsBelow, IsOn, EndsAt, StandsBehind}
 
 -- ---- numbers and switch points in order
 
@@ -88,11 +88,12 @@ before_end path at tli end order on ends =
 pub item_next : (ps : List Part) (i : ℕ) (x : Part) → i < length ps → x ≡ get_or ps i x → drop i ps ≡ x ∷ drop (i + 1) ps
 item_next ps i x h e = drop_more ps i x h ∙ ap (λ y. y ∷ drop (i + 1) ps) (sym e)
 
-pub item_ends : (path : Path) (i : ℕ) (x : Part) → i < length path.parents → x ≡ get_or path.parents i x → EndsAt path x.tli x.switch
-item_ends path i x h e =
+pub item_stands : (path : Path) (i tli : ℕ) (x : Part) → i < length path.parents → x ≡ get_or path.parents i x → x.tli ≡ tli
+    → StandsBehind path tli i
+item_stands path i tli x h e number =
     let parts : path.parents ≡ take i path.parents ++ x ∷ drop (i + 1) path.parents = sym (take-append-drop i path.parents)
     ∙ ap (λ qs. take i path.parents ++ qs) (item_next path.parents i x h e) in
-    (take i path.parents, x, drop (i + 1) path.parents, parts, refl, refl)
+    (take i path.parents, x, drop (i + 1) path.parents, parts, number, length-take-le i path.parents (omega arith))
 
 -- a parent behind that place, which is not at it, is behind the next one
 pub item_passed : (ps : List Part) (i tli : ℕ) (x : Part) → x ≡ get_or ps i x → x.tli ≢ tli

@@ -1,5 +1,5 @@
 -- Which timeline of a path holds which positions, and how paths stand to each other.
-use Rattle.std.specs.Prelude.{◌≡◌, ℕ, ◌<◌, ◌≤◌, ◌⊎◌, List, [], ◌∷◌, ◌++◌, length, map, take, drop, Option, Some, None}
+use Rattle.std.specs.Prelude.{◌≡◌, ℕ, ◌<◌, ◌≤◌, ◌⊎◌, List, [], ◌∷◌, ◌++◌, length, map, take, drop, Option, Some, None, nat_lt, if◌then◌else◌}
 use Rattle.repl_lsn.specs.declared.history.Part.{Part}
 use Rattle.repl_lsn.specs.declared.relation.Relation.{Relation}
 use Rattle.repl_lsn.specs.declared.relation.Relation.TheVariants as relation
@@ -34,6 +34,45 @@ EndsAt path tli end = (before : List Part) × (p : Part) × (after : List Part) 
 abbrev pub IsEndOf : Path → ℕ → Option ℕ → Type 0
 IsEndOf path tli (Some end) = EndsAt path tli end
 IsEndOf path tli None = (end : ℕ) → ¬ EndsAt path tli end
+
+-- the timeline that holds a position, as a function: the first parent that ends behind it, or the own one
+abbrev pub holder : ℕ → List Part → ℕ → ℕ
+holder own [] at = own
+holder own (p ∷ ps) at = if nat_lt at p.switch then p.tli else holder own ps at
+
+abbrev pub timeline_at : Path → ℕ → ℕ
+timeline_at path at = holder path.own path.parents at
+
+-- ---- a timeline among those of a path
+
+-- so many parents stand before this one
+abbrev pub StandsBehind : Path → ℕ → ℕ → Type 0
+StandsBehind path tli count =
+    (before : List Part) × (p : Part) × (after : List Part) × (path.parents ≡ before ++ p ∷ after) × (p.tli ≡ tli) × (length before ≡ count)
+
+-- the own timeline, or one that was left
+abbrev pub HasTimeline : Path → ℕ → Type 0
+HasTimeline path tli = (tli ≡ path.own) ⊎ ((end : ℕ) × EndsAt path tli end)
+
+-- the history of one of these: the path up to it
+pub record IsUpTo (path : Path) (tli : ℕ) (history : Path) : Type 0 where
+  pub own : history.own ≡ tli
+  pub begins : (history ≡ path) ⊎ ((p : Part) × (after : List Part) × (path.parents ≡ history.parents ++ p ∷ after) × (p.tli ≡ tli))
+
+-- the first of these, or the own one where there is none
+abbrev pub first_of : ℕ → List Part → ℕ
+first_of own [] = own
+first_of own (p ∷ ps) = p.tli
+
+-- the timeline behind one that was left
+abbrev pub IsNext : Path → ℕ → ℕ → Type 0
+IsNext path tli next =
+    (before : List Part) × (p : Part) × (after : List Part) × (path.parents ≡ before ++ p ∷ after) × (p.tli ≡ tli)
+    × (next ≡ first_of path.own after)
+
+abbrev pub IsNextOf : Path → ℕ → Option ℕ → Type 0
+IsNextOf path tli (Some next) = IsNext path tli next
+IsNextOf path tli None = (next : ℕ) → ¬ IsNext path tli next
 
 -- ---- relations
 

@@ -40,7 +40,10 @@ pub use history::{HISTORY_LIMIT, History, Line, Part, Parts};
 pub use history_laws::one_history;
 pub use history_lines::{history_text, parse_history};
 pub use laws::{one_canonical_text, one_value, text_spells};
-pub use path_laws::{child_is_child, one_relation, one_timeline, same_before_switch};
+pub use path_laws::{
+    child_is_child, next_begins, one_relation, one_timeline, path_goes_on, same_before_switch,
+    timeline_of_position,
+};
 pub use position::{Lsn, PlaceFault};
 pub use relation::Relation;
 pub use repl_text::Text;

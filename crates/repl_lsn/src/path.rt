@@ -1,7 +1,7 @@
-//! Which timeline of a path holds which positions.
-ghost use Rattle.std.specs.Prelude.{◌≡◌, ◌<◌, ◌≤◌, ◌++◌, ◌∷◌, [], IfOk, codes};
+//! The timelines of a path: which positions each holds, which comes next, and the history of each.
+ghost use Rattle.std.specs.Prelude.{◌≡◌, ℕ, ◌<◌, ◌≤◌, ◌++◌, ◌∷◌, [], length, IfOk, MatchOption, codes};
 ghost use Rattle.repl_lsn.specs.History.{last_switch};
-ghost use Rattle.repl_lsn.specs.Path.{IsOn, IsEndOf};
+ghost use Rattle.repl_lsn.specs.Path.{IsOn, IsEndOf, EndsAt, StandsBehind, HasTimeline, IsUpTo, IsNextOf, timeline_at};
 
 use crate::copies::copy_parts;
 use crate::history::{History, Line, Part, Parts};
@@ -14,9 +14,31 @@ impl History {
     pub fn end_of(&self, tli: Tli) -> Option<Lsn>
         ensures { IsEndOf self.now tli result }
     {
-        for part in self.parents().as_slice() {
+        let place = self.place_of(tli)?;
+        Some(self.parents().as_slice()[place].switch)
+    }
+
+    /// The timeline behind one that was left, which starts where that ends. `None` for the own one and for one that is
+    /// not on the path.
+    pub fn next_of(&self, tli: Tli) -> Option<Tli>
+        ensures { IsNextOf self.now tli result }
+    {
+        let place = self.place_of(tli)?;
+        match self.parents().as_slice().get(place + 1) {
+            Some(next) => Some(next.tli),
+            None => Some(self.own()),
+        }
+    }
+
+    /// How many of the timelines before this one's own stand before that one, if it is one of them.
+    fn place_of(&self, tli: Tli) -> Option<usize>
+        ensures { MatchOption result
+            ((end : ℕ) → ¬ EndsAt self.now tli end)
+            (λ place. StandsBehind self.now tli place × (place < length self.now.parents)) }
+    {
+        for (place, part) in self.parents().as_slice().iter().enumerate() {
             if part.tli == tli {
-                return Some(part.switch);
+                return Some(place);
             }
         }
         None
@@ -24,7 +46,8 @@ impl History {
 
     /// The timeline that holds the position: the first before its switch point, or the own one behind the last.
     pub fn timeline_at(&self, at: Lsn) -> Tli
-        ensures { IsOn self.now result at }
+        ensures on { IsOn self.now result at }
+        ensures value { result ≡ timeline_at self.now at }
     {
         for part in self.parents().as_slice() {
             if at < part.switch {
@@ -47,5 +70,20 @@ impl History {
             reason: Line::copied(alloc, b"promoted")?,
         })?;
         Ok(History::of(tli, Parts::new(parents)))
+    }
+
+    /// The history of one of the path's timelines: the path up to it. `None` for a timeline that is not on the path.
+    /// Takes memory.
+    pub fn up_to(&self, alloc: Global, tli: Tli) -> Result<Option<History>, AllocError>
+        ensures { IfOk result (λ found. MatchOption found (¬ HasTimeline self.now tli) (λ history. IsUpTo self.now tli history)) }
+    {
+        if tli == self.own() {
+            return Ok(Some(self.copy(alloc)?));
+        }
+        let Some(place) = self.place_of(tli) else {
+            return Ok(None);
+        };
+        let before = copy_parts(&self.parents().as_slice()[..place], alloc)?;
+        Ok(Some(History::of(tli, Parts::new(before))))
     }
 }

@@ -1,9 +1,9 @@
-ghost use Rattle.std.specs.Prelude.{◌≡◌, ℕ, ◌<◌, ◌≤◌, List, ◌++◌, ◌∷◌, [], Some, codes, length};
+ghost use Rattle.std.specs.Prelude.{◌≡◌, ℕ, ◌<◌, ◌≤◌, ◌⊎◌, ◌↔◌, List, ◌++◌, ◌∷◌, [], Option, Some, codes, length};
 ghost use Rattle.repl_lsn.specs.declared.history.Part.{Part};
 ghost use Rattle.repl_lsn.specs.declared.relation.Relation.{Relation};
 ghost use Rattle.repl_lsn.specs.declared.relation.Relation.TheVariants as Relation;
 ghost use Rattle.repl_lsn.specs.History.{Path, IsPath, last_switch};
-ghost use Rattle.repl_lsn.specs.Path.{IsOn, IsEndOf, IsChild, IsRelation};
+ghost use Rattle.repl_lsn.specs.Path.{IsOn, IsEndOf, IsBelow, IsChild, IsRelation, IsUpTo, IsNext, EndsAt, Holds, timeline_at};
 
 /// A position is on one timeline of a path, and not behind where that ends.
 pub fn one_timeline()
@@ -27,4 +27,28 @@ pub fn same_before_switch()
 pub fn child_is_child()
     ensures { (path : Path) (tli switch : ℕ) → path.own < tli → last_switch path.parents ≤ switch →
         IsRelation path (record { own = tli; parents = path.parents ++ record { tli = path.own; switch = switch; reason = codes "promoted" } ∷ [] }) (Relation.Child switch) }
+{}
+
+/// The timeline of a position is a function of path and position, which says what `IsOn` does. At and above the last
+/// switch point it is the own one, a timeline holds all positions from its start up to its end, and a history that goes
+/// on from another agrees with it before that was left.
+pub fn timeline_of_position()
+    ensures is_on { (path : Path) (tli at : ℕ) → IsPath path → IsOn path tli at ↔ (tli ≡ timeline_at path at) }
+    ensures own { (path : Path) (at : ℕ) → IsPath path → last_switch path.parents ≤ at → timeline_at path at ≡ path.own }
+    ensures interval { (path : Path) (tli start at : ℕ) (end : Option ℕ) → IsPath path → Holds 0 path.parents path.own tli start end
+        → start ≤ at → IsBelow at end → timeline_at path at ≡ tli }
+    ensures child { (a b : Path) (switch at : ℕ) → IsPath a → IsPath b → IsChild a b switch → at < switch
+        → timeline_at a at ≡ timeline_at b at }
+{}
+
+/// The history of a timeline on a path is a path, and the path is it or goes on from it, where the timeline was left.
+pub fn path_goes_on()
+    ensures { (path history : Path) (tli : ℕ) → IsPath path → IsUpTo path tli history
+        → IsPath history × ((history ≡ path) ⊎ ((switch : ℕ) × EndsAt path tli switch × IsChild history path switch)) }
+{}
+
+/// The next timeline starts where the one before it ends.
+pub fn next_begins()
+    ensures { (path : Path) (tli next : ℕ) → IsNext path tli next
+        → (switch : ℕ) × (end : Option ℕ) × EndsAt path tli switch × Holds 0 path.parents path.own next switch end }
 {}

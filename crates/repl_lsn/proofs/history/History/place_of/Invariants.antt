@@ -1,13 +1,13 @@
 -- No timeline so far has the number.
 use Rattle.std.proofs.Common.{◌≡◌, ◌≤◌, List, ◌∷◌, ◌++◌, length}
 use Rattle.repl_lsn.specs.declared.history.Part.{Part}
-use Rattle.repl_lsn.proofs.history.History.end_of.Given as goal
+use Rattle.repl_lsn.proofs.history.History.place_of.Given as goal
 
 -- where the timeline stands among the parents, it stands no earlier
-abbrev pub invariant-loop-part : goal.invariant-loop-part
-invariant-loop-part l =
+abbrev pub invariant-loop-place : goal.invariant-loop-place
+invariant-loop-place l =
     record {
       parents : l.part-items ≡ l.self.parents;
       behind : (before : List Part) (p : Part) (after : List Part) → l.self.parents ≡ before ++ p ∷ after → p.tli ≡ l.tli
-          → l.part-index ≤ length before;
+          → l.place ≤ length before;
     }
