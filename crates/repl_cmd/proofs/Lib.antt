@@ -1,10 +1,4 @@
 pub mod Appending
-pub mod Digits
-pub mod HasReading
-pub mod Leading
-pub mod OneQuoted
-pub mod OneReading
-pub mod OneToken
 pub mod OtherFaults
 pub mod PieceMeaning
 pub mod PositionFaults
@@ -13,9 +7,6 @@ pub mod Readings
 pub mod SmallLetters
 pub mod SpellingRead
 pub mod TokenOf
-pub mod TokenQuotes
-pub mod TokenRuns
-pub mod TokenSteps
 pub mod WalkCommands
 pub mod WalkEnds
 pub mod WalkFaults

@@ -19,7 +19,7 @@ use Rattle.repl_names.specs.declared.setting.Setting.TheVariants as setting
 use Rattle.repl_cmd.specs.declared.command.Command.{Command}
 use Rattle.repl_cmd.specs.Name.{IsSlotName, IsParameterName}
 use Rattle.repl_cmd.specs.Token.{Lexeme}
-use Rattle.repl_cmd.specs.Command.{Part, Keyword, Sign, Slot, Parameter, Position, Number, Value, Body, Names, Is, Follow, OneOf, IsRead, setting_word, forms}
+use Rattle.repl_cmd.specs.Command.{Part, Keyword, Sign, Slot, Parameter, Position, Number, Value, Body, Names, Is, Follow, OneOf, SaysCommand, setting_word, forms}
 use Rattle.repl_cmd.proofs.TokenOf.{Piece, IsWritten, tokens_from, written_reads, word_piece, position_piece, name_piece, text_piece, equals_piece}
 
 -- wherever it stands, the token is this part
@@ -41,7 +41,7 @@ means_follow (part ∷ next ∷ parts) p [] at m = absurd m.1
 means_follow (part ∷ next ∷ parts) p (q ∷ qs) at m = (m.0 at, means_follow (next ∷ parts) q qs (at + length p.spelled + 1) m.1)
 
 -- a written text, whose tokens are a form of the command, says it
-pub written_is_read : (text : List ℕ) (p : Piece) (ps : List Piece) (form : List Part) (c : Command) → IsWritten text p ps → Means form (p ∷ ps) → ((said : List Lexeme) → Follow form said → OneOf (forms c) said) → IsRead text c
+pub written_is_read : (text : List ℕ) (p : Piece) (ps : List Piece) (form : List Part) (c : Command) → IsWritten text p ps → Means form (p ∷ ps) → ((said : List Lexeme) → Follow form said → OneOf (forms c) said) → SaysCommand text c
 written_is_read text p ps form c written means is_form = record {
   tokens = tokens_from 0 p ps;
   reads = written_reads text p ps written;

@@ -13,7 +13,7 @@ use Rattle.repl_cmd.specs.declared.command.Command.TheVariants as command
 use Rattle.repl_cmd.specs.declared.token.Kind.TheVariants as kind
 use Rattle.repl_cmd.specs.Name.{IsSlotName, IsParameterName}
 use Rattle.repl_cmd.specs.Token.{Lexeme}
-use Rattle.repl_cmd.specs.Command.{Part, Keyword, Sign, Slot, Parameter, Position, Number, Value, Body, Names, Follow, OneOf, IsCommand, IsRead, IsTimeline, IsSlotOf, forms, create_physical, temporary_part, start_words, slot_part, timeline_part, wait_part, number_part, reserve_wal, set_words, alter_words, setting_word}
+use Rattle.repl_cmd.specs.Command.{Part, Keyword, Sign, Slot, Parameter, Position, Number, Value, Body, Names, Follow, OneOf, IsCommand, SaysCommand, IsTimeline, IsSlotOf, forms, create_physical, temporary_part, start_words, slot_part, timeline_part, wait_part, number_part, reserve_wal, set_words, alter_words, setting_word}
 use Rattle.repl_cmd.specs.Printing.{spelling}
 use Rattle.repl_cmd.proofs.TokenOf.{Piece, IsPiece, IsWritten, IsFront, written_first, written_more, front_space, front_more, front_word, word_piece, position_piece, name_piece, text_piece, equals_piece, all_word_bytes, keyword_is_piece, number_is_piece, position_is_piece, name_is_piece, text_is_piece, equals_is_piece}
 use Rattle.repl_cmd.proofs.WrittenParts.{pieces_if, written_if, number_pieces, number_written, slot_pieces, slot_front, timeline_pieces, timeline_written}
@@ -31,26 +31,26 @@ word_and : (word : List ℕ) (q : Piece) → 0 < length word → all_word_bytes 
 word_and word q some e is = front_more (word ++ 32 ∷ []) (word_piece word) [] q (word_front word some e) is
 
 -- a command that is one keyword
-keyword_read : (word small : List ℕ) (c : Command) → 0 < length word → all_word_bytes word ≡ true → map to_ascii_lowercase word ≡ small → forms c ≡ (Keyword small ∷ []) ∷ [] → IsRead word c
+keyword_read : (word small : List ℕ) (c : Command) → 0 < length word → all_word_bytes word ≡ true → map to_ascii_lowercase word ≡ small → forms c ≡ (Keyword small ∷ []) ∷ [] → SaysCommand word c
 keyword_read word small c some bytes e form =
     written_is_read word (word_piece word) [] (Keyword small ∷ []) c (one_word word some bytes) (keyword_means word small e, tt)
     (λ said f. subst (λ (forms : List (List Part)). OneOf forms said) (sym form) (inl f))
 
-show_read : (name : List ℕ) → IsParameterName name → IsRead (spelling (command.Show name)) (command.Show name)
+show_read : (name : List ℕ) → IsParameterName name → SaysCommand (spelling (command.Show name)) (command.Show name)
 show_read name is =
     written_is_read _ _ _ (Keyword (codes "show") ∷ Parameter name ∷ []) (command.Show name)
     (word_and (codes "SHOW") (name_piece name) (omega arith) refl (name_is_piece name))
     (keyword_means (codes "SHOW") (codes "show") refl, (parameter_means name is, tt))
     (λ said f. inl f)
 
-history_read : (n : ℕ) → 0 < n → n < 2 ^ 32 → IsRead (spelling (command.TimelineHistory n)) (command.TimelineHistory n)
+history_read : (n : ℕ) → 0 < n → n < 2 ^ 32 → SaysCommand (spelling (command.TimelineHistory n)) (command.TimelineHistory n)
 history_read n some small =
     written_is_read _ _ _ (Keyword (codes "timeline_history") ∷ Number 1 n ∷ []) (command.TimelineHistory n)
     (word_and (codes "TIMELINE_HISTORY") (word_piece (decimal n)) (omega arith) refl (number_is_piece n (omega arith)))
     (keyword_means (codes "TIMELINE_HISTORY") (codes "timeline_history") refl, (number_means 1 n (omega arith) small, tt))
     (λ said f. inl f)
 
-slot_read : (name : List ℕ) → IsSlotName name → IsRead (spelling (command.ReadSlot name)) (command.ReadSlot name)
+slot_read : (name : List ℕ) → IsSlotName name → SaysCommand (spelling (command.ReadSlot name)) (command.ReadSlot name)
 slot_read name is =
     written_is_read _ _ _ (Keyword (codes "read_replication_slot") ∷ Slot name ∷ []) (command.ReadSlot name)
     (word_and (codes "READ_REPLICATION_SLOT") (name_piece name) (omega arith) refl (name_is_piece name))
@@ -64,7 +64,7 @@ drop_means : (name : List ℕ) (wait : Bool) → IsSlotName name
 drop_means name true is = (keyword_means (codes "DROP_REPLICATION_SLOT") (codes "drop_replication_slot") refl, (slot_means name is, (keyword_means (codes "WAIT") (codes "wait") refl, tt)))
 drop_means name false is = (keyword_means (codes "DROP_REPLICATION_SLOT") (codes "drop_replication_slot") refl, (slot_means name is, tt))
 
-drop_read : (name : List ℕ) (wait : Bool) → IsSlotName name → IsRead (spelling (command.DropSlot name wait)) (command.DropSlot name wait)
+drop_read : (name : List ℕ) (wait : Bool) → IsSlotName name → SaysCommand (spelling (command.DropSlot name wait)) (command.DropSlot name wait)
 drop_read name wait is =
     let named = word_and (codes "DROP_REPLICATION_SLOT") (name_piece name) (omega arith) refl (name_is_piece name) in
     written_is_read _ _ _ (Keyword (codes "drop_replication_slot") ∷ Slot name ∷ wait_part wait) (command.DropSlot name wait)
@@ -76,7 +76,7 @@ promote_means : (n : Option ℕ) → IsTimeline n → Means (Keyword (codes "pro
 promote_means None is = (keyword_means (codes "PROMOTE") (codes "promote") refl, tt)
 promote_means (Some n) is = (keyword_means (codes "PROMOTE") (codes "promote") refl, (number_means 1 n (omega (arith, is.0)) is.1, tt))
 
-promote_read : (n : Option ℕ) → IsTimeline n → IsRead (spelling (command.Promote n)) (command.Promote n)
+promote_read : (n : Option ℕ) → IsTimeline n → SaysCommand (spelling (command.Promote n)) (command.Promote n)
 promote_read n is =
     written_is_read _ _ _ (Keyword (codes "promote") ∷ number_part n) (command.Promote n)
     (number_written _ _ _ n is (one_word (codes "PROMOTE") (omega arith) refl))
@@ -114,7 +114,7 @@ create_form : (name : List ℕ) (temporary reserve : Bool) (said : List Lexeme) 
 create_form name temporary true said f = inl f
 create_form name temporary false said f = inl f
 
-create_read : (name : List ℕ) (temporary reserve : Bool) → IsSlotName name → IsRead (spelling (command.CreateSlot name temporary reserve)) (command.CreateSlot name temporary reserve)
+create_read : (name : List ℕ) (temporary reserve : Bool) → IsSlotName name → SaysCommand (spelling (command.CreateSlot name temporary reserve)) (command.CreateSlot name temporary reserve)
 create_read name temporary reserve is =
     let named = word_and (codes "CREATE_REPLICATION_SLOT") (name_piece name) (omega arith) refl (name_is_piece name) in
     let temporarily = written_if _ _ _ temporary (codes "TEMPORARY") (keyword_is_piece (codes "TEMPORARY") (omega arith) refl) named in
@@ -143,7 +143,7 @@ start_means slot at timeline name small number =
     go (Some bytes) name = (keyword_means (codes "SLOT") (codes "slot") refl, (slot_means bytes name, (keyword_means (codes "PHYSICAL") (codes "physical") refl, (position_means at small, behind timeline number))))
 
 start_read : (slot : Option (List ℕ)) (at : ℕ) (timeline : Option ℕ) → IsSlotOf slot → at < 2 ^ 64 → IsTimeline timeline
-    → IsRead (spelling (command.StartReplication slot at timeline)) (command.StartReplication slot at timeline)
+    → SaysCommand (spelling (command.StartReplication slot at timeline)) (command.StartReplication slot at timeline)
 start_read slot at timeline name small number =
     let start = word_front (codes "START_REPLICATION") (omega arith) refl in
     let named = slot_front _ _ _ slot start in
@@ -156,7 +156,7 @@ start_read slot at timeline name small number =
 
 -- ---- statements
 
-append_read : (xid : ℕ) (body : List ℕ) → xid < 2 ^ 32 → All (λ b. b < 256) body → IsRead (spelling (command.Append xid body)) (command.Append xid body)
+append_read : (xid : ℕ) (body : List ℕ) → xid < 2 ^ 32 → All (λ b. b < 256) body → SaysCommand (spelling (command.Append xid body)) (command.Append xid body)
 append_read xid body small bytes =
     let numbered = word_and (codes "APPEND") (word_piece (decimal xid)) (omega arith) refl (number_is_piece xid (omega arith)) in
     let spaced = front_space _ _ _ numbered in
@@ -172,7 +172,7 @@ setting_is_piece setting.RemoteWrite = keyword_is_piece (codes "remote_write") (
 setting_is_piece setting.Local = keyword_is_piece (codes "local") (omega arith) refl
 setting_is_piece setting.Off = keyword_is_piece (codes "off") (omega arith) refl
 
-commit_read : (v : Setting) → IsRead (spelling (command.SetCommit v)) (command.SetCommit v)
+commit_read : (v : Setting) → SaysCommand (spelling (command.SetCommit v)) (command.SetCommit v)
 commit_read v =
     let set = word_and (codes "SET") (word_piece (codes "synchronous_commit")) (omega arith) refl (keyword_is_piece (codes "synchronous_commit") (omega arith) refl) in
     let equals = front_space _ _ _ (written_more _ _ _ equals_piece set equals_is_piece) in
@@ -185,7 +185,7 @@ names_means : (list : Listing) → IsListing list
     → Means (alter_words ++ Names list ∷ []) (word_piece (codes "ALTER") ∷ word_piece (codes "SYSTEM") ∷ word_piece (codes "SET") ∷ word_piece (codes "synchronous_standby_names") ∷ equals_piece ∷ text_piece (names.spelling list) ∷ [])
 names_means list is = (keyword_means (codes "ALTER") (codes "alter") refl, (keyword_means (codes "SYSTEM") (codes "system") refl, (keyword_means (codes "SET") (codes "set") refl, (keyword_means (codes "synchronous_standby_names") (codes "synchronous_standby_names") refl, (equals_means, (list_means list is, tt))))))
 
-names_read : (list : Listing) → IsListing list → IsRead (spelling (command.SetNames list)) (command.SetNames list)
+names_read : (list : Listing) → IsListing list → SaysCommand (spelling (command.SetNames list)) (command.SetNames list)
 names_read list is =
     let system = word_and (codes "ALTER") (word_piece (codes "SYSTEM")) (omega arith) refl (keyword_is_piece (codes "SYSTEM") (omega arith) refl) in
     let set = written_more _ _ _ (word_piece (codes "SET")) system (keyword_is_piece (codes "SET") (omega arith) refl) in
@@ -198,7 +198,7 @@ names_read list is =
 
 -- ---- each command
 
-pub spelling_read : (c : Command) → IsCommand c → IsRead (spelling c) c
+pub spelling_read : (c : Command) → IsCommand c → SaysCommand (spelling c) c
 spelling_read command.IdentifySystem is = keyword_read (codes "IDENTIFY_SYSTEM") (codes "identify_system") command.IdentifySystem (omega arith) refl refl refl
 spelling_read (command.Show name) is = show_read name is
 spelling_read (command.TimelineHistory n) is = history_read n is.0 is.1

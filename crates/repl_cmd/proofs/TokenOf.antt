@@ -1,88 +1,104 @@
 -- The tokens of a text that is written from tokens.
-use Rattle.std.proofs.Common.{◌≡◌, ℕ, suc, ◌+◌, ◌<◌, ◌≤◌, ◌^◌, Bool, true, false, ◌==◌, ◌&&◌, List, [], ◌∷◌, ◌++◌, length, codes, decimal, refl, sym, ap, subst, ◌∙◌, length-append, arith}
+use Rattle.std.proofs.Common.{◌≡◌, ℕ, ◌+◌, ◌<◌, ◌≤◌, ◌^◌, Bool, true, false, ◌==◌, ◌&&◌, List, [], ◌∷◌, ◌++◌, length, get_or, codes, decimal, refl, sym, ap, subst, ◌∙◌, length-append, arith}
 use Rattle.std.specs.Char.{digit_value}
-use Rattle.std.specs.List.{All, Any}
+use Rattle.std.specs.List.{All, list_any}
 use Rattle.std.specs.Str.Parse.{AllDigits}
-use Rattle.std.proofs.lemmas.Bool.{and_parts}
+use Rattle.std.proofs.lemmas.Bool.{and_parts, cond-true, cond-false, or_right, ne_eqb, true≢false}
 use Rattle.std.proofs.lemmas.Bool.Decides.{nat_tests}
 use Rattle.std.proofs.lemmas.Fmt.{decimal_is_IsNumeral, decimal_nonempty}
 use Rattle.std.proofs.lemmas.List.{append-nil, append_assoc}
-use Rattle.std.proofs.lemmas.List.Elements.{All-nil, All-cons, All-head, All-tail, All-append}
-use Rattle.repl_names.specs.Token.{EndsBefore}
+use Rattle.std.proofs.lemmas.List.Elements.{All-nil, All-cons, All-append, All-weaker}
+use Rattle.std.proofs.lemmas.List.Folds.{list_any_none, list_any-append}
 use Rattle.repl_lsn.specs.Position.{position_text}
 use Rattle.repl_lsn.proofs.Canonical.{position_text_spells}
 use Rattle.repl_cmd.specs.declared.token.Kind.{Kind}
 use Rattle.repl_cmd.specs.declared.token.Kind.TheVariants as kind
-use Rattle.repl_cmd.specs.Token.{Lexeme, Reads, IsToken, quoted, is_blank, is_word_byte, is_run_byte}
+use Rattle.repl_token.specs.declared.class.Class.{Class}
+use Rattle.repl_token.specs.declared.class.Class.TheVariants as class
+use Rattle.repl_token.specs.declared.token.Kind.TheVariants as raw
+use Rattle.repl_token.specs.Class.{is_blank, is_inside}
+use Rattle.repl_token.specs.Token.{EndsBefore, quoted}
+use Rattle.repl_token.proofs.Runs.{run_of}
+use Rattle.repl_token.proofs.Written.{IsTokenAs, read_last, one_blank}
+use Rattle.repl_token.proofs.Written as written
+use Rattle.repl_cmd.specs.Token.{Lexeme, Reads, command_class, command_token, is_space, is_word_byte, is_run_byte, run_kind}
 
 -- ---- a token in front of those that were read
 
--- the token behind these blanks, which begin at this place
-abbrev pub token_behind : ℕ → List ℕ → Kind → List ℕ → Lexeme
-token_behind at blanks k text = record { kind = k; place = at + length blanks; text = text }
+-- a token of a command, at any place
+abbrev pub token_of : Kind → List ℕ → ℕ → Lexeme
+token_of k text place = record { kind = k; place = place; text = text }
 
-pub read_next : (at : ℕ) (blanks spelled behind : List ℕ) (k : Kind) (text : List ℕ) (tokens : List Lexeme) → All (λ c. is_blank c ≡ true) blanks → IsToken k text spelled behind → Reads (at + length blanks + length spelled) behind tokens
-    → Reads at (blanks ++ spelled ++ behind) (token_behind at blanks k text ∷ tokens)
-read_next at blanks spelled behind k text tokens blank is reads = (
-  behind,
-  at + length blanks + length spelled,
-  record { blanks = blanks; spelled = spelled; parts = refl; blank = blank; place = refl; is = is },
-  omega (arith, length-append (blanks ++ spelled) behind, length-append blanks spelled),
-  reads,
-)
+-- these bytes spell a token of this kind with this text
+abbrev pub IsToken : Kind → List ℕ → List ℕ → List ℕ → Type 0
+IsToken k text spelled behind = IsTokenAs command_class command_token (token_of k text) spelled behind
 
-pub no_blank : All (λ c. is_blank c ≡ true) []
-no_blank = All-nil (λ c. is_blank c ≡ true)
+read_next : (at : ℕ) (blanks spelled behind : List ℕ) (k : Kind) (text : List ℕ) (tokens : List Lexeme) → All (λ c. is_blank (command_class c) ≡ true) blanks
+    → IsToken k text spelled behind → Reads (at + length blanks + length spelled) behind tokens
+    → Reads at (blanks ++ spelled ++ behind) (token_of k text (at + length blanks) ∷ tokens)
+read_next at blanks spelled behind k text tokens blank is reads = written.read_next command_class command_token at blanks spelled behind (token_of k text) tokens blank is reads
 
-pub one_space : All (λ c. is_blank c ≡ true) (32 ∷ [])
-one_space = All-cons (λ c. is_blank c ≡ true) 32 [] refl no_blank
+no_blank : All (λ c. is_blank (command_class c) ≡ true) []
+no_blank = written.no_blank command_class
 
--- the last token
-pub read_last : (at : ℕ) (blanks spelled : List ℕ) (k : Kind) (text : List ℕ) → All (λ c. is_blank c ≡ true) blanks → IsToken k text spelled [] → Reads at (blanks ++ spelled) (token_behind at blanks k text ∷ [])
-read_last at blanks spelled k text blank is =
-    subst (λ (bytes : List ℕ). Reads at bytes (token_behind at blanks k text ∷ [])) (append-nil (blanks ++ spelled)) (read_next at blanks spelled [] k text [] blank is no_blank)
+one_space : All (λ c. is_blank (command_class c) ≡ true) (32 ∷ [])
+one_space = one_blank command_class 32 refl
 
 -- ---- tokens of each kind
+
+run_class : (c : ℕ) → is_run_byte c ≡ true → command_class c ≡ class.Letter
+run_class c e =
+    let no_space : is_space c ≡ false = grind (arith, nat_tests) in
+    cond-false (is_space c) _ _ no_space ∙ cond-true (is_run_byte c) _ _ e
+
+run_is_inside : (run : List ℕ) → All (λ c. is_run_byte c ≡ true) run → All (λ c. is_inside (command_class c) ≡ true) run
+run_is_inside run h = All-weaker (λ c. is_run_byte c ≡ true) (λ c. is_inside (command_class c) ≡ true) (λ c e. ap is_inside (run_class c e)) run h
+
+-- a run, of which there is some, and no more behind it
+run_token : (k : Kind) (run behind : List ℕ) → 0 < length run → All (λ c. is_run_byte c ≡ true) run → EndsBefore (λ c. is_inside (command_class c)) behind
+    → run_kind run ≡ k → IsToken k run run behind
+run_token k run behind some bytes ends is = record {
+  kind = raw.Word;
+  text = run;
+  is = (refl, run_of command_class class.Letter is_inside run behind some (run_class (get_or run 0 0) (bytes 0 0 some)) (run_is_inside run bytes) ends);
+  means = λ place. ap (λ l. token_of l run place) is;
+}
 
 word_runs : (c : ℕ) → is_word_byte c ≡ true → is_run_byte c ≡ true
 word_runs c e = grind (arith, nat_tests)
 
 word_is_run : (word : List ℕ) → All (λ c. is_word_byte c ≡ true) word → All (λ c. is_run_byte c ≡ true) word
-word_is_run [] h = All-nil (λ c. is_run_byte c ≡ true)
-word_is_run (c ∷ cs) h =
-    All-cons (λ c. is_run_byte c ≡ true) c cs (word_runs c (All-head (λ c. is_word_byte c ≡ true) c cs h)) (word_is_run cs (All-tail (λ c. is_word_byte c ≡ true) c cs h))
+word_is_run word h = All-weaker (λ c. is_word_byte c ≡ true) (λ c. is_run_byte c ≡ true) word_runs word h
+
+no_slash : (c : ℕ) → is_word_byte c ≡ true → (c == 47) ≡ false
+no_slash c e = grind (arith, nat_tests)
 
 -- bytes of words, of which there are some
-pub word_token : (word behind : List ℕ) → 0 < length word → All (λ c. is_word_byte c ≡ true) word → EndsBefore is_run_byte behind → IsToken kind.Word word word behind
-word_token word behind some bytes ends = (refl, record { some = some; goes_on = word_is_run word bytes; ends = ends }, bytes)
+pub word_token : (word behind : List ℕ) → 0 < length word → All (λ c. is_word_byte c ≡ true) word → EndsBefore (λ c. is_inside (command_class c)) behind
+    → IsToken kind.Word word word behind
+word_token word behind some bytes ends =
+    let none = list_any_none (λ c. c == 47) word (All-weaker (λ c. is_word_byte c ≡ true) (λ c. (c == 47) ≡ false) no_slash word bytes) in
+    run_token kind.Word word behind some (word_is_run word bytes) ends (cond-false (list_any (λ c. c == 47) word) _ _ none)
 
-slash_in : (high low : List ℕ) → Any (λ c. c ≡ 47) (high ++ 47 ∷ low)
-slash_in [] low = (0, 47, omega arith, refl, refl)
-slash_in (c ∷ cs) low =
-    let behind = slash_in cs low in
-    (suc behind.0, behind.1, omega (arith, behind.2), behind.3, behind.4)
+slash_in : (high low : List ℕ) → list_any (λ c. c == 47) (high ++ 47 ∷ low) ≡ true
+slash_in high low = list_any-append (λ c. c == 47) high (47 ∷ low) ∙ or_right (list_any (λ c. c == 47) high) (list_any (λ c. c == 47) (47 ∷ low)) refl
 
 -- bytes of words with a slash between them
-pub position_token : (high low behind : List ℕ) → All (λ c. is_word_byte c ≡ true) high → All (λ c. is_word_byte c ≡ true) low → EndsBefore is_run_byte behind
-    → IsToken kind.Position (high ++ 47 ∷ low) (high ++ 47 ∷ low) behind
-position_token high low behind above below ends = (
-  refl,
-  record {
-    some = omega (arith, length-append high (47 ∷ low));
-    goes_on = All-append (λ c. is_run_byte c ≡ true) high (47 ∷ low) (word_is_run high above) (All-cons (λ c. is_run_byte c ≡ true) 47 low refl (word_is_run low below));
-    ends = ends;
-  },
-  slash_in high low,
-)
+pub position_token : (high low behind : List ℕ) → All (λ c. is_word_byte c ≡ true) high → All (λ c. is_word_byte c ≡ true) low
+    → EndsBefore (λ c. is_inside (command_class c)) behind → IsToken kind.Position (high ++ 47 ∷ low) (high ++ 47 ∷ low) behind
+position_token high low behind above below ends =
+    let bytes = All-append (λ c. is_run_byte c ≡ true) high (47 ∷ low) (word_is_run high above) (All-cons (λ c. is_run_byte c ≡ true) 47 low refl (word_is_run low below)) in
+    run_token kind.Position (high ++ 47 ∷ low) behind (omega (arith, length-append high (47 ∷ low))) bytes ends
+    (cond-true (list_any (λ c. c == 47) (high ++ 47 ∷ low)) _ _ (slash_in high low))
 
 pub name_token : (name behind : List ℕ) → EndsBefore (λ c. c == 34) behind → IsToken kind.Name name (quoted 34 name) behind
-name_token name behind ends = record { spelled = refl; ends = ends }
+name_token name behind ends = record { kind = raw.Quoted 34; text = name; is = (refl, record { spelled = refl; ends = ends }); means = λ place. refl }
 
 pub text_token : (text behind : List ℕ) → EndsBefore (λ c. c == 39) behind → IsToken kind.Text text (quoted 39 text) behind
-text_token text behind ends = record { spelled = refl; ends = ends }
+text_token text behind ends = record { kind = raw.Quoted 39; text = text; is = (refl, record { spelled = refl; ends = ends }); means = λ place. refl }
 
 pub equals_token : (behind : List ℕ) → IsToken kind.Equals [] (codes "=") behind
-equals_token behind = (refl, refl)
+equals_token behind = record { kind = raw.Alone 61; text = []; is = (refl, refl, refl); means = λ place. refl }
 
 -- ---- texts with one space between tokens
 
@@ -95,7 +111,7 @@ pub record Piece : Type 0 where
 -- nothing stands here, or a blank
 abbrev pub IsApart : List ℕ → Type 0
 IsApart [] = Unit {0}
-IsApart (c ∷ behind) = is_blank c ≡ true
+IsApart (c ∷ behind) = is_blank (command_class c) ≡ true
 
 -- the bytes spell the token, where it stands apart from what is behind it
 abbrev pub IsPiece : Piece → Type 0
@@ -124,8 +140,8 @@ tokens_from at p [] = record { kind = p.kind; place = at; text = p.text } ∷ []
 tokens_from at p (q ∷ qs) = record { kind = p.kind; place = at; text = p.text } ∷ tokens_from (at + length p.spelled + 1) q qs
 
 -- such a text has these tokens
-pub spaced_reads : (at : ℕ) (blanks : List ℕ) (p : Piece) (ps : List Piece) → All (λ c. is_blank c ≡ true) blanks → ArePieces (p ∷ ps) → Reads at (blanks ++ spaced p ps) (tokens_from (at + length blanks) p ps)
-spaced_reads at blanks p [] blank are = read_last at blanks p.spelled p.kind p.text blank (are.0 [] tt)
+pub spaced_reads : (at : ℕ) (blanks : List ℕ) (p : Piece) (ps : List Piece) → All (λ c. is_blank (command_class c) ≡ true) blanks → ArePieces (p ∷ ps) → Reads at (blanks ++ spaced p ps) (tokens_from (at + length blanks) p ps)
+spaced_reads at blanks p [] blank are = read_last command_class command_token at blanks p.spelled (token_of p.kind p.text) blank (are.0 [] tt)
 spaced_reads at blanks p (q ∷ qs) blank are =
     let end : ℕ = at + length blanks + length p.spelled in
     let others = spaced_reads end (32 ∷ []) q qs one_space are.1 in
@@ -207,21 +223,28 @@ text_piece text = record { kind = kind.Text; text = text; spelled = quoted 39 te
 abbrev pub equals_piece : Piece
 equals_piece = record { kind = kind.Equals; text = []; spelled = codes "=" }
 
-apart_ends : (test : ℕ → Bool) → ((c : ℕ) → is_blank c ≡ true → test c ≡ false) → (behind : List ℕ) → IsApart behind → EndsBefore test behind
+apart_ends : (test : ℕ → Bool) → ((c : ℕ) → is_blank (command_class c) ≡ true → test c ≡ false) → (behind : List ℕ) → IsApart behind → EndsBefore test behind
 apart_ends test blank [] apart = tt
 apart_ends test blank (c ∷ behind) apart = blank c apart
 
-blank_no_run : (c : ℕ) → is_blank c ≡ true → is_run_byte c ≡ false
-blank_no_run c e = grind (arith, nat_tests)
+blank_class : (k : Class) → is_blank k ≡ true → k ≡ class.Blank
+blank_class class.Blank e = refl
+blank_class class.Alone e = absurd cc
+blank_class class.Quote e = absurd cc
+blank_class class.Letter e = absurd cc
+blank_class class.Digit e = absurd cc
+blank_class class.Inner e = absurd cc
+blank_class class.Nothing e = absurd cc
 
-blank_no_double : (c : ℕ) → is_blank c ≡ true → (c == 34) ≡ false
-blank_no_double c e = grind (arith, nat_tests)
+blank_no_run : (c : ℕ) → is_blank (command_class c) ≡ true → is_inside (command_class c) ≡ false
+blank_no_run c e = ap is_inside (blank_class (command_class c) e)
 
-blank_no_single : (c : ℕ) → is_blank c ≡ true → (c == 39) ≡ false
-blank_no_single c e = grind (arith, nat_tests)
+-- a quote is no blank
+blank_no_quote : (c quote : ℕ) → is_blank (command_class quote) ≡ false → is_blank (command_class c) ≡ true → (c == quote) ≡ false
+blank_no_quote c quote none e = ne_eqb c quote (λ same. true≢false (sym e ∙ ap (λ b. is_blank (command_class b)) same ∙ none))
 
 pub word_is_piece : (word : List ℕ) → 0 < length word → All (λ c. is_word_byte c ≡ true) word → IsPiece (word_piece word)
-word_is_piece word some bytes = λ behind apart. word_token word behind some bytes (apart_ends is_run_byte blank_no_run behind apart)
+word_is_piece word some bytes = λ behind apart. word_token word behind some bytes (apart_ends (λ c. is_inside (command_class c)) blank_no_run behind apart)
 
 -- a test of a keyword, which computes
 abbrev pub all_word_bytes : List ℕ → Bool
@@ -250,13 +273,13 @@ pub position_is_piece : (at : ℕ) → at < 2 ^ 64 → IsPiece (position_piece (
 position_is_piece at small = λ behind apart.
     let s = position_text_spells at small in
     subst (λ (text : List ℕ). IsToken kind.Position text text behind) (sym s.parts)
-    (position_token s.high s.low behind (digits_are_word_bytes 16 s.high (omega arith) s.high_is.hexadecimal) (digits_are_word_bytes 16 s.low (omega arith) s.low_is.hexadecimal) (apart_ends is_run_byte blank_no_run behind apart))
+    (position_token s.high s.low behind (digits_are_word_bytes 16 s.high (omega arith) s.high_is.hexadecimal) (digits_are_word_bytes 16 s.low (omega arith) s.low_is.hexadecimal) (apart_ends (λ c. is_inside (command_class c)) blank_no_run behind apart))
 
 pub name_is_piece : (name : List ℕ) → IsPiece (name_piece name)
-name_is_piece name = λ behind apart. name_token name behind (apart_ends (λ c. c == 34) blank_no_double behind apart)
+name_is_piece name = λ behind apart. name_token name behind (apart_ends (λ c. c == 34) (λ c e. blank_no_quote c 34 refl e) behind apart)
 
 pub text_is_piece : (text : List ℕ) → IsPiece (text_piece text)
-text_is_piece text = λ behind apart. text_token text behind (apart_ends (λ c. c == 39) blank_no_single behind apart)
+text_is_piece text = λ behind apart. text_token text behind (apart_ends (λ c. c == 39) (λ c e. blank_no_quote c 39 refl e) behind apart)
 
 pub equals_is_piece : IsPiece equals_piece
 equals_is_piece = λ behind apart. equals_token behind

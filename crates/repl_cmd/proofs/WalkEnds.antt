@@ -13,7 +13,8 @@ use Rattle.repl_lsn.specs.Position.{IsHalf}
 use Rattle.repl_names.specs.declared.list.Method.TheVariants as method
 use Rattle.repl_names.specs.declared.setting.Setting.TheVariants as setting
 use Rattle.repl_names.specs.StandbyList.{Listing}
-use Rattle.repl_names.specs.Token.{is_blank}
+use Rattle.repl_token.proofs.Written.{read_end}
+use Rattle.repl_names.specs.Token.{list_class, list_token}
 use Rattle.repl_cmd.specs.declared.command.Command.{Command}
 use Rattle.repl_cmd.specs.declared.command.Command.TheVariants as command
 use Rattle.repl_cmd.specs.declared.state.State.{State}
@@ -71,7 +72,7 @@ a_list : IsList no_names (token kind.Text [])
 a_list = (
   refl,
   record {
-    spells = record { tokens = []; number = None; reads = All-nil (λ c. is_blank c ≡ true); says = (refl, inl (refl, refl)); value = refl };
+    spells = record { tokens = []; number = None; reads = read_end list_class list_token 0; says = (refl, inl (refl, refl)); value = refl };
     is_listing = record { texts = All-nil IsText; demands = (refl, refl); short = omega arith };
   },
 )

@@ -1,7 +1,7 @@
 -- The parts of a written text that may be left out.
 use Rattle.std.proofs.Common.{ℕ, Bool, true, false, List, [], ◌∷◌, ◌++◌, codes, decimal, Option, Some, None, refl, sym, ap, subst, ◌∙◌, arith}
 use Rattle.std.proofs.lemmas.List.{append-nil, append_assoc}
-use Rattle.repl_cmd.specs.Token.{quoted}
+use Rattle.repl_token.specs.Token.{quoted}
 use Rattle.repl_cmd.specs.Command.{IsTimeline}
 use Rattle.repl_cmd.specs.Printing.{word_if, slot_words, timeline_words, number_word}
 use Rattle.repl_cmd.proofs.TokenOf.{Piece, IsPiece, IsWritten, written_more, written_none, written_as, IsFront, front_space, front_more, front_word, front_none, front_as, word_piece, name_piece, keyword_is_piece, number_is_piece, name_is_piece}

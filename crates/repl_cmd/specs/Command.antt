@@ -5,6 +5,7 @@ use Rattle.std.specs.Char.{to_ascii_lowercase, is_ascii_digit}
 use Rattle.std.specs.Str.Parse.{digits_value}
 use Rattle.hex.specs.Hex.{decode_of}
 use Rattle.repl_text.specs.Text.{IsText}
+use Rattle.repl_token.specs.Token.{Lowers}
 use Rattle.repl_lsn.specs.Position.{Spells}
 use Rattle.repl_names.specs.declared.setting.Setting.{Setting}
 use Rattle.repl_names.specs.declared.setting.Setting.TheVariants as setting
@@ -18,10 +19,6 @@ use Rattle.repl_cmd.specs.Name.{IsSlotName, IsParameterName}
 use Rattle.repl_cmd.specs.Token.{Lexeme, Reads}
 
 -- ---- tokens with a meaning
-
--- the bytes are this word in any case
-abbrev pub Lowers : List ℕ → List ℕ → Type 0
-Lowers bytes word = map to_ascii_lowercase bytes ≡ word
 
 -- this keyword
 abbrev pub IsKeyword : List ℕ → Lexeme → Type 0
@@ -84,7 +81,7 @@ IsBody bytes t = (t.kind ≡ kind.Text) × (decode_of t.text ≡ Ok bytes)
 
 -- this standby list
 abbrev pub IsList : Listing → Lexeme → Type 0
-IsList list t = (t.kind ≡ kind.Text) × names.IsRead t.text list
+IsList list t = (t.kind ≡ kind.Text) × names.SaysList t.text list
 
 -- ---- parts of a row
 
@@ -222,7 +219,7 @@ abbrev pub IsSaid : List Lexeme → Type 0
 IsSaid tokens = (c : Command) × Says tokens c
 
 -- the text says the command
-pub record IsRead (text : List ℕ) (c : Command) : Type 0 where
+pub record SaysCommand (text : List ℕ) (c : Command) : Type 0 where
   pub tokens : List Lexeme
   pub reads : Reads 0 text tokens
   pub says : Says tokens c

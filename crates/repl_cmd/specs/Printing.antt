@@ -5,7 +5,7 @@ use Rattle.repl_lsn.specs.Position.{position_text}
 use Rattle.repl_names.specs.StandbyList as names
 use Rattle.repl_cmd.specs.declared.command.Command.{Command}
 use Rattle.repl_cmd.specs.declared.command.Command.TheVariants as command
-use Rattle.repl_cmd.specs.Token.{quoted}
+use Rattle.repl_token.specs.Token.{quoted}
 use Rattle.repl_cmd.specs.Command.{setting_word}
 
 -- a word that may stand behind a command

@@ -59,7 +59,7 @@ IsSpecial before t (fault.Unsupported what) = IsLeftOut before t what
 IsSpecial before t (fault.BadSlotName place) = (place ≡ t.place) × WantsSlot before × IsNaming t
 IsSpecial before t (fault.BadLsn place) = (place ≡ t.place) × WantsPosition before × IsJudged t × ¬ (WantsPhysical before × IsKeyword (codes "logical") t)
 IsSpecial before t (fault.BadNumber place) = (place ≡ t.place) × WantsNumber before × IsJudged t
-IsSpecial before t (fault.BadNames found) = WantsNames before × (t.kind ≡ kind.Text) × names.IsRefused t.text found × (found ≢ names_fault.Memory)
+IsSpecial before t (fault.BadNames found) = WantsNames before × (t.kind ≡ kind.Text) × names.IsListFault t.text found × (found ≢ names_fault.Memory)
 IsSpecial before t fault.Memory = ⊥
 
 -- behind these tokens, this one has this fault, which is of the syntax where it has no other
@@ -80,6 +80,6 @@ pub record Leaves (text : List ℕ) (f : CmdFault) : Type 0 where
   pub stops : StopsAt IsSaid tokens index
   pub cause : IsFaultAt (take index tokens) (drop index tokens) (length text) f
 
-abbrev pub IsRefused : List ℕ → CmdFault → Type 0
-IsRefused text fault.Memory = Unit {0}
-IsRefused text f = Leaves text f
+abbrev pub IsCommandFault : List ℕ → CmdFault → Type 0
+IsCommandFault text fault.Memory = Unit {0}
+IsCommandFault text f = Leaves text f

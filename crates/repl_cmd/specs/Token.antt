@@ -1,7 +1,12 @@
--- The tokens of a command's text.
-use Rattle.std.specs.Prelude.{◌≡◌, ℕ, ◌+◌, ◌<◌, ◌⊎◌, Bool, true, not, ◌||◌, ◌==◌, if◌then◌else◌, List, [], ◌∷◌, ◌++◌, length, flat_map, All, Any, codes}
+-- The tokens of a command's text: what each byte is, and what the lexer's tokens are to a command.
+use Rattle.std.specs.Prelude.{ℕ, Bool, ◌||◌, ◌==◌, if◌then◌else◌, List}
 use Rattle.std.specs.Char.{is_ascii_alphanumeric}
-use Rattle.repl_names.specs.Token.{EndsBefore}
+use Rattle.std.specs.List.{list_any}
+use Rattle.repl_token.specs.declared.class.Class.{Class}
+use Rattle.repl_token.specs.declared.class.Class.TheVariants as class
+use Rattle.repl_token.specs.declared.token.Kind as lexer
+use Rattle.repl_token.specs.declared.token.Kind.TheVariants as raw
+use Rattle.repl_token.specs.Token.{RawToken, ReadsAs}
 use Rattle.repl_cmd.specs.declared.token.Kind.{Kind}
 use Rattle.repl_cmd.specs.declared.token.Kind.TheVariants as kind
 
@@ -12,8 +17,8 @@ pub record Lexeme : Type 0 where
   pub text : List ℕ
 
 -- a space, a tab, a line feed or a carriage return
-abbrev pub is_blank : ℕ → Bool
-is_blank c = c == 32 || c == 9 || c == 10 || c == 13
+abbrev pub is_space : ℕ → Bool
+is_space c = c == 32 || c == 9 || c == 10 || c == 13
 
 -- a letter, a digit or an underscore
 abbrev pub is_word_byte : ℕ → Bool
@@ -23,69 +28,52 @@ is_word_byte c = is_ascii_alphanumeric c || c == 95
 abbrev pub is_run_byte : ℕ → Bool
 is_run_byte c = is_word_byte c || c == 47
 
--- `(`, `)`, `,`, `;` or `=`
-abbrev pub stands_alone : ℕ → Bool
-stands_alone c = c == 40 || c == 41 || c == 44 || c == 59 || c == 61
-
 -- a double or a single quote
 abbrev pub is_quote : ℕ → Bool
 is_quote c = c == 34 || c == 39
 
--- these bytes are a run, and what is behind it does not go on with it
-pub record IsRun (bytes behind : List ℕ) : Type 0 where
-  pub some : 0 < length bytes
-  pub goes_on : All (λ c. is_run_byte c ≡ true) bytes
-  pub ends : EndsBefore is_run_byte behind
+-- `(`, `)`, `,`, `;` or `=`
+abbrev pub is_sign : ℕ → Bool
+is_sign c = c == 40 || c == 41 || c == 44 || c == 59 || c == 61
 
--- in quotes the quote is written twice
-abbrev pub doubled : ℕ → ℕ → List ℕ
-doubled quote c = if c == quote then quote ∷ quote ∷ [] else c ∷ []
+-- a run of letters, digits, underscores and slashes is one word to the lexer, whichever of them is first
+abbrev pub command_class : ℕ → Class
+command_class c =
+    if is_space c then class.Blank
+    else if is_run_byte c then class.Letter
+    else if is_quote c then class.Quote
+    else if is_sign c then class.Alone
+    else class.Nothing
 
-abbrev pub quoted : ℕ → List ℕ → List ℕ
-quoted quote text = quote ∷ flat_map (doubled quote) text ++ quote ∷ []
+-- a run with a slash in it is made for a position
+abbrev pub run_kind : List ℕ → Kind
+run_kind run = if list_any (λ c. c == 47) run then kind.Position else kind.Word
 
--- these bytes are this text in quotes, and no quote is behind it
-pub record IsQuoted (quote : ℕ) (text bytes behind : List ℕ) : Type 0 where
-  pub spelled : bytes ≡ quoted quote text
-  pub ends : EndsBefore (λ c. c == quote) behind
+abbrev pub sign_kind : ℕ → Kind
+sign_kind c =
+    if c == 40 then kind.Opening
+    else if c == 41 then kind.Closing
+    else if c == 44 then kind.Comma
+    else if c == 59 then kind.Semicolon
+    else if c == 61 then kind.Equals
+    else kind.Wrong
 
--- quotes that do not end
-abbrev pub IsUnclosed : ℕ → List ℕ → Type 0
-IsUnclosed quote bytes = (text : List ℕ) × (bytes ≡ quote ∷ flat_map (doubled quote) text)
+-- a name stands in double quotes, and a text in single ones
+abbrev pub quoted_kind : ℕ → Kind
+quoted_kind quote = if quote == 34 then kind.Name else kind.Text
 
--- no token begins with this byte
-abbrev pub begins_nothing : ℕ → Bool
-begins_nothing c = not (is_blank c || is_run_byte c || stands_alone c || is_quote c)
+abbrev pub kind_of : lexer.Kind → List ℕ → Kind
+kind_of raw.Word text = run_kind text
+kind_of raw.Number text = run_kind text
+kind_of (raw.Alone sign) text = sign_kind sign
+kind_of (raw.Quoted quote) text = quoted_kind quote
+kind_of raw.Wrong text = kind.Wrong
+kind_of (raw.Unclosed quote) text = kind.Wrong
 
--- a byte that begins no token, or quotes that do not end
-abbrev pub IsWrong : List ℕ → Type 0
-IsWrong bytes = ((first : ℕ) × (behind : List ℕ) × (bytes ≡ first ∷ behind) × (begins_nothing first ≡ true))
-    ⊎ IsUnclosed 34 bytes ⊎ IsUnclosed 39 bytes
-
--- A token of this kind, which says this text, is spelled by these bytes, where those are behind it. A run and a
--- text in quotes are as long as they can be. Nothing is read behind what is wrong.
-abbrev pub IsToken : Kind → List ℕ → List ℕ → List ℕ → Type 0
-IsToken kind.Word text bytes behind = (text ≡ bytes) × IsRun bytes behind × All (λ c. is_word_byte c ≡ true) bytes
-IsToken kind.Position text bytes behind = (text ≡ bytes) × IsRun bytes behind × Any (λ c. c ≡ 47) bytes
-IsToken kind.Name text bytes behind = IsQuoted 34 text bytes behind
-IsToken kind.Text text bytes behind = IsQuoted 39 text bytes behind
-IsToken kind.Opening text bytes behind = (text ≡ []) × (bytes ≡ codes "(")
-IsToken kind.Closing text bytes behind = (text ≡ []) × (bytes ≡ codes ")")
-IsToken kind.Comma text bytes behind = (text ≡ []) × (bytes ≡ codes ",")
-IsToken kind.Semicolon text bytes behind = (text ≡ []) × (bytes ≡ codes ";")
-IsToken kind.Equals text bytes behind = (text ≡ []) × (bytes ≡ codes "=")
-IsToken kind.Wrong text bytes behind = (text ≡ []) × (behind ≡ []) × IsWrong bytes
-
--- after blanks this token stands in these bytes, which begin at this place, and those are behind it
-pub record IsNext (at : ℕ) (bytes : List ℕ) (token : Lexeme) (behind : List ℕ) : Type 0 where
-  pub blanks : List ℕ
-  pub spelled : List ℕ
-  pub parts : bytes ≡ blanks ++ spelled ++ behind
-  pub blank : All (λ c. is_blank c ≡ true) blanks
-  pub place : token.place ≡ at + length blanks
-  pub is : IsToken token.kind token.text spelled behind
+-- the token of a command that the lexer's token is
+abbrev pub command_token : RawToken → Lexeme
+command_token t = record { kind = kind_of t.kind t.text; place = t.place; text = t.text }
 
 -- these bytes, which begin at this place, are these tokens and blanks
 abbrev pub Reads : ℕ → List ℕ → List Lexeme → Type 0
-Reads at bytes [] = All (λ c. is_blank c ≡ true) bytes
-Reads at bytes (token ∷ tokens) = (behind : List ℕ) × (place : ℕ) × IsNext at bytes token behind × (place + length behind ≡ at + length bytes) × Reads place behind tokens
+Reads at bytes tokens = ReadsAs command_class command_token at bytes tokens

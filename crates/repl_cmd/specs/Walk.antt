@@ -159,7 +159,7 @@ IsOwnFault from t (fault.Unsupported what) = LeavesOut from t what
 IsOwnFault from t (fault.BadSlotName place) = (place ≡ t.place) × (wants_slot from ≡ true) × IsNaming t
 IsOwnFault from t (fault.BadLsn place) = (place ≡ t.place) × (wants_position from ≡ true) × IsJudged t × ¬ ((wants_physical from ≡ true) × IsKeyword (codes "logical") t)
 IsOwnFault from t (fault.BadNumber place) = (place ≡ t.place) × (wants_number from ≡ true) × IsJudged t
-IsOwnFault from t (fault.BadNames found) = (wants_names from ≡ true) × (t.kind ≡ kind.Text) × names.IsRefused t.text found × (found ≢ names_fault.Memory)
+IsOwnFault from t (fault.BadNames found) = (wants_names from ≡ true) × (t.kind ≡ kind.Text) × names.IsListFault t.text found × (found ≢ names_fault.Memory)
 IsOwnFault from t fault.Memory = ⊥
 
 -- the token has this fault, which is of the syntax where it has no other

@@ -12,6 +12,7 @@ mod command;
 mod create;
 mod fault;
 mod laws;
+mod lexicon;
 mod name;
 mod operand;
 mod parse;
@@ -31,10 +32,3 @@ pub use laws::{one_command, printed_is_read, refused_front};
 pub use name::{ParameterName, SLOT_NAME_LIMIT, SlotName, is_slot_name};
 pub use parse::parse_command;
 pub use print::print_command;
-
-#[cfg(test)]
-mod print_tests;
-#[cfg(test)]
-mod tests;
-#[cfg(test)]
-mod token_tests;

@@ -1,13 +1,15 @@
 ghost use Rattle.std.specs.Prelude.{◌≡◌, ◌⊎◌, Ok, Err, IfOk, IfErr};
 ghost use Rattle.repl_cmd.specs.declared.command.Command.{Command};
 ghost use Rattle.repl_cmd.specs.declared.fault.CmdFault.TheVariants as CmdFault;
-ghost use Rattle.repl_cmd.specs.Command.{IsRead};
-ghost use Rattle.repl_cmd.specs.Refusal.{IsRefused};
+ghost use Rattle.repl_cmd.specs.Command.{SaysCommand};
+ghost use Rattle.repl_cmd.specs.Refusal.{IsCommandFault};
 
 use crate::command::Command;
 use crate::fault::CmdFault;
+use crate::lexicon::CommandLexicon;
 use crate::state::State;
-use crate::token::next_token;
+use crate::token::command_token;
+use repl_token::next_token;
 use std::alloc::Global;
 
 /// The command or statement that the text says. Takes memory.
@@ -15,16 +17,16 @@ use std::alloc::Global;
 /// Tokens are judged from left to right, and the first with which no command goes on decides.
 pub fn parse_command(alloc: Global, text: &[u8]) -> Result<Command, CmdFault>
     // What is read is what the text says.
-    ensures read { IfOk result (λ command. IsRead text.now command) }
+    ensures read { IfOk result (λ command. SaysCommand text.now command) }
     // Each refusal has its cause.
-    ensures refused { IfErr result (λ fault. IsRefused text.now fault) }
+    ensures refused { IfErr result (λ fault. IsCommandFault text.now fault) }
     // What the text says is read.
-    ensures only { (command : Command) → IsRead text.now command → (result ≡ Ok command) ⊎ (result ≡ Err CmdFault.Memory) }
+    ensures only { (command : Command) → SaysCommand text.now command → (result ≡ Ok command) ⊎ (result ≡ Err CmdFault.Memory) }
 {
     let mut state = State::Start;
     let mut at = 0;
-    while let Some((token, end)) = next_token(alloc, text, at)? {
-        state = state.next(alloc, token)?;
+    while let Some((token, end)) = next_token::<CommandLexicon>(alloc, text, at)? {
+        state = state.next(alloc, command_token(token))?;
         at = end;
     }
     match state.finish() {

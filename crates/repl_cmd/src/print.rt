@@ -1,6 +1,6 @@
 ghost use Rattle.std.specs.Prelude.{◌≡◌, ◌++◌, IfOk};
 ghost use Rattle.repl_cmd.specs.declared.command.Command.TheVariants as command_of;
-ghost use Rattle.repl_cmd.specs.Command.{IsCommand, IsRead};
+ghost use Rattle.repl_cmd.specs.Command.{IsCommand, SaysCommand};
 ghost use Rattle.repl_cmd.specs.Printing.{spelling};
 
 use crate::command::Command;
@@ -21,7 +21,7 @@ const TEXT_ROOM: usize = 136;
 /// names in quotes. PostgreSQL 17 reads those of a replication connection too. Takes memory.
 pub fn print_command(alloc: Global, command: &Command) -> Result<Vec<u8>, AllocError>
     ensures exact { IfOk result (λ text. text.items ≡ spelling command.now) }
-    ensures read_back { IfOk result (λ text. IsRead text.items command.now) }
+    ensures read_back { IfOk result (λ text. SaysCommand text.items command.now) }
 {
     let mut out = Vec::with_capacity(alloc, TEXT_ROOM)?;
     put_command(alloc, &mut out, command)?;

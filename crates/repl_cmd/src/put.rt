@@ -3,15 +3,15 @@ ghost use Rattle.std.specs.Prelude.{◌≡◌, ◌++◌, ◌<◌, All, IfOk, dec
 ghost use Rattle.hex.specs.Hex.{encode_lower};
 ghost use Rattle.repl_lsn.specs.Position.{position_text};
 ghost use Rattle.repl_names.specs.StandbyList.{IsListing, spelling};
-ghost use Rattle.repl_cmd.specs.Token.{quoted};
+ghost use Rattle.repl_token.specs.Token.{quoted};
 ghost use Rattle.repl_cmd.specs.Command.{IsTimeline, IsSlotOf, setting_word};
 ghost use Rattle.repl_cmd.specs.Name.{IsSlotName, IsParameterName};
 ghost use Rattle.repl_cmd.specs.Printing.{word_if, slot_words, timeline_words, number_word};
 
 use crate::name::{ParameterName, SlotName};
-use crate::token::first_of;
 use repl_lsn::{Lsn, Tli};
 use repl_names::{Setting, StandbyList, print_names};
+use repl_token::put_quoted;
 use std::alloc::{AllocError, Global};
 
 /// The word, where it stands in the command.
@@ -21,23 +21,6 @@ pub(crate) fn put_word_if(out: &mut Vec<u8>, stands: bool, word: &[u8]) -> Resul
     if stands {
         out.extend_from_slice(word)?;
     }
-    Ok(())
-}
-
-/// The text in quotes, with each quote in it twice.
-pub(crate) fn put_quoted(out: &mut Vec<u8>, quote: u8, text: &[u8]) -> Result<(), AllocError>
-    ensures { IfOk result (λ _. out.new.items ≡ out.old.items ++ quoted quote text.now) }
-{
-    out.reserve(text.len() + 2)?;
-    out.push(quote)?;
-    let mut rest = text;
-    while let Some(place) = first_of(rest, quote) {
-        out.extend_from_slice(&rest[..place + 1])?;
-        out.push(quote)?;
-        rest = &rest[place + 1..];
-    }
-    out.extend_from_slice(rest)?;
-    out.push(quote)?;
     Ok(())
 }
 
@@ -157,7 +140,6 @@ pub(crate) fn put_names(
     ensures exact { IfOk result (λ _. out.new.items ≡ out.old.items ++ quoted 39 (spelling list.now)) }
     ensures listing { IfOk result (λ _. IsListing list.now) }
 {
-    let _names = list.names(); // what it ensures says that the list is one
     let text = print_names(alloc, list)?;
     put_quoted(out, b'\'', &text)
 }

@@ -1,9 +1,9 @@
 //! What tokens mean where the grammar wants a name, a number, a position or a value.
-ghost use Rattle.std.specs.Prelude.{◌≡◌, ◌↔◌, ◌-◌, ◌^◌, ℕ, min, true, Bool, All, MatchOption, IfOk, IsTrue, List, bytes_eq, map};
+ghost use Rattle.std.specs.Prelude.{◌≡◌, ◌↔◌, ℕ, true, Bool, All, MatchOption, IfOk, IsTrue, List, bytes_eq, map};
 ghost use Rattle.std.specs.Char.{to_ascii_lowercase, is_ascii_digit};
-ghost use Rattle.std.specs.Str.Parse.{digits_value};
 ghost use Rattle.repl_names.specs.declared.setting.Setting.{Setting};
-ghost use Rattle.repl_cmd.specs.Command.{Lowers, IsKeyword, IsNaming, IsJudged, IsValue, IsSlot, IsParameter, IsPosition, IsNumber, IsFlag, IsSetting, IsBody};
+ghost use Rattle.repl_token.specs.Token.{Lowers};
+ghost use Rattle.repl_cmd.specs.Command.{IsKeyword, IsNaming, IsJudged, IsValue, IsSlot, IsParameter, IsPosition, IsNumber, IsFlag, IsSetting, IsBody};
 
 use crate::name::{ParameterName, SlotName, lowered};
 use crate::token::{Kind, Token};
@@ -11,6 +11,7 @@ use bytes::Bytes;
 use hex::FromHexError;
 use repl_lsn::Lsn;
 use repl_names::Setting;
+use repl_token::saturating_value;
 use std::alloc::{AllocError, Global};
 
 impl Token {
@@ -150,18 +151,4 @@ fn all_digits(text: &[u8]) -> bool
     ensures { IsTrue result ↔ All (λ c. is_ascii_digit c ≡ true) text.now }
 {
     text.iter().all(|c| c.is_ascii_digit())
-}
-
-/// The number that the digits write, or 2^64 - 1 where it is larger.
-fn saturating_value(digits: &[u8]) -> u64
-    requires { All (λ c. is_ascii_digit c ≡ true) digits.now }
-    ensures { result ≡ min (digits_value 10 digits.now) (2 ^ 64 - 1) }
-{
-    let mut value: u64 = 0;
-    for digit in digits {
-        value = value
-            .saturating_mul(10)
-            .saturating_add(u64::from(*digit - b'0'));
-    }
-    value
 }

@@ -6,8 +6,9 @@ use Rattle.std.proofs.lemmas.Grind.{pow_more}
 use Rattle.std.proofs.lemmas.List.Sums.{sum_by-cons}
 use Rattle.std.proofs.lemmas.Fmt.{length-decimal-le, decimal_is_IsNumeral}
 use Rattle.std.proofs.lemmas.Int.Digits.{digits_value-lt}
+use Rattle.repl_token.specs.Token.{doubled, quoted}
 use Rattle.repl_names.specs.declared.list.Method.{Method}
-use Rattle.repl_names.specs.StandbyList.{method_spelling, spelling, quoted, quoted_byte, name_spelling, names_spelling}
+use Rattle.repl_names.specs.StandbyList.{method_spelling, spelling, name_spelling, names_spelling}
 
 pub decimal_length : (n k : ℕ) → 10 ^ k ≤ n → n < 10 * 10 ^ k → n < 2 ^ 64 → length (decimal n) ≡ k + 1
 decimal_length n k low high small =
@@ -25,16 +26,16 @@ byte_length : (t : Bool) (b : ℕ) (others : List ℕ) → length ((if t then 34
 byte_length true b others = omega arith
 byte_length false b others = omega arith
 
-quoted_length : (name : List ℕ) → length (flat_map quoted_byte name) ≡ length name + count_by (λ b. b == 34) name
+quoted_length : (name : List ℕ) → length (flat_map (doubled 34) name) ≡ length name + count_by (λ b. b == 34) name
 quoted_length [] = refl
 quoted_length (b ∷ name) =
-    let spelled : length (flat_map quoted_byte (b ∷ name)) ≡ cond (b == 34) 1 0 + (1 + length (flat_map quoted_byte name)) = byte_length (b == 34) b (flat_map quoted_byte name) in
+    let spelled : length (flat_map (doubled 34) (b ∷ name)) ≡ cond (b == 34) 1 0 + (1 + length (flat_map (doubled 34) name)) = byte_length (b == 34) b (flat_map (doubled 34) name) in
     let quotes : count_by (λ c. c == 34) (b ∷ name) ≡ cond (b == 34) 1 0 + count_by (λ c. c == 34) name = sum_by-cons (λ c. cond (c == 34) 1 0) b name in
     omega (arith, spelled, quotes, quoted_length name)
 
 pub name_length_quoted : (name : List ℕ) → bytes_eq name (codes "*") ≡ false → length (name_spelling name) ≡ length name + count_by (λ b. b == 34) name + 2
 name_length_quoted name e =
-    ap (λ t. length (if t then codes "*" else quoted name)) e ∙ omega (arith, length-append (flat_map quoted_byte name) (34 ∷ []), quoted_length name)
+    ap (λ t. length (if t then codes "*" else quoted 34 name)) e ∙ omega (arith, length-append (flat_map (doubled 34) name) (34 ∷ []), quoted_length name)
 
 -- each with a comma and a space, which the last has not
 pub names_length_is : (name : List ℕ) (names : List (List ℕ)) → length (names_spelling (name ∷ names)) + 2 ≡ sum_by (λ n. length (name_spelling n) + 2) (name ∷ names)

@@ -10,10 +10,11 @@ use Rattle.repl_names.specs.declared.fault.NamesFault.TheVariants as fault
 use Rattle.repl_names.specs.declared.grammar.Shape.{Shape}
 use Rattle.repl_names.specs.StandbyList.{Listing, IsListing, Demands, spelling}
 use Rattle.repl_names.specs.Token.{Reads}
-use Rattle.repl_names.specs.Grammar.{Says, IsSaid, value_of, Spells, IsRead, IsRefused}
+use Rattle.repl_names.specs.Grammar.{Says, IsSaid, value_of, Spells, SaysList, IsListFault}
 use Rattle.repl_names.specs.Walk.{kind_at, shape_from, said_number, said_names, IsFaultOf, HaveDigits, IsTooLong, IsNumberOf}
 use Rattle.repl_names.proofs.GrammarSays.{shape_says}
-use Rattle.repl_names.proofs.GrammarLists.{names_some, says_some, number_demands, says_number_kind, reads_number, reads_one_list, refused_unread}
+use Rattle.repl_names.proofs.TokenKinds.{reads_number}
+use Rattle.repl_names.proofs.GrammarLists.{names_some, says_some, number_demands, says_number_kind, reads_one_list, refused_unread}
 
 -- ---- the number
 
@@ -25,7 +26,7 @@ pub number_digits : (text : List ℕ) (tokens : List Token) (m : Method) (index 
 number_digits text tokens m None names r s = tt
 number_digits text tokens m (Some index) names r s = digits_from text tokens m index (slice_get tokens index) names r refl s
 
-pub fault_refused : (text : List ℕ) (tokens : List Token) (m : Method) (number : Option Token) (names : List (List ℕ)) (f : NamesFault) → Reads 0 text tokens → Says tokens m number names → IsFaultOf number f → IsRefused text f
+pub fault_refused : (text : List ℕ) (tokens : List Token) (m : Method) (number : Option Token) (names : List (List ℕ)) (f : NamesFault) → Reads 0 text tokens → Says tokens m number names → IsFaultOf number f → IsListFault text f
 fault_refused text tokens m (Some number) names (fault.Zero place) r s i = record { tokens = tokens; m = m; number = number; names = names; reads = r; says = s; place = i.0; value = sym i.1 }
 fault_refused text tokens m (Some number) names (fault.TooLarge place) r s i =
     (digits_value 10 number.text, record { tokens = tokens; m = m; number = number; names = names; reads = r; says = s; place = i.0; value = refl }, i.1)
@@ -73,20 +74,20 @@ listing_of m n judged names have e t d s l = record {
 abbrev pub list : Method → ℕ → List (List ℕ) → Listing
 list m n names = record { method = m; number = n; names = names }
 
-pub list_read : (text : List ℕ) (list : Listing) (r : Result Listing NamesFault) → Spells text list → IfOk r (λ l. (l ≡ list) × IsListing l) → IfOk r (λ l. IsRead text l)
+pub list_read : (text : List ℕ) (list : Listing) (r : Result Listing NamesFault) → Spells text list → IfOk r (λ l. (l ≡ list) × IsListing l) → IfOk r (λ l. SaysList text l)
 list_read text list (Ok l) s i = record { spells = subst (Spells text) (sym i.0) s; is_listing = i.1 }
 list_read text list (Err f) s i = i
 
-too_long : (text : List ℕ) (list : Listing) (f : NamesFault) → Spells text list → Demands list.names list.method list.number → IsTooLong list f → IsRefused text f
+too_long : (text : List ℕ) (list : Listing) (f : NamesFault) → Spells text list → Demands list.names list.method list.number → IsTooLong list f → IsListFault text f
 too_long text list (fault.TooLong have) s d i = (length (spelling list), record { list = list; spells = s; demands = d; size = refl }, i.1, i.0)
 too_long text list _ s d i = absurd i
 
-pub list_refused : (text : List ℕ) (list : Listing) (r : Result Listing NamesFault) → Spells text list → Demands list.names list.method list.number → IfErr r (λ f. IsTooLong list f) → IfErr r (λ f. IsRefused text f)
+pub list_refused : (text : List ℕ) (list : Listing) (r : Result Listing NamesFault) → Spells text list → Demands list.names list.method list.number → IfErr r (λ f. IsTooLong list f) → IfErr r (λ f. IsListFault text f)
 list_refused text list (Ok l) s d i = i
 list_refused text list (Err f) s d i = too_long text list f s d i
 
 -- what the text says is read
-pub only_read : (text : List ℕ) (r : Result Listing NamesFault) → IfOk r (λ l. IsRead text l) → IfErr r (λ f. IsRefused text f) → (list : Listing) → IsRead text list → (r ≡ Ok list) ⊎ (r ≡ Err fault.Memory)
+pub only_read : (text : List ℕ) (r : Result Listing NamesFault) → IfOk r (λ l. SaysList text l) → IfErr r (λ f. IsListFault text f) → (list : Listing) → SaysList text list → (r ≡ Ok list) ⊎ (r ≡ Err fault.Memory)
 only_read text (Ok l) o e list i = inl (ap (λ x. Ok x) (reads_one_list text l list o i))
 only_read text (Err f) o e list i = inr (ap (λ x. Err x) (refused_unread text list f i e))
 
@@ -106,11 +107,11 @@ pub parsed_digits : (text : List ℕ) (tokens read : List Token) (s : Shape) →
 parsed_digits text tokens read s p e =
     subst (λ (ts : List Token). HaveDigits (said_number ts s.number)) (sym e) (number_digits text tokens s.method s.number (said_names (drop s.names tokens)) p.reads p.says)
 
-pub parsed_fault : (text : List ℕ) (tokens read : List Token) (s : Shape) (r : Result Listing NamesFault) (f : NamesFault) → Parsed text tokens s → read ≡ tokens → IsFaultOf (said_number read s.number) f → IsErrAnd r (λ e. e ≡ f) → IfErr r (λ f. IsRefused text f)
+pub parsed_fault : (text : List ℕ) (tokens read : List Token) (s : Shape) (r : Result Listing NamesFault) (f : NamesFault) → Parsed text tokens s → read ≡ tokens → IsFaultOf (said_number read s.number) f → IsErrAnd r (λ e. e ≡ f) → IfErr r (λ f. IsListFault text f)
 parsed_fault text tokens read s (Ok l) f p e i a = absurd a
 parsed_fault text tokens read s (Err g) f p e i a =
     let i : IsFaultOf (said_number tokens s.number) f = subst (λ (ts : List Token). IsFaultOf (said_number ts s.number) f) e i in
-    subst (IsRefused text) (sym a) (fault_refused text tokens s.method (said_number tokens s.number) (said_names (drop s.names tokens)) f p.reads p.says i)
+    subst (IsListFault text) (sym a) (fault_refused text tokens s.method (said_number tokens s.number) (said_names (drop s.names tokens)) f p.reads p.says i)
 
 pub parsed_spells : (text : List ℕ) (tokens read : List Token) (s : Shape) (n : ℕ) (names : List (List ℕ)) → Parsed text tokens s → read ≡ tokens → IsNumberOf read (said_number read s.number) n → names ≡ said_names (drop s.names tokens)
     → Spells text (record { method = s.method; number = n; names = names })
@@ -123,6 +124,6 @@ parsed_demands text tokens read s n names p e i f =
     tokens_demand tokens s.method (said_number tokens s.number) names (said_names (drop s.names tokens)) n f p.says (subst (λ (ts : List Token). IsNumberOf ts (said_number ts s.number) n) e i)
 
 -- a fault is no list
-pub fault_reads : (text : List ℕ) (r : Result Listing NamesFault) → IsErr r → IfOk r (λ l. IsRead text l)
+pub fault_reads : (text : List ℕ) (r : Result Listing NamesFault) → IsErr r → IfOk r (λ l. SaysList text l)
 fault_reads text (Ok l) e = absurd cc
 fault_reads text (Err f) e = tt

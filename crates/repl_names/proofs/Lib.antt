@@ -1,4 +1,3 @@
-pub mod GrammarDigits
 pub mod GrammarLengths
 pub mod GrammarLists
 pub mod GrammarPlaces
@@ -14,8 +13,3 @@ pub mod Quorums
 pub mod Ranks
 pub mod Taken
 pub mod TokenKinds
-pub mod TokenLaws
-pub mod TokenNames
-pub mod TokenQuotes
-pub mod TokenRuns
-pub mod TokenSteps

@@ -1,7 +1,8 @@
 -- The spelling of names, one more name at its end, and its length.
 use Rattle.std.proofs.Common.{◌≡◌, ℕ, zero, suc, ◌+◌, ◌<◌, ◌≤◌, List, [], ◌∷◌, ◌++◌, length, get_or, take, codes, bytes_eq, true, false, cond, refl, sym, ap, ◌∙◌, arith, length-append}
 use Rattle.std.proofs.lemmas.List.{append_assoc, append-nil, take_more, length-take-le}
-use Rattle.repl_names.specs.StandbyList.{Listing, quoted, name_spelling, names_spelling, spelling_of, spelling}
+use Rattle.repl_token.specs.Token.{quoted}
+use Rattle.repl_names.specs.StandbyList.{Listing, name_spelling, names_spelling, spelling_of, spelling}
 
 names_spelling_push : (names : List (List ℕ)) (name : List ℕ) → 0 < length names → names_spelling (names ++ name ∷ []) ≡ names_spelling names ++ codes ", " ++ name_spelling name
 names_spelling_push [] name some = absurd (omega arith)
@@ -24,7 +25,7 @@ next_name names i name start some within is =
 
 -- even `*` has one byte
 one_byte : (name : List ℕ) → 0 < length (name_spelling name)
-one_byte name = elim (bytes_eq name (codes "*")) as (λ b. 0 < length (cond b (codes "*") (quoted name))) [ true ↦ omega arith | false ↦ omega arith ]
+one_byte name = elim (bytes_eq name (codes "*")) as (λ b. 0 < length (cond b (codes "*") (quoted 34 name))) [ true ↦ omega arith | false ↦ omega arith ]
 
 length_names_le : (names : List (List ℕ)) → length names ≤ length (names_spelling names)
 length_names_le [] = omega arith

@@ -72,7 +72,7 @@ pub record Spells (text : List ℕ) (list : Listing) : Type 0 where
   pub value : list.number ≡ value_of number list.names
 
 -- the text is accepted, as this list
-pub record IsRead (text : List ℕ) (list : Listing) : Type 0 where
+pub record SaysList (text : List ℕ) (list : Listing) : Type 0 where
   pub spells : Spells text list
   pub is_listing : IsListing list
 
@@ -115,10 +115,10 @@ pub record SaysLength (text : List ℕ) (n : ℕ) : Type 0 where
   pub size : n ≡ length (spelling list)
 
 -- the cause of each refusal
-abbrev pub IsRefused : List ℕ → NamesFault → Type 0
-IsRefused text (fault.Syntax place) = (index : ℕ) × (tokens : List Token) × Leaves text place index tokens × ¬ IsOpenAt tokens index
-IsRefused text (fault.OpenQuote place) = (index : ℕ) × (tokens : List Token) × Leaves text place index tokens × IsOpenAt tokens index
-IsRefused text (fault.Zero place) = SaysNumber text place 0
-IsRefused text (fault.TooLarge place) = (value : ℕ) × SaysNumber text place value × (NUMBER_LIMIT < value)
-IsRefused text (fault.TooLong have) = (size : ℕ) × SaysLength text size × (SPELLING_LIMIT < size) × (have ≡ min size (2 ^ 64 - 1))
-IsRefused text fault.Memory = Unit {0}
+abbrev pub IsListFault : List ℕ → NamesFault → Type 0
+IsListFault text (fault.Syntax place) = (index : ℕ) × (tokens : List Token) × Leaves text place index tokens × ¬ IsOpenAt tokens index
+IsListFault text (fault.OpenQuote place) = (index : ℕ) × (tokens : List Token) × Leaves text place index tokens × IsOpenAt tokens index
+IsListFault text (fault.Zero place) = SaysNumber text place 0
+IsListFault text (fault.TooLarge place) = (value : ℕ) × SaysNumber text place value × (NUMBER_LIMIT < value)
+IsListFault text (fault.TooLong have) = (size : ℕ) × SaysLength text size × (SPELLING_LIMIT < size) × (have ≡ min size (2 ^ 64 - 1))
+IsListFault text fault.Memory = Unit {0}

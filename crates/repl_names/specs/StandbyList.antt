@@ -1,8 +1,9 @@
 -- Lists of synchronous standbys (PostgreSQL 17 manual, section "Replication", `synchronous_standby_names`),
 -- their one printed spelling, and the entry that a standby's name matches.
-use Rattle.std.specs.Prelude.{◌≡◌, ℕ, ◌+◌, ◌<◌, ◌≤◌, ◌⊎◌, List, [], ◌∷◌, ◌++◌, map, length, flat_map, bytes_eq, if◌then◌else◌, ◌==◌, All, codes, decimal}
+use Rattle.std.specs.Prelude.{◌≡◌, ℕ, ◌+◌, ◌<◌, ◌≤◌, ◌⊎◌, List, [], ◌∷◌, ◌++◌, map, length, bytes_eq, if◌then◌else◌, All, codes, decimal}
 use Rattle.std.specs.Char.{to_ascii_lowercase}
 use Rattle.repl_text.specs.Text.{IsText}
+use Rattle.repl_token.specs.Token.{quoted}
 use Rattle.repl_names.specs.declared.list.Method.{Method}
 use Rattle.repl_names.specs.declared.list.Method.TheVariants as method
 use Rattle.repl_names.specs.declared.list.TheConstants.{NUMBER_LIMIT, SPELLING_LIMIT}
@@ -15,16 +16,9 @@ pub record Listing : Type 0 where
 
 -- ---- the printed spelling
 
--- a quote in a quoted name is written twice
-abbrev pub quoted_byte : ℕ → List ℕ
-quoted_byte c = if c == 34 then 34 ∷ 34 ∷ [] else c ∷ []
-
-abbrev pub quoted : List ℕ → List ℕ
-quoted name = 34 ∷ flat_map quoted_byte name ++ 34 ∷ []
-
 -- `*` stands for any name, quoted or not, and is printed bare
 abbrev pub name_spelling : List ℕ → List ℕ
-name_spelling name = if bytes_eq name (codes "*") then codes "*" else quoted name
+name_spelling name = if bytes_eq name (codes "*") then codes "*" else quoted 34 name
 
 abbrev pub names_spelling : List (List ℕ) → List ℕ
 names_spelling [] = []

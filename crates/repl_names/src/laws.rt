@@ -4,17 +4,17 @@ ghost use Rattle.repl_names.specs.declared.list.Method.TheVariants as Method;
 ghost use Rattle.repl_names.specs.declared.quorum.Mode.{Mode};
 ghost use Rattle.repl_names.specs.declared.quorum.Candidate.{Candidate};
 ghost use Rattle.repl_names.specs.StandbyList.{Listing, IsListing, spelling};
-ghost use Rattle.repl_names.specs.Grammar.{IsRead};
+ghost use Rattle.repl_names.specs.Grammar.{SaysList};
 ghost use Rattle.repl_names.specs.Quorum.{Met, IsGreatest, Counted, Differ, Forward, candidates, counts, reaches, position};
 
 /// What is printed is read back as the same list.
 pub fn printed_is_read()
-    ensures { (list : Listing) → IsListing list → IsRead (spelling list) list }
+    ensures { (list : Listing) → IsListing list → SaysList (spelling list) list }
 {}
 
 /// A text says one list at most.
 pub fn one_list()
-    ensures { (text : List ℕ) (a b : Listing) → IsRead text a → IsRead text b → a ≡ b }
+    ensures { (text : List ℕ) (a b : Listing) → SaysList text a → SaysList text b → a ≡ b }
 {}
 
 /// A list that is met at a position is met at every earlier one.

@@ -12,6 +12,7 @@ mod fault;
 mod grammar;
 mod laws;
 mod length;
+mod lexicon;
 mod list;
 mod matching;
 mod parse;
@@ -31,10 +32,3 @@ pub use parse::parse_names;
 pub use print::print_names;
 pub use quorum::{Candidate, Mode, released};
 pub use setting::Setting;
-
-#[cfg(test)]
-mod print_tests;
-#[cfg(test)]
-mod quorum_tests;
-#[cfg(test)]
-mod tests;

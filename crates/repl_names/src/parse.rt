@@ -1,11 +1,11 @@
-ghost use Rattle.std.specs.Prelude.{◌≡◌, ◌⊎◌, ◌-◌, ◌^◌, ◌<◌, ◌≤◌, min, true, All, Some, None, Ok, Err, IfOk, IfErr};
+ghost use Rattle.std.specs.Prelude.{◌≡◌, ◌⊎◌, ◌<◌, ◌≤◌, true, All, Some, None, Ok, Err, IfOk, IfErr};
 ghost use Rattle.std.specs.Char.{is_ascii_digit};
 ghost use Rattle.std.specs.Str.Parse.{digits_value};
 ghost use Rattle.repl_text.specs.Language.{StopsAt};
 ghost use Rattle.repl_names.specs.declared.fault.NamesFault.TheVariants as NamesFault;
 ghost use Rattle.repl_names.specs.StandbyList.{Listing, IsListing, Demands};
 ghost use Rattle.repl_names.specs.Token.{Reads};
-ghost use Rattle.repl_names.specs.Grammar.{IsSaid, IsRead, IsRefused};
+ghost use Rattle.repl_names.specs.Grammar.{IsSaid, SaysList, IsListFault};
 ghost use Rattle.repl_names.specs.Walk.{said_number, said_names, HaveDigits, IsNumberOf, IsNumberFault, IsFaultOf, IsTooLong};
 
 use crate::fault::NamesFault;
@@ -14,6 +14,7 @@ use crate::length::spelling_length;
 use crate::list::{Method, NUMBER_LIMIT, SPELLING_LIMIT, StandbyList};
 use crate::token::{Kind, Token, tokens_of};
 use repl_text::Text;
+use repl_token::saturating_value;
 use std::alloc::Global;
 
 /// The list that the text says (manual, `synchronous_standby_names`).
@@ -22,11 +23,11 @@ use std::alloc::Global;
 /// no list goes on. Then the number is judged, and last the length of the list's spelling. Takes memory.
 pub fn parse_names(alloc: Global, text: &[u8]) -> Result<StandbyList, NamesFault>
     // What is read is what the text says.
-    ensures read { IfOk result (λ list. IsRead text.now list) }
+    ensures read { IfOk result (λ list. SaysList text.now list) }
     // Each refusal has its cause.
-    ensures refused { IfErr result (λ fault. IsRefused text.now fault) }
+    ensures refused { IfErr result (λ fault. IsListFault text.now fault) }
     // What the text says is read.
-    ensures only { (list : Listing) → IsRead text.now list → (result ≡ Ok list) ⊎ (result ≡ Err NamesFault.Memory) }
+    ensures only { (list : Listing) → SaysList text.now list → (result ≡ Ok list) ⊎ (result ≡ Err NamesFault.Memory) }
 {
     let tokens = tokens_of(alloc, text)?;
     if let Err(index) = judge(&tokens) {
@@ -42,7 +43,7 @@ pub fn parse_names(alloc: Global, text: &[u8]) -> Result<StandbyList, NamesFault
 fn refusal(text: &[u8], tokens: &[Token], index: usize) -> NamesFault
     requires reads { Reads 0 text.now tokens.now }
     requires stops { StopsAt IsSaid tokens.now index }
-    ensures { IsRefused text.now result }
+    ensures { IsListFault text.now result }
 {
     let Some(token) = tokens.get(index) else {
         return NamesFault::Syntax(text.len() as u64);
@@ -75,23 +76,9 @@ fn judged(token: &Token) -> Result<u32, NamesFault>
 {
     match saturating_value(token.text.as_slice()) {
         0 => Err(NamesFault::Zero(token.place as u64)),
-        value if value > NUMBER_LIMIT => Err(NamesFault::TooLarge(token.place as u64)),
-        value => Ok(value),
+        value if value > u64::from(NUMBER_LIMIT) => Err(NamesFault::TooLarge(token.place as u64)),
+        value => Ok(value as u32),
     }
-}
-
-/// The number that the digits write, or 2^32 - 1 where it is larger.
-fn saturating_value(digits: &[u8]) -> u32
-    requires { All (λ c. is_ascii_digit c ≡ true) digits.now }
-    ensures { result ≡ min (digits_value 10 digits.now) (2 ^ 32 - 1) }
-{
-    let mut value: u32 = 0;
-    for digit in digits {
-        value = value
-            .saturating_mul(10)
-            .saturating_add(u32::from(*digit - b'0'));
-    }
-    value
 }
 
 /// The list of these parts, if its spelling is short enough.

@@ -1,14 +1,17 @@
-ghost use Rattle.std.specs.Prelude.{◌≡◌, ◌++◌, flat_map, IfOk};
-ghost use Rattle.repl_names.specs.StandbyList.{spelling, name_spelling, names_spelling, method_spelling, quoted_byte};
+ghost use Rattle.std.specs.Prelude.{◌≡◌, ◌++◌, IfOk};
+ghost use Rattle.repl_names.specs.StandbyList.{IsListing, spelling, name_spelling, names_spelling, method_spelling};
 
 use crate::list::{Method, StandbyList};
 use repl_text::Text;
+use repl_token::put_quoted;
 use std::alloc::{AllocError, Global};
 
 /// The one spelling of the list, which is read back as it: `FIRST n (..)` or `ANY n (..)`, with every name but
 /// `*` in double quotes, and nothing for the list without names. It has at most 65,536 bytes. Takes memory.
 pub fn print_names(alloc: Global, list: &StandbyList) -> Result<Vec<u8>, AllocError>
-    ensures { IfOk result (λ text. text.items ≡ spelling list.now) }
+    ensures exact { IfOk result (λ text. text.items ≡ spelling list.now) }
+    // Its names are texts, its number is in range, and the spelling is short enough.
+    ensures listing { IsListing list.now }
 {
     let names = list.names().as_slice();
     if names.is_empty() {
@@ -53,21 +56,5 @@ fn put_name(out: &mut Vec<u8>, name: &[u8]) -> Result<(), AllocError>
         out.push(b'*')?;
         return Ok(());
     }
-    out.push(b'"')?;
-    put_quoted(out, name)?;
-    out.push(b'"')?;
-    Ok(())
-}
-
-/// Appends the bytes, with every quote twice.
-fn put_quoted(out: &mut Vec<u8>, name: &[u8]) -> Result<(), AllocError>
-    ensures { IfOk result (λ _. out.new.items ≡ out.old.items ++ flat_map quoted_byte name.now) }
-{
-    for byte in name {
-        if *byte == b'"' {
-            out.push(b'"')?;
-        }
-        out.push(*byte)?;
-    }
-    Ok(())
+    put_quoted(out, b'"', name)
 }

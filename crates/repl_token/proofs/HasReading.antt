@@ -1,6 +1,6 @@
 -- Each text has a list of tokens.
 use Rattle.std.proofs.Common.{◌≡◌, ℕ, zero, suc, ◌+◌, ◌<◌, ◌⊎◌, inl, inr, Bool, true, false, ◌==◌, List, [], ◌∷◌, ◌++◌, map, length, take, drop, flat_map, refl, ap, sym, subst, ◌∙◌, arith}
-use Rattle.std.specs.List.{All, prefix_len}
+use Rattle.std.specs.List.{prefix_len}
 use Rattle.std.proofs.lemmas.Bool.{cond-true, cond-false, eqb-true, eq-eqb}
 use Rattle.std.proofs.lemmas.List.{append-nil, append_assoc, length-append, take-append-drop, length-drop}
 use Rattle.std.proofs.lemmas.List.Elements.{All-nil, All-cons}
@@ -9,7 +9,7 @@ use Rattle.repl_token.specs.declared.class.Class.TheVariants as class
 use Rattle.repl_token.specs.declared.token.Kind.{Kind}
 use Rattle.repl_token.specs.declared.token.Kind.TheVariants as kind
 use Rattle.repl_token.specs.Class.{is_blank, is_digit, is_inside, begins_nothing}
-use Rattle.repl_token.specs.Token.{RawToken, Reads, ReadsAs, IsNext, IsToken, IsRun, IsWrong, EndsBefore, doubled, quoted}
+use Rattle.repl_token.specs.Token.{RawToken, Reads, ReadsAs, IsNext, IsToken, IsRun, EndsBefore, doubled, quoted}
 use Rattle.repl_token.proofs.Runs.{run_front, run_some}
 
 truth : (b : Bool) → (b ≡ true) ⊎ (b ≡ false)

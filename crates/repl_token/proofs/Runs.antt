@@ -2,7 +2,7 @@
 use Rattle.std.proofs.Common.{◌≡◌, ℕ, suc, ◌+◌, ◌<◌, Bool, true, false, List, [], ◌∷◌, ◌++◌, length, get_or, take, drop, refl, sym, ap, subst, ◌∙◌, ⊎_elim, arith}
 use Rattle.std.specs.List.{All, prefix_len}
 use Rattle.std.proofs.lemmas.Bool.{cases_lt, cond-true, cond-false}
-use Rattle.std.proofs.lemmas.List.{drop_more, drop_all, get_or-take, length-take-le, take_at, drop_at}
+use Rattle.std.proofs.lemmas.List.{drop_more, drop_all, get_or-take, length-take-le}
 use Rattle.std.proofs.lemmas.List.Elements.{All-head, All-tail, All-cons, All-from_get_or}
 use Rattle.std.proofs.lemmas.List.Sums.{prefix_len-le-length, prefix_len_passes, prefix_len_stops}
 use Rattle.repl_token.specs.declared.class.Class.{Class}
@@ -72,3 +72,17 @@ run_all class_of begins goes_on bytes behind e h =
 pub run_size : (class_of : ℕ → Class) (begins : Class) (goes_on : Class → Bool) (bytes behind : List ℕ) → goes_on begins ≡ true
     → IsRun class_of begins goes_on bytes behind → length bytes ≡ prefix_len (λ c. goes_on (class_of c)) (bytes ++ behind)
 run_size class_of begins goes_on bytes behind e h = sym (run_len (λ c. goes_on (class_of c)) bytes behind (run_all class_of begins goes_on bytes behind e h) h.ends)
+
+-- bytes that go on, the first of them of the class
+pub run_of : (class_of : ℕ → Class) (begins : Class) (goes_on : Class → Bool) (bytes behind : List ℕ) → 0 < length bytes
+    → class_of (get_or bytes 0 0) ≡ begins → All (λ c. goes_on (class_of c) ≡ true) bytes → EndsBefore (λ c. goes_on (class_of c)) behind
+    → IsRun class_of begins goes_on bytes behind
+run_of class_of begins goes_on [] behind some is passes ends = absurd (omega arith)
+run_of class_of begins goes_on (c ∷ cs) behind some is passes ends = record {
+  first = c;
+  others = cs;
+  parts = refl;
+  starts = is;
+  continues = All-tail (λ b. goes_on (class_of b) ≡ true) c cs passes;
+  ends = ends;
+}

@@ -1,49 +1,52 @@
 -- The tokens of a text that is written from tokens, from its end to its front.
-use Rattle.std.proofs.Common.{◌≡◌, ℕ, ◌+◌, true, List, [], ◌∷◌, ◌++◌, map, length, refl, ap, subst, length-append, arith}
+use Rattle.std.proofs.Common.{◌≡◌, ℕ, ◌+◌, true, List, [], ◌∷◌, ◌++◌, map, length, refl, sym, ap, subst, ◌∙◌, length-append, arith}
 use Rattle.std.specs.List.{All}
 use Rattle.std.proofs.lemmas.List.{append-nil}
 use Rattle.std.proofs.lemmas.List.Elements.{All-nil, All-cons}
 use Rattle.repl_token.specs.declared.class.Class.{Class}
 use Rattle.repl_token.specs.declared.token.Kind.{Kind}
 use Rattle.repl_token.specs.Class.{is_blank}
-use Rattle.repl_token.specs.Token.{RawToken, Reads, ReadsAs, IsToken}
+use Rattle.repl_token.specs.Token.{RawToken, ReadsAs, IsToken}
 
--- the token behind these blanks, which begin at this place
-abbrev pub raw_behind : ℕ → List ℕ → Kind → List ℕ → RawToken
-raw_behind at blanks k text = record { kind = k; place = at + length blanks; text = text }
+-- these bytes spell a language's own token, which depends on its place
+pub record IsTokenAs {A : Type 0} (class_of : ℕ → Class) (meaning : RawToken → A) (token : ℕ → A) (spelled behind : List ℕ) : Type 0 where
+  pub kind : Kind
+  pub text : List ℕ
+  pub is : IsToken class_of kind text spelled behind
+  pub means : (place : ℕ) → meaning (record { kind = kind; place = place; text = text }) ≡ token place
 
 -- a token in front of those that were read
-pub read_next : {A : Type 0} (class_of : ℕ → Class) (meaning : RawToken → A) (at : ℕ) (blanks spelled behind : List ℕ) (k : Kind) (text : List ℕ) (tokens : List A)
-    → All (λ c. is_blank (class_of c) ≡ true) blanks → IsToken class_of k text spelled behind
+pub read_next : {A : Type 0} (class_of : ℕ → Class) (meaning : RawToken → A) (at : ℕ) (blanks spelled behind : List ℕ) (token : ℕ → A) (tokens : List A)
+    → All (λ c. is_blank (class_of c) ≡ true) blanks → IsTokenAs class_of meaning token spelled behind
     → ReadsAs class_of meaning (at + length blanks + length spelled) behind tokens
-    → ReadsAs class_of meaning at (blanks ++ spelled ++ behind) (meaning (raw_behind at blanks k text) ∷ tokens)
-read_next class_of meaning at blanks spelled behind k text tokens blank is reads = (
-  raw_behind at blanks k text ∷ reads.0,
-  (
-    behind,
-    at + length blanks + length spelled,
-    record { blanks = blanks; spelled = spelled; parts = refl; blank = blank; place = refl; is = is },
-    omega (arith, length-append (blanks ++ spelled) behind, length-append blanks spelled),
-    reads.1,
-  ),
-  ap (λ others. meaning (raw_behind at blanks k text) ∷ others) reads.2,
-)
+    → ReadsAs class_of meaning at (blanks ++ spelled ++ behind) (token (at + length blanks) ∷ tokens)
+read_next class_of meaning at blanks spelled behind token tokens blank h reads =
+    let raw : RawToken = record { kind = h.kind; place = at + length blanks; text = h.text } in (
+      raw ∷ reads.0,
+      (
+        behind,
+        at + length blanks + length spelled,
+        record { blanks = blanks; spelled = spelled; parts = refl; blank = blank; place = refl; is = h.is },
+        omega (arith, length-append (blanks ++ spelled) behind, length-append blanks spelled),
+        reads.1,
+      ),
+      ap (λ others. token (at + length blanks) ∷ others) reads.2 ∙ ap (λ first. first ∷ map meaning reads.0) (sym (h.means (at + length blanks))),
+    )
 
 pub no_blank : (class_of : ℕ → Class) → All (λ c. is_blank (class_of c) ≡ true) []
 no_blank class_of = All-nil (λ c. is_blank (class_of c) ≡ true)
 
-pub one_blank : (class_of : ℕ → Class) (c : ℕ) → is_blank (class_of c) ≡ true → All (λ c. is_blank (class_of c) ≡ true) (c ∷ [])
-one_blank class_of c e = All-cons (λ c. is_blank (class_of c) ≡ true) c [] e (no_blank class_of)
+pub one_blank : (class_of : ℕ → Class) (c : ℕ) → is_blank (class_of c) ≡ true → All (λ b. is_blank (class_of b) ≡ true) (c ∷ [])
+one_blank class_of c e = All-cons (λ b. is_blank (class_of b) ≡ true) c [] e (no_blank class_of)
 
--- only blanks
-pub read_blanks : {A : Type 0} (class_of : ℕ → Class) (meaning : RawToken → A) (at : ℕ) (bytes : List ℕ) → All (λ c. is_blank (class_of c) ≡ true) bytes
-    → ReadsAs class_of meaning at bytes []
-read_blanks class_of meaning at bytes blank = ([], blank, refl)
+-- nothing is left
+pub read_end : {A : Type 0} (class_of : ℕ → Class) (meaning : RawToken → A) (at : ℕ) → ReadsAs class_of meaning at [] []
+read_end class_of meaning at = ([], no_blank class_of, refl)
 
 -- the last token
-pub read_last : {A : Type 0} (class_of : ℕ → Class) (meaning : RawToken → A) (at : ℕ) (blanks spelled : List ℕ) (k : Kind) (text : List ℕ)
-    → All (λ c. is_blank (class_of c) ≡ true) blanks → IsToken class_of k text spelled []
-    → ReadsAs class_of meaning at (blanks ++ spelled) (meaning (raw_behind at blanks k text) ∷ [])
-read_last class_of meaning at blanks spelled k text blank is =
-    subst (λ (bytes : List ℕ). ReadsAs class_of meaning at bytes (meaning (raw_behind at blanks k text) ∷ [])) (append-nil (blanks ++ spelled))
-    (read_next class_of meaning at blanks spelled [] k text [] blank is (read_blanks class_of meaning _ [] (no_blank class_of)))
+pub read_last : {A : Type 0} (class_of : ℕ → Class) (meaning : RawToken → A) (at : ℕ) (blanks spelled : List ℕ) (token : ℕ → A)
+    → All (λ c. is_blank (class_of c) ≡ true) blanks → IsTokenAs class_of meaning token spelled []
+    → ReadsAs class_of meaning at (blanks ++ spelled) (token (at + length blanks) ∷ [])
+read_last class_of meaning at blanks spelled token blank h =
+    subst (λ (bytes : List ℕ). ReadsAs class_of meaning at bytes (token (at + length blanks) ∷ [])) (append-nil (blanks ++ spelled))
+    (read_next class_of meaning at blanks spelled [] token [] blank h (read_end class_of meaning (at + length blanks + length spelled)))

@@ -1,5 +1,5 @@
 -- The tokens of a text, where this is the class of each byte.
-use Rattle.std.specs.Prelude.{◌≡◌, ℕ, ◌+◌, ◌<◌, Bool, true, false, ◌==◌, if◌then◌else◌, List, [], ◌∷◌, ◌++◌, map, length, flat_map, All}
+use Rattle.std.specs.Prelude.{◌≡◌, ℕ, ◌+◌, Bool, true, false, ◌==◌, if◌then◌else◌, List, [], ◌∷◌, ◌++◌, map, length, flat_map, All}
 use Rattle.std.specs.Char.{to_ascii_lowercase}
 use Rattle.repl_token.specs.declared.class.Class.{Class}
 use Rattle.repl_token.specs.declared.class.Class.TheVariants as class

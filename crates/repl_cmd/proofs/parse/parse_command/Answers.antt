@@ -1,6 +1,8 @@
-use Rattle.std.proofs.Common.{◌∙◌, ap, inl, inr, Err, refl, sym}
+use Rattle.std.proofs.Common.{◌∙◌, ap, inl, inr, Err, refl, subst, sym}
 use Rattle.std.proofs.lemmas.Result.{err_from_is_err_and}
 use Rattle.repl_cmd.specs.declared.fault.CmdFault.{CmdFault}
+use Rattle.repl_cmd.specs.Token.{Lexeme}
+use Rattle.repl_cmd.specs.Walk.{Steps, IsStop}
 use Rattle.repl_cmd.proofs.Readings.{IsFaultHere, walked_more, walked_read, walked_stops, walked_ends, here_refused, here_only, read_only, leaves_refused}
 use Rattle.repl_cmd.proofs.parse.parse_command.Goals as goal
 
@@ -9,7 +11,7 @@ loop-state-preserved c =
     let within = rw c.in-Some.is at c.in_ok-token.ensures.within in
     let read = rw c.in-Some.is at c.in_ok-token.ensures.read in record {
       within = within.1;
-      walked = walked_more c.args.text.now c.loop-state.at c.loop-state.state c.in-Some.token c.in-Some.end c.in_ok-state.state c.loop-state.invariant.walked read within.1 c.in_ok-state.ensures.ok;
+      walked = walked_more c.args.text.now c.loop-state.at c.loop-state.state c.in-Some.token c.in-Some.end c.in_ok-state.state c.loop-state.invariant.walked read within.1 (subst (λ (t : Lexeme). Steps c.loop-state.state t c.in_ok-state.state) c.command_token.ensures c.in_ok-state.ensures.ok);
     }
 
 -- the fault of the token that stops the walk
@@ -19,7 +21,8 @@ fault_here c =
     let read = rw c.in-Some.is at c.in_ok-token.ensures.read in
     elim c.in_err-state.ensures.err [
       | inl memory ↦ inl memory
-      | inr stop ↦ inr (walked_stops c.args.text.now c.loop-state.at c.loop-state.state c.in-Some.token c.in-Some.end c.in_err-state.field-0.0 c.loop-state.invariant.walked read within.1 stop)
+      | inr stop ↦ inr (walked_stops c.args.text.now c.loop-state.at c.loop-state.state c.in-Some.token c.in-Some.end c.in_err-state.field-0.0 c.loop-state.invariant.walked read within.1
+          (subst (λ (t : Lexeme). IsStop c.loop-state.state t c.in_err-state.field-0.0) c.command_token.ensures stop))
     ]
 
 pub returns-in_err-state-clause-refused : goal.returns-in_err-state-clause-refused

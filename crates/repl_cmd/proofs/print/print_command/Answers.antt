@@ -1,5 +1,5 @@
 use Rattle.std.proofs.Common.{◌≡◌, List, ℕ, sym, subst, rules}
-use Rattle.repl_cmd.specs.Command.{IsRead}
+use Rattle.repl_cmd.specs.Command.{SaysCommand}
 use Rattle.repl_cmd.specs.Printing.{spelling}
 use Rattle.repl_cmd.proofs.SpellingRead.{spelling_read}
 use Rattle.repl_cmd.proofs.print.print_command.Goals as goal
@@ -8,4 +8,4 @@ pub returns-clause-read_back : goal.returns-clause-read_back
 returns-clause-read_back c =
     let command = c.args.command.now in
     let exact : c.put_command.new.out.items ≡ spelling command = search rules in
-    subst (λ (text : List ℕ). IsRead text command) (sym exact) (spelling_read command c.in_ok-put_command.ensures.is)
+    subst (λ (text : List ℕ). SaysCommand text command) (sym exact) (spelling_read command c.in_ok-put_command.ensures.is)

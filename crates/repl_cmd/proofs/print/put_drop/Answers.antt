@@ -1,5 +1,5 @@
 use Rattle.std.proofs.Common.{codes}
-use Rattle.repl_cmd.specs.Token.{quoted}
+use Rattle.repl_token.specs.Token.{quoted}
 use Rattle.repl_cmd.specs.Printing.{word_if}
 use Rattle.repl_cmd.proofs.Appending.{and_more, and_last}
 use Rattle.repl_cmd.proofs.print.put_drop.Goals as goal

@@ -1,5 +1,5 @@
 use Rattle.std.proofs.Common.{codes}
-use Rattle.repl_cmd.specs.Token.{quoted}
+use Rattle.repl_token.specs.Token.{quoted}
 use Rattle.repl_cmd.proofs.Appending.{and_last}
 use Rattle.repl_cmd.proofs.print.put_read.Goals as goal
 
