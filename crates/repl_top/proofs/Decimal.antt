@@ -16,7 +16,8 @@ pub record ReadsDigits (word : List ℕ) (i value : ℕ) : Type 0 where
   pub digits : AllDigits 10 (take i word)
   pub value_is : value ≡ digits_value 10 (take i word)
 
-pub digits_one_more : (word : List ℕ) (i value digit : ℕ) → ReadsDigits word i value → i < length word → digit ≡ digit_value (get_or word i 0) → digit < 10
+pub digits_one_more : (word : List ℕ) (i value digit : ℕ) → ReadsDigits word i value → i < length word
+    → digit ≡ digit_value (get_or word i 0) → digit < 10
     → ReadsDigits word (i + 1) (value * 10 + digit)
 digits_one_more word i value digit h inside is small = record {
   digits = digits_more 10 word i inside h.digits (omega arith);
@@ -28,5 +29,13 @@ pub not_decimal : (word : List ℕ) (i n : ℕ) → i < length word → (digit_v
 not_decimal word i n inside none d = none (digit_in word d.digits i inside)
 
 -- the whole is at least as much as a front
-pub front_at_most : (word : List ℕ) (i value n : ℕ) → ReadsDigits word i value → i < length word → IsDecimal word n → value * 10 + digit_value (get_or word i 0) ≤ n
-front_at_most word i value n h inside d = omega (arith, h.value_is, d.value, digits_value_more 10 word i inside, digits_value-take-le 10 word (i + 1) (omega arith))
+pub front_at_most : (word : List ℕ) (i value n : ℕ) → ReadsDigits word i value → i < length word → IsDecimal word n
+    → value * 10 + digit_value (get_or word i 0) ≤ n
+front_at_most word i value n h inside d = omega (
+  arith,
+  h.value_is,
+  d.value,
+  digits_value_more 10 word i inside,
+  digits_value-take-le 10
+      word (i + 1) (omega arith),
+)

@@ -33,9 +33,11 @@ lines_then p q bytes rest (m ∷ ms) ns place at read is =
     let within = read_within (after p m) q behind rest ms read.1.2 in
     let so_far : capped (at + length (spelling m) + (length behind - length rest)) ≡ capped (at + (length bytes - length rest)) =
     ap capped (omega (arith, within, ap length read.1.1, length-append (spelling m) behind)) in
-    let others = lines_then (after p m) q behind rest ms ns (capped (place + length (spelling m))) (at + length (spelling m)) read.1.2 next in
+    let others = lines_then (after p m) q behind rest ms ns (capped (place + length (spelling m))) (at + length (spelling m)) read.1.2 next
+    in
     ap (λ (s : List ℕ). line place m ++ s) (others ∙ ap (λ (k : ℕ). lines (capped (place + length (spelling m))) ms ++ lines k ns) so_far)
-    ∙ sym (append_assoc (line place m) (lines (capped (place + length (spelling m))) ms) (lines (capped (at + (length bytes - length rest))) ns))
+    ∙ sym (append_assoc (line place m) (lines (capped (place + length (spelling m))) ms)
+    (lines (capped (at + (length bytes - length rest))) ns))
 
 -- ---- what is written
 
@@ -43,7 +45,8 @@ pub Gained-none : (now : Told) → Gained now now []
 Gained-none None = refl
 Gained-none (Some old) = ap (λ (b : List ℕ). Some b) (sym (append-nil old))
 
-pub Gained-then : (before middle now : Told) (first second : List ℕ) → Gained before middle first → Gained middle now second → Gained before now (first ++ second)
+pub Gained-then : (before middle now : Told) (first second : List ℕ) → Gained before middle first → Gained middle now second
+    → Gained before now (first ++ second)
 Gained-then None middle now first second a b = rw a at b
 Gained-then (Some old) middle now first second a b = (rw a at b) ∙ ap (λ (s : List ℕ). Some s) (append_assoc old first second)
 
@@ -55,11 +58,13 @@ take-beyond (b ∷ first) second n =
     let same : length (b ∷ first) + n ≡ suc (length first + n) = omega arith in
     ap (λ (k : ℕ). take k (b ∷ (first ++ second))) same ∙ ap (λ (s : List ℕ). b ∷ s) (take-beyond first second n)
 
-pub front_then : (before middle now : Told) (first second : List ℕ) → Gained before middle first → WritesFront second middle now → WritesFront (first ++ second) before now
+pub front_then : (before middle now : Told) (first second : List ℕ) → Gained before middle first → WritesFront second middle now
+    → WritesFront (first ++ second) before now
 front_then before middle now first second a w = record {
   front = length first + w.front;
   short = omega (arith, w.short, length-append first second);
-  gained = subst (λ (s : List ℕ). Gained before now s) (sym (take-beyond first second w.front)) (Gained-then before middle now first (take w.front second) a w.gained);
+  gained = subst (λ (s : List ℕ). Gained before now s) (sym (take-beyond first second w.front))
+      (Gained-then before middle now first (take w.front second) a w.gained);
 }
 
 -- ---- messages
@@ -110,18 +115,27 @@ printed_none r text none fits = record {
 }
 
 -- it gives one message more
-pub printed_more : (old now new : Reading) (text after_line : List ℕ) (place : ℕ) (m : Message) (behind : List ℕ) → GivesLines old now (λ made. text ≡ made) → old.place < 2 ^ 64 → place ≡ now.place
-    → Belongs now.phase m → now.rest ≡ spelling m ++ behind → new ≡ record { phase = after now.phase m; place = capped (now.place + length (spelling m)); rest = behind }
+pub printed_more : (old now new : Reading) (text after_line : List ℕ) (place : ℕ) (m : Message) (behind : List ℕ)
+    → GivesLines old now (λ made. text ≡ made) → old.place < 2 ^ 64 → place ≡ now.place
+    → Belongs now.phase m → now.rest ≡ spelling m ++ behind → new ≡ record {
+      phase = after now.phase m;
+      place =
+          capped (now.place + length (spelling m));
+      rest = behind;
+    }
     → after_line ≡ text ++ line place m → GivesLines old new (λ made. after_line ≡ made)
 printed_more old now new text after_line place m behind printed fits at belongs parts next added =
     let used : length now.rest ≡ length (spelling m) + length behind = ap length parts ∙ length-append (spelling m) behind in
     let within = read_within old.phase now.phase old.rest now.rest printed.messages printed.read in
-    let one = lines_then old.phase now.phase old.rest now.rest printed.messages (m ∷ []) old.place old.place printed.read (omega (arith, fits)) in
+    let one = lines_then old.phase now.phase old.rest now.rest printed.messages (m ∷ []) old.place old.place printed.read
+    (omega (arith, fits)) in
     let this : line place m ≡ lines (capped (old.place + (length old.rest - length now.rest))) (m ∷ []) =
     sym (append-nil (line place m)) ∙ ap (λ (k : ℕ). lines k (m ∷ [])) (at ∙ printed.place) in
     rw next (record {
       messages = printed.messages ++ m ∷ [];
-      read = read_then old.phase now.phase (after now.phase m) old.rest now.rest behind printed.messages (m ∷ []) printed.read (read_one now.phase now.rest behind m belongs parts);
+      read = read_then old.phase now.phase (after now.phase m) old.rest now.rest behind printed.messages (m ∷ []) printed.read
+          (read_one now.phase now.rest behind m belongs parts);
       place = omega (arith, printed.place, used, within);
-      wrote = added ∙ ap (λ (s : List ℕ). text ++ s) this ∙ ap (λ (s : List ℕ). s ++ lines (capped (old.place + (length old.rest - length now.rest))) (m ∷ [])) printed.wrote ∙ sym one;
+      wrote = added ∙ ap (λ (s : List ℕ). text ++ s) this ∙ ap (λ (s : List ℕ).
+          s ++ lines (capped (old.place + (length old.rest - length now.rest))) (m ∷ [])) printed.wrote ∙ sym one;
     })

@@ -81,7 +81,8 @@ longer s reader new so_far bytes piece How read place printed =
     let at : capped (0 + (length bytes - length reader.rest)) ≡ reader.place = omega (arith, place) in
     record {
       more = printed.messages;
-      read = read_then (first_phase s) reader.phase new.phase (bytes ++ piece) (reader.rest ++ piece) new.rest so_far printed.messages whole printed.read;
+      read = read_then (first_phase s) reader.phase new.phase (bytes ++ piece) (reader.rest ++ piece) new.rest so_far printed.messages whole
+          printed.read;
       place = omega (arith, printed.place, place, within, left, length-append bytes piece, length-append reader.rest piece);
       text_is = (lines reader.place printed.messages, parts ∙ ap (λ (k : ℕ). lines 0 so_far ++ lines k printed.messages) at, printed.wrote);
     }
@@ -123,7 +124,7 @@ framed_longer : (s : Side) (end : Status) (reader new : Reading) (turns : ℕ) (
     (piece : List ℕ) (How : List ℕ → Type 0) → Progress s reader turns r r' w w' → Lost r'.left r''.left piece
     → GivesLines (fed reader piece) new How
     → ((count : ℕ) (first text : List ℕ) → Wrote first w w' → How text
-      → FramesEnd end count new.phase new.rest new.place (first ++ text) r r'' w w'') → Framed s end r r'' w w''
+    → FramesEnd end count new.phase new.rest new.place (first ++ text) r r'' w w'') → Framed s end r r'' w w''
 framed_longer s end reader new turns r r' r'' w w' w'' piece How p lost printed ends =
     let all = longer s reader new p.messages p.bytes piece How p.read p.place printed in
     let text : List ℕ = all.text_is.0 in
@@ -172,7 +173,8 @@ framed_at s status.ReadFault reader new turns r r' r'' w w' w'' piece p lost sto
 framed_at s status.TurnsSpent reader new turns r r' r'' w w' w'' piece p lost stood ends = absurd ends
 
 -- nothing was read, and nothing written
-pub framed_none : (s : Side) (r r' : SourceState) (w w' : SinkState) → ReadNothing r r' → WroteNothing w w' → Framed s status.Memory r r' w w'
+pub framed_none : (s : Side) (r r' : SourceState) (w w' : SinkState) → ReadNothing r r' → WroteNothing w w'
+    → Framed s status.Memory r r' w w'
 framed_none s r r' w w' unread unwritten = record {
   bytes = [];
   messages = [];

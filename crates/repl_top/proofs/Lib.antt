@@ -2,6 +2,8 @@ pub mod Moves
 pub mod Lengths
 pub mod Decimal
 pub mod CommandLine
+pub mod OtherTasks
+pub mod OneTask
 pub mod Replication
 pub mod Stages
 pub mod Sessions

@@ -20,22 +20,31 @@ use Rattle.repl_top.proofs.Lengths.{length-canonical, length-answer_row}
 -- digits are bytes
 decimal_bytes : (n : ℕ) → n < 2 ^ 64 → AreBytes (decimal n)
 decimal_bytes n small =
-    recursion_from_All (λ b. b < 256) (decimal n) (All-weaker (λ b. b < 128) (λ b. b < 256) (λ b l. omega arith) (decimal n) (All-from_ascii (decimal n) (IsAscii-decimal n small)))
+    recursion_from_All (λ b. b < 256) (decimal n) (All-weaker (λ b. b < 128) (λ b. b < 256) (λ b l. omega arith) (decimal n)
+    (All-from_ascii (decimal n) (IsAscii-decimal n small)))
 
 canonical_bytes : (text : List ℕ) (position : ℕ) → IsCanonical text position → AreBytes text
 canonical_bytes text position h =
     let weaker = All-weaker (λ (c : ℕ). c < 97) (λ (b : ℕ). b < 256) (λ c l. omega arith) in
     let low : All (λ b. b < 256) (47 ∷ h.low) = All-cons (λ b. b < 256) 47 h.low (omega arith) (weaker h.low h.low_is.upper) in
-    subst AreBytes (sym h.parts) (recursion_from_All (λ b. b < 256) (h.high ++ 47 ∷ h.low) (All-append (λ b. b < 256) h.high (47 ∷ h.low) (weaker h.high h.high_is.upper) low))
+    subst AreBytes (sym h.parts) (recursion_from_All (λ b. b < 256) (h.high ++ 47 ∷ h.low)
+    (All-append (λ b. b < 256) h.high (47 ∷ h.low) (weaker h.high h.high_is.upper) low))
 
 ready : IsBack (back.ReadyForQuery Idle)
 ready = record { fits = tt; within = omega arith }
 
 -- what is told of a session's settings
-setting : (name value : List ℕ) → is_text_by_test name ≡ true → is_text_by_test value ≡ true → length name + length value ≤ 100 → IsBack (back.ParameterStatus name value)
+setting : (name value : List ℕ) → is_text_by_test name ≡ true → is_text_by_test value ≡ true → length name + length value ≤ 100
+    → IsBack (back.ParameterStatus name value)
 setting name value named valued short = record {
   fits = (text_from_test name named, text_from_test value valued);
-  within = omega (arith, length-append (name ++ 0 ∷ []) (value ++ 0 ∷ []), length-append name (0 ∷ []), length-append value (0 ∷ []), short);
+  within = omega (
+    arith,
+    length-append (name ++ 0 ∷ []) (value ++ 0 ∷ []),
+    length-append name (0 ∷ []),
+    length-append value (0 ∷ []),
+    short,
+  );
 }
 
 greeting_messages : AllByRecursion IsBack (greeting 1)
@@ -93,13 +102,23 @@ row identity h =
     let flushed = length-canonical (position_text identity.flushed) identity.flushed canonical in
     let short : length (counted column (answer_row identity)) ≤ 100 = length-answer_row identity system timeline flushed in
     record {
-      fits = (omega arith, (decimal_bytes identity.system h.system, (decimal_bytes identity.timeline (omega (arith, h.timeline)), (canonical_bytes (position_text identity.flushed) identity.flushed canonical, (tt, tt)))));
+      fits = (
+        omega arith,
+        (
+          decimal_bytes identity.system h.system,
+          (
+            decimal_bytes identity.timeline (omega (arith, h.timeline)),
+            (canonical_bytes (position_text identity.flushed) identity.flushed canonical, (tt, tt)),
+          ),
+        ),
+      );
       within = omega (arith, short);
     }
 
 identification_messages : (identity : SystemIdentity) → IsInRange identity → AllByRecursion IsBack (identification identity)
 identification_messages identity h =
-    let complete : IsBack (back.CommandComplete (codes "IDENTIFY_SYSTEM")) = record { fits = text_from_test (codes "IDENTIFY_SYSTEM") refl; within = omega arith } in
+    let complete : IsBack (back.CommandComplete (codes "IDENTIFY_SYSTEM")) =
+    record { fits = text_from_test (codes "IDENTIFY_SYSTEM") refl; within = omega arith } in
     (description, (row identity h, (complete, (ready, tt))))
 
 all_both : {A : Type 0} (P : A → Type 0) (xs ys : List A) → AllByRecursion P xs → AllByRecursion P ys → AllByRecursion P (xs ++ ys)
@@ -110,9 +129,11 @@ all_repeated : {A : Type 0} (P : A → Type 0) (n : ℕ) (xs : List A) → AllBy
 all_repeated P zero xs all = tt
 all_repeated P (suc n) xs all = all_both P xs (repeat n xs) all (all_repeated P n xs all)
 
-pub answer_messages : (identity : SystemIdentity) (questions : ℕ) → IsInRange identity → AreMessages (flat_map back_spelling (answer identity questions)) (answer identity questions)
+pub answer_messages : (identity : SystemIdentity) (questions : ℕ) → IsInRange identity
+    → AreMessages (flat_map back_spelling (answer identity questions)) (answer identity questions)
 answer_messages identity questions h = record {
-  each = all_both IsBack (greeting 1) (repeat questions (identification identity)) greeting_messages (all_repeated IsBack questions (identification identity) (identification_messages identity h));
+  each = all_both IsBack (greeting 1) (repeat questions (identification identity)) greeting_messages
+      (all_repeated IsBack questions (identification identity) (identification_messages identity h));
   spelled = refl;
 }
 
@@ -123,5 +144,11 @@ identify_in_range words identity h =
     record {
       system = h.system.1;
       timeline = h.timeline.2;
-      flushed = omega (arith, spells.value, half_fits spells.high spells.high_is.hexadecimal spells.high_is.few, half_fits spells.low spells.low_is.hexadecimal spells.low_is.few);
+      flushed = omega (
+        arith,
+        spells.value,
+        half_fits spells.high spells.high_is.hexadecimal spells.high_is.few,
+        half_fits spells.low
+            spells.low_is.hexadecimal spells.low_is.few,
+      );
     }

@@ -46,15 +46,18 @@ last_named name pairs p named = record {
   others = All-nil (λ (q : Pair). q.name ≡ name → ⊥);
 }
 
-last_named_only : (name value : List ℕ) (pairs : List Pair) (p : Pair) → p.name ≡ name → IsLast name (pairs ++ p ∷ []) value → p.value ≡ value
+last_named_only : (name value : List ℕ) (pairs : List Pair) (p : Pair) → p.name ≡ name → IsLast name (pairs ++ p ∷ []) value
+    → p.value ≡ value
 last_named_only name value pairs p named l =
     elim (parted pairs l.before l.after p l.last l.parts) [
       | inl h ↦ ap (λ (q : Pair). q.value) h.same ∙ l.valued
-      | inr h ↦ absurd (All-contains (λ (q : Pair). q.name ≡ name → ⊥) (h.between ++ p ∷ []) p (rw h.ends at l.others) (Contains-push h.between p) named)
+      | inr h ↦ absurd (All-contains (λ (q : Pair). q.name ≡ name
+          → ⊥) (h.between ++ p ∷ []) p (rw h.ends at l.others) (Contains-push h.between p) named)
     ]
 
 -- one that is named otherwise changes nothing
-last_kept : (name value : List ℕ) (pairs : List Pair) (p : Pair) → (p.name ≡ name → ⊥) → IsLast name pairs value → IsLast name (pairs ++ p ∷ []) value
+last_kept : (name value : List ℕ) (pairs : List Pair) (p : Pair) → (p.name ≡ name → ⊥) → IsLast name pairs value
+    → IsLast name (pairs ++ p ∷ []) value
 last_kept name value pairs p apart l = record {
   before = l.before;
   last = l.last;
@@ -65,7 +68,8 @@ last_kept name value pairs p apart l = record {
   others = All-push (λ (q : Pair). q.name ≡ name → ⊥) l.after p l.others apart;
 }
 
-last_back : (name value : List ℕ) (pairs : List Pair) (p : Pair) → (p.name ≡ name → ⊥) → IsLast name (pairs ++ p ∷ []) value → IsLast name pairs value
+last_back : (name value : List ℕ) (pairs : List Pair) (p : Pair) → (p.name ≡ name → ⊥) → IsLast name (pairs ++ p ∷ []) value
+    → IsLast name pairs value
 last_back name value pairs p apart l =
     elim (parted pairs l.before l.after p l.last l.parts) [
       | inl h ↦ absurd (apart (ap (λ (q : Pair). q.name) h.same ∙ l.named))
@@ -80,15 +84,22 @@ last_back name value pairs p apart l =
       }
     ]
 
-pub physical_named : (pairs : List Pair) (p : Pair) (asked : Bool) → p.name ≡ codes "replication" → (IsTrue asked ↔ IsTrueValue p.value) → IsTrue asked ↔ IsPhysical (pairs ++ p ∷ [])
+pub physical_named : (pairs : List Pair) (p : Pair) (asked : Bool) → p.name ≡ codes "replication" → (IsTrue asked ↔ IsTrueValue p.value)
+    → IsTrue asked ↔ IsPhysical (pairs ++ p ∷ [])
 physical_named pairs p asked named test = (
   λ e. record { value = p.value; counts = last_named (codes "replication") pairs p named; asks = test.0 e },
   λ h. test.1 (rw (last_named_only (codes "replication") h.value pairs p named h.counts) h.asks),
 )
 
-pub physical_other : (pairs : List Pair) (p : Pair) (asked : Bool) → (p.name ≡ codes "replication" → ⊥) → (IsTrue asked ↔ IsPhysical pairs) → IsTrue asked ↔ IsPhysical (pairs ++ p ∷ [])
+pub physical_other : (pairs : List Pair) (p : Pair) (asked : Bool) → (p.name ≡ codes "replication" → ⊥) → (IsTrue asked ↔ IsPhysical pairs)
+    → IsTrue asked ↔ IsPhysical (pairs ++ p ∷ [])
 physical_other pairs p asked apart before = (
-  λ e. let h = before.0 e in record { value = h.value; counts = last_kept (codes "replication") h.value pairs p apart h.counts; asks = h.asks },
+  λ e. let h = before.0 e in record {
+    value = h.value;
+    counts = last_kept (codes "replication") h.value pairs p apart h.counts;
+    asks =
+        h.asks;
+  },
   λ h. before.1 (record { value = h.value; counts = last_back (codes "replication") h.value pairs p apart h.counts; asks = h.asks }),
 )
 
@@ -99,7 +110,12 @@ IsPlain p = IsOption p.name → ⊥
 abbrev pub IsNotPlain : Pair → Type 0
 IsNotPlain p = IsPlain p → ⊥
 
-pub replicates : (given pairs : List Pair) → given ≡ pairs → (user physical plain : Bool) → (IsTrue user ↔ HasUser given) → user ≡ true → (IsTrue physical ↔ IsPhysical given) → physical ≡ true
+pub replicates : (given pairs : List Pair) → given ≡ pairs → (user physical plain : Bool) → (IsTrue user ↔ HasUser given) → user ≡ true
+    → (IsTrue physical ↔ IsPhysical given) → physical ≡ true
     → (IsTrue plain ↔ HasNoOption given) → IsTrue plain ↔ IsReplication pairs
 replicates given pairs same user physical plain has_user is_user is_physical physical_is has_no_option =
-    rw (← same) (λ e. record { user = has_user.0 is_user; physical = is_physical.0 physical_is; plain = has_no_option.0 e }, λ h. has_no_option.1 h.plain)
+    rw (← same) (
+      λ e. record { user = has_user.0 is_user; physical = is_physical.0 physical_is; plain = has_no_option.0 e },
+      λ h.
+          has_no_option.1 h.plain,
+    )

@@ -24,8 +24,10 @@ use Rattle.repl_top.proofs.Streams.{read_then, read_more, read_one, spelling_som
 pub walked_none : (r : Reading) (a : Stage) → asks a ≤ r.place → Walked r a r a
 walked_none r a few = record { messages = []; read = (refl, refl); place = refl; lead = refl; few = few }
 
-pub walked_more : (old r new : Reading) (from a b : Stage) (m : Message) (behind : List ℕ) → Walked old from r a → old.place + length old.rest < 2 ^ 64 → Belongs r.phase m → r.rest ≡ spelling m ++ behind
-    → new ≡ record { phase = after r.phase m; place = capped (r.place + length (spelling m)); rest = behind } → Goes a m b → Walked old from new b
+pub walked_more : (old r new : Reading) (from a b : Stage) (m : Message) (behind : List ℕ) → Walked old from r a
+    → old.place + length old.rest < 2 ^ 64 → Belongs r.phase m → r.rest ≡ spelling m ++ behind
+    → new ≡ record { phase = after r.phase m; place = capped (r.place + length (spelling m)); rest = behind } → Goes a m b
+    → Walked old from new b
 walked_more old r new from a b m behind w fits belongs parts next goes =
     let used : length r.rest ≡ length (spelling m) + length behind = ap length parts ∙ length-append (spelling m) behind in
     let place : capped (r.place + length (spelling m)) ≡ r.place + length (spelling m) = omega (arith, used, w.place, fits) in
@@ -33,21 +35,24 @@ walked_more old r new from a b m behind w fits belongs parts next goes =
     let some = spelling_some m in
     rw next (record {
       messages = w.messages ++ m ∷ [];
-      read = read_then old.phase r.phase (after r.phase m) old.rest r.rest behind w.messages (m ∷ []) w.read (read_one r.phase r.rest behind m belongs parts);
+      read = read_then old.phase r.phase (after r.phase m) old.rest r.rest behind w.messages (m ∷ []) w.read
+          (read_one r.phase r.rest behind m belongs parts);
       place = omega (arith, place, used, w.place);
       lead = lead_then from a b w.messages (m ∷ []) w.lead (lead_one a b m goes);
       few = omega (arith, place, few, some, w.few);
     })
 
 -- where a message is left, there are fewer than 2^64 - 1
-pub counted_less : (old r : Reading) (from a : Stage) (m : Message) (behind : List ℕ) → Walked old from r a → old.place + length old.rest < 2 ^ 64 → r.rest ≡ spelling m ++ behind → asks a < 2 ^ 64 - 1
+pub counted_less : (old r : Reading) (from a : Stage) (m : Message) (behind : List ℕ) → Walked old from r a
+    → old.place + length old.rest < 2 ^ 64 → r.rest ≡ spelling m ++ behind → asks a < 2 ^ 64 - 1
 counted_less old r from a m behind w fits parts =
     omega (arith, w.few, w.place, fits, ap length parts, length-append (spelling m) behind, spelling_some m)
 
 -- ---- where it stops
 
 -- the reader refuses what is next
-pub stuck_refused : (old r : Reading) (from a : Stage) (place : ℕ) (f : WireFault) → Walked old from r a → place ≡ r.place → judge r.phase r.rest ≡ taken.Wrong f → Stuck old from place
+pub stuck_refused : (old r : Reading) (from a : Stage) (place : ℕ) (f : WireFault) → Walked old from r a → place ≡ r.place
+    → judge r.phase r.rest ≡ taken.Wrong f → Stuck old from place
 stuck_refused old r from a place f w at wrong = record {
   new = r;
   to = a;
@@ -58,7 +63,8 @@ stuck_refused old r from a place f w at wrong = record {
 }
 
 -- the next message leads nowhere
-pub stuck_message : (old r : Reading) (from a : Stage) (place : ℕ) (m : Message) (behind : List ℕ) → Walked old from r a → place ≡ r.place → Belongs r.phase m → r.rest ≡ spelling m ++ behind
+pub stuck_message : (old r : Reading) (from a : Stage) (place : ℕ) (m : Message) (behind : List ℕ) → Walked old from r a → place ≡ r.place
+    → Belongs r.phase m → r.rest ≡ spelling m ++ behind
     → ((next : Stage) → Goes a m next → ⊥) → Stuck old from place
 stuck_message old r from a place m behind w at belongs parts none =
     let used : length r.rest ≡ length (spelling m) + length behind = ap length parts ∙ length-append (spelling m) behind in
@@ -70,7 +76,8 @@ stuck_message old r from a place m behind w at belongs parts none =
       at = at;
       some = λ empty. omega (arith, used, some, ap length empty);
       halts = λ more n other next belongs_n parts_n goes.
-          let longer : r.rest ++ more ≡ spelling m ++ (behind ++ more) = ap (λ (x : List ℕ). x ++ more) parts ∙ append_assoc (spelling m) behind more in
+          let longer : r.rest ++ more ≡ spelling m ++ (behind ++ more) = ap (λ (x : List ℕ). x ++ more) parts
+          ∙ append_assoc (spelling m) behind more in
           let one = front_one r.phase m n (r.rest ++ more) (behind ++ more) other belongs belongs_n longer parts_n in
           none next (subst (λ (x : Message). Goes a x next) (sym one.0) goes);
     }
@@ -88,7 +95,8 @@ pub record SoFar (input left : List ℕ) (r : Reading) (a : Stage) : Type 0 wher
   pub few : asks a ≤ r.place
   pub waits : Waits r
 
-pub so_far_none : (input : List ℕ) (r : Reading) → r ≡ record { phase = phase.Startup; place = 0; rest = [] } → SoFar input input r (stage.Starting 0)
+pub so_far_none : (input : List ℕ) (r : Reading) → r ≡ record { phase = phase.Startup; place = 0; rest = [] }
+    → SoFar input input r (stage.Starting 0)
 so_far_none input r is = rw is (record {
   done = [];
   messages = [];
@@ -110,7 +118,8 @@ pub record Fed (input rest : List ℕ) (s : Reading) (a : Stage) : Type 0 where
   pub place : s.place + length s.rest ≡ length done
   pub few : asks a ≤ s.place
 
-pub fed_more : (input left piece rest : List ℕ) (r s : Reading) (a : Stage) → SoFar input left r a → left ≡ piece ++ rest → s ≡ fed r piece → Fed input rest s a
+pub fed_more : (input left piece rest : List ℕ) (r s : Reading) (a : Stage) → SoFar input left r a → left ≡ piece ++ rest → s ≡ fed r piece
+    → Fed input rest s a
 fed_more input left piece rest r s a f parts is = rw is (record {
   done = f.done ++ piece;
   messages = f.messages;
@@ -121,7 +130,8 @@ fed_more input left piece rest r s a f parts is = rw is (record {
   few = f.few;
 })
 
-pub fed_fits : (input rest : List ℕ) (s : Reading) (a : Stage) → Fed input rest s a → length input < 2 ^ 64 → s.place + length s.rest < 2 ^ 64
+pub fed_fits : (input rest : List ℕ) (s : Reading) (a : Stage) → Fed input rest s a → length input < 2 ^ 64
+    → s.place + length s.rest < 2 ^ 64
 fed_fits input rest s a f small = omega (arith, f.place, small, ap length f.parts, length-append f.done rest)
 
 -- and its messages are given
@@ -148,7 +158,8 @@ so_far_more input rest s t a b f w waits =
 
 -- ---- the place where an input is refused
 
-refused_from : (input : List ℕ) (place : ℕ) (ms : List Message) (q : Phase) (rest : List ℕ) (a : Stage) → AreRead phase.Startup input ms q rest → place + length rest ≡ length input → Lead (stage.Starting 0) ms a
+refused_from : (input : List ℕ) (place : ℕ) (ms : List Message) (q : Phase) (rest : List ℕ) (a : Stage)
+    → AreRead phase.Startup input ms q rest → place + length rest ≡ length input → Lead (stage.Starting 0) ms a
     → Halts q rest a → (rest ≡ [] → (s : Session) → a ≡ stage.Over s → ⊥) → IsNoSessionAt input place
 refused_from input place ms q rest a read at lead halts unended = record {
   messages = ms;
@@ -168,27 +179,33 @@ empty_front : (front more : List ℕ) → front ++ more ≡ [] → front ≡ []
 empty_front [] more e = refl
 empty_front (b ∷ front) more e = absurd cc
 
-pub refused_stuck : (input rest : List ℕ) (s : Reading) (a : Stage) (place : ℕ) → Fed input rest s a → Stuck s a place → IsNoSessionAt input place
+pub refused_stuck : (input rest : List ℕ) (s : Reading) (a : Stage) (place : ℕ) → Fed input rest s a → Stuck s a place
+    → IsNoSessionAt input place
 refused_stuck input rest s a place f k =
     let all = walked_all input rest s k.new a k.to f k.walked in
     let read = read_more phase.Startup k.new.phase f.done k.new.rest rest (f.messages ++ k.walked.messages) all.0 in
-    let whole = subst (λ (x : List ℕ). AreRead phase.Startup x (f.messages ++ k.walked.messages) k.new.phase (k.new.rest ++ rest)) (sym f.parts) read in
-    let at : place + length (k.new.rest ++ rest) ≡ length input = omega (arith, k.at, k.walked.place, f.place, length-append k.new.rest rest, ap length f.parts, length-append f.done rest) in
-    refused_from input place (f.messages ++ k.walked.messages) k.new.phase (k.new.rest ++ rest) k.to whole at all.1 (k.halts rest) (λ empty over is. k.some (empty_front k.new.rest rest empty))
+    let whole = subst (λ (x : List ℕ). AreRead phase.Startup x (f.messages ++ k.walked.messages) k.new.phase (k.new.rest ++ rest))
+    (sym f.parts) read in
+    let at : place + length (k.new.rest ++ rest) ≡ length input =
+    omega (arith, k.at, k.walked.place, f.place, length-append k.new.rest rest, ap length f.parts, length-append f.done rest) in
+    refused_from input place (f.messages ++ k.walked.messages) k.new.phase (k.new.rest ++ rest) k.to whole at all.1 (k.halts rest)
+    (λ empty over is. k.some (empty_front k.new.rest rest empty))
 
 -- ---- all was fed
 
 done_all : (input left : List ℕ) (r : Reading) (a : Stage) → (f : SoFar input left r a) → left ≡ [] → f.done ≡ input
 done_all input left r a f none = sym (f.parts ∙ ap (λ (u : List ℕ). f.done ++ u) none ∙ append-nil f.done)
 
-pub read_whole : (input left : List ℕ) (r : Reading) (s : Session) → SoFar input left r (stage.Over s) → left ≡ [] → r.rest ≡ [] → IsSession input s.requests s.questions
+pub read_whole : (input left : List ℕ) (r : Reading) (s : Session) → SoFar input left r (stage.Over s) → left ≡ [] → r.rest ≡ []
+    → IsSession input s.requests s.questions
 read_whole input left r s f none empty = record {
   messages = f.messages;
   are_all = (r.phase, rw (done_all input left r (stage.Over s) f none, empty) at f.read);
   are_session = session_from f.messages s f.lead;
 }
 
-pub refused_end : (input left : List ℕ) (r : Reading) (a : Stage) (place : ℕ) → SoFar input left r a → left ≡ [] → place ≡ r.place → (r.rest ≡ [] → (s : Session) → a ≡ stage.Over s → ⊥) → IsNoSessionAt input place
+pub refused_end : (input left : List ℕ) (r : Reading) (a : Stage) (place : ℕ) → SoFar input left r a → left ≡ [] → place ≡ r.place
+    → (r.rest ≡ [] → (s : Session) → a ≡ stage.Over s → ⊥) → IsNoSessionAt input place
 refused_end input left r a place f none at unended =
     let all = done_all input left r a f none in
     refused_from input place f.messages r.phase r.rest a (rw all at f.read) (omega (arith, at, f.place, ap length all)) f.lead
@@ -203,22 +220,26 @@ pub one_counts : (input : List ℕ) (a b c d : ℕ) → IsSession input a b → 
 one_counts input a b c d x y =
     let same = all_one phase.Startup x.are_all.0 y.are_all.0 input x.messages y.messages x.are_all.1 y.are_all.1 in
     let first = session_leads x.messages a b x.are_session in
-    let second = subst (λ (m : List Message). Lead (stage.Starting 0) m (over c d)) (sym same) (session_leads y.messages c d y.are_session) in
+    let second = subst (λ (m : List Message). Lead (stage.Starting 0) m (over c d)) (sym same) (session_leads y.messages c d y.are_session)
+    in
     let one : over a b ≡ over c d = lead_to_one (stage.Starting 0) (over a b) (over c d) x.messages first second in
     let whole : session a b ≡ session c d = cc in
     (ap (λ (x : Session). x.requests) whole, ap (λ (x : Session). x.questions) whole)
 
 -- what goes on with a message of a session, goes on with that message
-begins_one : (ms ns : List Message) (m : Message) (more : List Message) → ns ≡ ms ++ m ∷ more → Begins AreSomeSession ns → Begins AreSomeSession (ms ++ m ∷ [])
+begins_one : (ms ns : List Message) (m : Message) (more : List Message) → ns ≡ ms ++ m ∷ more → Begins AreSomeSession ns
+    → Begins AreSomeSession (ms ++ m ∷ [])
 begins_one ms ns m more longer b =
     let parts : ns ++ b.0 ≡ (ms ++ m ∷ []) ++ (more ++ b.0) =
     ap (λ (x : List Message). x ++ b.0) longer ∙ append_assoc ms (m ∷ more) b.0 ∙ sym (append_assoc ms (m ∷ []) (more ++ b.0)) in
     (more ++ b.0, subst AreSomeSession parts b.1)
 
 -- messages that go on past the place do not begin a session
-not_further : (input : List ℕ) (place : ℕ) (r : IsNoSessionAt input place) (ns : List Message) → Further r.last r.rest r.messages ns → Begins AreSomeSession ns → ⊥
+not_further : (input : List ℕ) (place : ℕ) (r : IsNoSessionAt input place) (ns : List Message) → Further r.last r.rest r.messages ns
+    → Begins AreSomeSession ns → ⊥
 not_further input place r ns f b =
-    r.stops f.message (spelling f.message) f.behind f.parts (record { belongs = f.belongs; spelled = refl }) (begins_one r.messages ns f.message f.more f.longer b)
+    r.stops f.message (spelling f.message) f.behind f.parts (record { belongs = f.belongs; spelled = refl })
+    (begins_one r.messages ns f.message f.more f.longer b)
 
 session_begins : (ms : List Message) → AreSomeSession ms → Begins AreSomeSession ms
 session_begins ms s = ([], subst AreSomeSession (sym (append-nil ms)) s)

@@ -99,7 +99,8 @@ asked : (ms : List Message) (a s : Session) → Lead (stage.Asking a) ms (stage.
 asked [] a s l = absurd cc
 asked (m ∷ ms) a s l = elim l.1 [
   | inl q ↦
-      let r = asked ms (record { requests = a.requests; questions = a.questions + 1 }) s (subst (λ (x : Stage). Lead x ms (stage.Over s)) q.1 l.2) in
+      let r = asked ms (record { requests = a.requests; questions = a.questions + 1 }) s
+      (subst (λ (x : Stage). Lead x ms (stage.Over s)) q.1 l.2) in
       record {
         questioned = m ∷ r.questioned;
         parts = ap (λ (x : List Message). m ∷ x) r.parts;
@@ -170,22 +171,33 @@ session_from ms s l =
 
 requests_lead : (ms : List Message) (n k : ℕ) → All IsRequest ms → k ≡ n + length ms → Lead (stage.Starting n) ms (stage.Starting k)
 requests_lead [] n k all e = ap (λ (x : ℕ). stage.Starting x) (omega (arith, e))
-requests_lead (m ∷ ms) n k all e =
-    (stage.Starting (n + 1), inl (All-head IsRequest m ms all, refl), requests_lead ms (n + 1) k (All-tail IsRequest m ms all) (omega (arith, e)))
+requests_lead (m ∷ ms) n k all e = (
+  stage.Starting (n + 1),
+  inl (All-head IsRequest m ms all, refl),
+  requests_lead ms (n + 1) k (All-tail IsRequest m ms all)
+      (omega (arith, e)),
+)
 
 questions_lead : (ms : List Message) (n a k : ℕ) → All IsQuestion ms → k ≡ a + length ms → Lead (asking n a) ms (asking n k)
 questions_lead [] n a k all e = ap (λ (x : ℕ). asking n x) (omega (arith, e))
-questions_lead (m ∷ ms) n a k all e =
-    (asking n (a + 1), inl (All-head IsQuestion m ms all, refl), questions_lead ms n (a + 1) k (All-tail IsQuestion m ms all) (omega (arith, e)))
+questions_lead (m ∷ ms) n a k all e = (
+  asking n (a + 1),
+  inl (All-head IsQuestion m ms all, refl),
+  questions_lead ms n (a + 1) k (All-tail IsQuestion m ms all)
+      (omega (arith, e)),
+)
 
-pub session_leads : (ms : List Message) (requests questions : ℕ) → AreSession ms requests questions → Lead (stage.Starting 0) ms (over requests questions)
+pub session_leads : (ms : List Message) (requests questions : ℕ) → AreSession ms requests questions
+    → Lead (stage.Starting 0) ms (over requests questions)
 session_leads ms requests questions s =
     let first = requests_lead s.asked 0 requests s.are_requests (omega (arith, s.requests_are)) in
     let third = questions_lead s.questioned requests 0 questions s.are_questions (omega (arith, s.questions_are)) in
     let second : Goes (stage.Starting requests) (start s.pairs) (asking requests 0) = inr ((s.pairs, refl, s.starts), refl) in
     let last : Goes (asking requests questions) end (over requests questions) = inr (refl, refl) in
-    let middle = lead_then (stage.Starting 0) (stage.Starting requests) (asking requests questions) s.asked (start s.pairs ∷ s.questioned) first (asking requests 0, second, third) in
-    let all = lead_then (stage.Starting 0) (asking requests questions) (over requests questions) (s.asked ++ start s.pairs ∷ s.questioned) (end ∷ []) middle (lead_one (asking requests questions) (over requests questions) end last) in
+    let middle = lead_then (stage.Starting 0) (stage.Starting requests) (asking requests questions) s.asked (start s.pairs ∷ s.questioned)
+    first (asking requests 0, second, third) in
+    let all = lead_then (stage.Starting 0) (asking requests questions) (over requests questions) (s.asked ++ start s.pairs ∷ s.questioned)
+    (end ∷ []) middle (lead_one (asking requests questions) (over requests questions) end last) in
     subst (λ (x : List Message). Lead (stage.Starting 0) x (over requests questions)) (sym s.parts) all
 
 -- ---- each stage goes on to the last
@@ -224,14 +236,18 @@ some_replication =
         };
         asks = inl refl;
       };
-      plain = All-cons plain user_pair (replication_pair ∷ []) no_option_user (All-cons plain replication_pair [] no_option_replication (All-nil plain));
+      plain = All-cons plain user_pair (replication_pair ∷ []) no_option_user
+          (All-cons plain replication_pair [] no_option_replication (All-nil plain));
     }
 
 to_end : (a : Stage) → (more : List Message) × (s : Session) × Lead a more (stage.Over s)
 to_end (stage.Over s) = ([], s, refl)
 to_end (stage.Asking s) = (end ∷ [], s, (stage.Over s, inr (refl, refl), refl))
-to_end (stage.Starting n) =
-    (start some_pairs ∷ end ∷ [], record { requests = n; questions = 0 }, (asking n 0, inr ((some_pairs, refl, some_replication), refl), (over n 0, inr (refl, refl), refl)))
+to_end (stage.Starting n) = (
+  start some_pairs ∷ end ∷ [],
+  record { requests = n; questions = 0 },
+  (asking n 0, inr ((some_pairs, refl, some_replication), refl), (over n 0, inr (refl, refl), refl)),
+)
 
 pub stage_begins : (ms : List Message) (a : Stage) → Lead (stage.Starting 0) ms a → Begins AreSomeSession ms
 stage_begins ms a l =
@@ -239,7 +255,8 @@ stage_begins ms a l =
     (g.0, (g.1.requests, g.1.questions, session_from (ms ++ g.0) g.1 (lead_then (stage.Starting 0) a (stage.Over g.1) ms g.0 l g.2)))
 
 -- where a session goes on with a message, its stage goes on too
-pub begins_goes : (ms : List Message) (m : Message) (a : Stage) → Lead (stage.Starting 0) ms a → Begins AreSomeSession (ms ++ m ∷ []) → (next : Stage) × Goes a m next
+pub begins_goes : (ms : List Message) (m : Message) (a : Stage) → Lead (stage.Starting 0) ms a → Begins AreSomeSession (ms ++ m ∷ [])
+    → (next : Stage) × Goes a m next
 begins_goes ms m a l b =
     let s = b.1 in
     let whole = session_leads ((ms ++ m ∷ []) ++ b.0) s.0 s.1 s.2 in

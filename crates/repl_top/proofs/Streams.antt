@@ -18,17 +18,26 @@ use Rattle.repl_wire.proofs.FieldSpellings.{messages_one}
 -- ---- what is read
 
 -- the messages of a stream, and then those of what was left
-pub read_then : (p q r : Phase) (bytes rest last : List ℕ) (ms ns : List Message) → AreRead p bytes ms q rest → AreRead q rest ns r last → AreRead p bytes (ms ++ ns) r last
+pub read_then : (p q r : Phase) (bytes rest last : List ℕ) (ms ns : List Message) → AreRead p bytes ms q rest → AreRead q rest ns r last
+    → AreRead p bytes (ms ++ ns) r last
 read_then p q r bytes rest last [] ns read more =
     subst (λ (b : List ℕ). AreRead p b ns r last) read.1 (subst (λ (f : Phase). AreRead f rest ns r last) read.0 more)
 read_then p q r bytes rest last (m ∷ ms) ns read more =
     (read.0, (read.1.0, read.1.1, read_then (after p m) q r read.1.0 rest last ms ns read.1.2 more))
 
 -- more bytes at the end are left
-pub read_more : (p q : Phase) (bytes rest more : List ℕ) (ms : List Message) → AreRead p bytes ms q rest → AreRead p (bytes ++ more) ms q (rest ++ more)
+pub read_more : (p q : Phase) (bytes rest more : List ℕ) (ms : List Message) → AreRead p bytes ms q rest
+    → AreRead p (bytes ++ more) ms q (rest ++ more)
 read_more p q bytes rest more [] read = (read.0, ap (λ (b : List ℕ). b ++ more) read.1)
-read_more p q bytes rest more (m ∷ ms) read =
-    (read.0, (read.1.0 ++ more, ap (λ (b : List ℕ). b ++ more) read.1.1 ∙ append_assoc (spelling m) read.1.0 more, read_more (after p m) q read.1.0 rest more ms read.1.2))
+read_more p q bytes rest more (m ∷ ms) read = (
+  read.0,
+  (
+    read.1.0 ++ more,
+    ap (λ (b : List ℕ). b ++ more) read.1.1
+        ∙ append_assoc (spelling m) read.1.0 more,
+    read_more (after p m) q read.1.0 rest more ms read.1.2,
+  ),
+)
 
 pub read_within : (p q : Phase) (bytes rest : List ℕ) (ms : List Message) → AreRead p bytes ms q rest → length rest ≤ length bytes
 read_within p q bytes rest [] read = omega (arith, ap length read.1)
@@ -36,7 +45,8 @@ read_within p q bytes rest (m ∷ ms) read =
     omega (arith, ap length read.1.1, length-append (spelling m) read.1.0, read_within (after p m) q read.1.0 rest ms read.1.2)
 
 -- a message at the front
-pub read_one : (p : Phase) (bytes behind : List ℕ) (m : Message) → Belongs p m → bytes ≡ spelling m ++ behind → AreRead p bytes (m ∷ []) (after p m) behind
+pub read_one : (p : Phase) (bytes behind : List ℕ) (m : Message) → Belongs p m → bytes ≡ spelling m ++ behind
+    → AreRead p bytes (m ∷ []) (after p m) behind
 read_one p bytes behind m belongs parts = (belongs, (behind, parts, (refl, refl)))
 
 -- no message is without bytes
@@ -46,7 +56,9 @@ spelling_some (message.Front m) = omega arith
 spelling_some (message.Back m) = omega arith
 
 -- where a reader gives a message, less is left
-pub rest_less : (now new : Reading) (m : Message) (behind : List ℕ) → now.rest ≡ spelling m ++ behind → new ≡ record { phase = after now.phase m; place = capped (now.place + length (spelling m)); rest = behind } → length new.rest < length now.rest
+pub rest_less : (now new : Reading) (m : Message) (behind : List ℕ) → now.rest ≡ spelling m ++ behind
+    → new ≡ record { phase = after now.phase m; place = capped (now.place + length (spelling m)); rest = behind }
+    → length new.rest < length now.rest
 rest_less now new m behind parts next =
     omega (arith, spelling_some m, ap (λ (r : Reading). length r.rest) next, ap length parts, length-append (spelling m) behind)
 
@@ -85,9 +97,11 @@ refused_some p bytes f wrong none = let bad = sym (judge_empty p) ∙ ap (judge 
 -- ---- two readings
 
 -- one message stands in front
-pub front_one : (p : Phase) (m n : Message) (bytes x y : List ℕ) → Belongs p m → Belongs p n → bytes ≡ spelling m ++ x → bytes ≡ spelling n ++ y → (m ≡ n) × (x ≡ y)
+pub front_one : (p : Phase) (m n : Message) (bytes x y : List ℕ) → Belongs p m → Belongs p n → bytes ≡ spelling m ++ x
+    → bytes ≡ spelling n ++ y → (m ≡ n) × (x ≡ y)
 front_one p m n bytes x y a b e f =
-    messages_one p m n (spelling m) (spelling n) x y (record { belongs = a; spelled = refl }) (record { belongs = b; spelled = refl }) (sym e ∙ f)
+    messages_one p m n (spelling m) (spelling n) x y (record { belongs = a; spelled = refl }) (record { belongs = b; spelled = refl })
+    (sym e ∙ f)
 
 -- the second messages go on where the first stop, with a message that stands there
 pub record Further (q : Phase) (rest : List ℕ) (ms ns : List Message) : Type 0 where
@@ -104,14 +118,38 @@ pub record Alike (rest left : List ℕ) (ms ns : List Message) : Type 0 where
   pub left_over : rest ≡ left
 
 further_more : (q : Phase) (rest : List ℕ) (m : Message) (ms ns : List Message) → Further q rest ms ns → Further q rest (m ∷ ms) (m ∷ ns)
-further_more q rest m ms ns f = record { message = f.message; more = f.more; behind = f.behind; longer = ap (λ (l : List Message). m ∷ l) f.longer; belongs = f.belongs; parts = f.parts }
+further_more q rest m ms ns f = record {
+  message = f.message;
+  more = f.more;
+  behind = f.behind;
+  longer =
+      ap (λ (l : List Message). m ∷ l) f.longer;
+  belongs = f.belongs;
+  parts = f.parts;
+}
 
 -- of two readings one goes on with the other
 pub readings : (p q s : Phase) (bytes rest left : List ℕ) (ms ns : List Message) → AreRead p bytes ms q rest → AreRead p bytes ns s left
     → Alike rest left ms ns ⊎ Further q rest ms ns ⊎ Further s left ns ms
 readings p q s bytes rest left [] [] x y = inl (record { messages = refl; left_over = x.1 ∙ sym y.1 })
-readings p q s bytes rest left [] (n ∷ ns) x y = inr (inl (record { message = n; more = ns; behind = y.1.0; longer = refl; belongs = rw x.0 y.0; parts = x.1 ∙ y.1.1 }))
-readings p q s bytes rest left (m ∷ ms) [] x y = inr (inr (record { message = m; more = ms; behind = x.1.0; longer = refl; belongs = rw y.0 x.0; parts = y.1 ∙ x.1.1 }))
+readings p q s bytes rest left [] (n ∷ ns) x y = inr (inl (record {
+  message = n;
+  more = ns;
+  behind = y.1.0;
+  longer = refl;
+  belongs =
+      rw x.0 y.0;
+  parts = x.1 ∙ y.1.1;
+}))
+readings p q s bytes rest left (m ∷ ms) [] x y = inr (inr (record {
+  message = m;
+  more = ms;
+  behind = x.1.0;
+  longer = refl;
+  belongs =
+      rw y.0 x.0;
+  parts = y.1 ∙ x.1.1;
+}))
 readings p q s bytes rest left (m ∷ ms) (n ∷ ns) x y =
     let one = front_one p m n bytes x.1.0 y.1.0 x.0 y.0 x.1.1 y.1.1 in
     let others = readings (after p m) q s x.1.0 rest left ms ns x.1.2 (rw (one.0, one.1) y.1.2) in

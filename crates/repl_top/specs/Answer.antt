@@ -33,7 +33,8 @@ int8_field name = record { name = name; table = 0; attribute = pos 0; type_oid =
 
 -- the four columns of the answer to IDENTIFY_SYSTEM
 abbrev pub answer_fields : List Field
-answer_fields = text_field (codes "systemid") ∷ int8_field (codes "timeline") ∷ text_field (codes "xlogpos") ∷ text_field (codes "dbname") ∷ []
+answer_fields = text_field (codes "systemid") ∷ int8_field (codes "timeline") ∷ text_field (codes "xlogpos") ∷ text_field (codes "dbname")
+    ∷ []
 
 -- its row: the system, the timeline, the flushed end, and no database
 abbrev pub answer_row : SystemIdentity → List (Option (List ℕ))

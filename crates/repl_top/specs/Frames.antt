@@ -55,7 +55,8 @@ abbrev pub FramesEnd : Status → ℕ → Phase → List ℕ → ℕ → List �
 FramesEnd status.Ok count last rest behind printed r r' w w' = IsReadOut r' × (rest ≡ []) × Wrote printed w w'
 FramesEnd (status.BadInput place) count last rest behind printed r r' w w' = IsWrongAt last rest behind place r' × Wrote printed w w'
 FramesEnd status.ReadFault count last rest behind printed r r' w w' = Rose r.faults r'.faults × Wrote printed w w'
-FramesEnd status.TurnsSpent count last rest behind printed r r' w w' = ((quiet : ℕ) × RoseBy quiet r.quiets r'.quiets × (2 ^ 62 ≤ count + quiet)) × Wrote printed w w'
+FramesEnd status.TurnsSpent count last rest behind printed r r' w w' =
+    ((quiet : ℕ) × RoseBy quiet r.quiets r'.quiets × (2 ^ 62 ≤ count + quiet)) × Wrote printed w w'
 FramesEnd status.WriteFault count last rest behind printed r r' w w' = Rose w.faults w'.faults × WroteFront printed w w'
 FramesEnd status.Memory count last rest behind printed r r' w w' = WroteSome printed w w'
 FramesEnd (status.Usage word) count last rest behind printed r r' w w' = ⊥

@@ -40,9 +40,11 @@ OfHistory timeline r How = (path : Path) × IfTold r.left (λ left. IsOf timelin
 -- How the printing ends. Where the input is refused or memory runs out before the writing, nothing is written.
 abbrev pub HistoryEnds : ℕ → Status → SourceState → SourceState → SinkState → SinkState → Type 0
 HistoryEnds timeline status.Ok r r' w w' = OfHistory timeline r (λ text. Wrote text w w')
-HistoryEnds timeline (status.BadInput line) r r' w w' = IfTold r.left (λ left. IsWrong timeline (take HISTORY_INPUT left) line) × WroteNothing w w'
+HistoryEnds timeline (status.BadInput line) r r' w w' = IfTold r.left (λ left.
+    IsWrong timeline (take HISTORY_INPUT left) line) × WroteNothing w w'
 HistoryEnds timeline status.WriteFault r r' w w' = Rose w.faults w'.faults × OfHistory timeline r (λ text. WroteFront text w w')
-HistoryEnds timeline status.Memory r r' w w' = WroteNothing w w' ⊎ (Rose w.wants w'.wants × OfHistory timeline r (λ text. WroteFront text w w'))
+HistoryEnds timeline status.Memory r r' w w' = WroteNothing w w'
+    ⊎ (Rose w.wants w'.wants × OfHistory timeline r (λ text. WroteFront text w w'))
 HistoryEnds timeline status.ReadFault r r' w w' = Rose r.faults r'.faults × WroteNothing w w'
 HistoryEnds timeline status.TurnsSpent r r' w w' = RoseBy (2 ^ 62) r.quiets r'.quiets × WroteNothing w w'
 HistoryEnds timeline (status.Usage word) r r' w w' = ⊥
@@ -52,7 +54,8 @@ HistoryEnds timeline (status.Usage word) r r' w w' = ⊥
 pub record Historied (timeline : ℕ) (end : Status) (r r' : SourceState) (w w' : SinkState) : Type 0 where
   pub ends : HistoryEnds timeline end r r' w w'
   pub has_read : HasRead HISTORY_INPUT end r r'
-  pub complete : (bytes : List ℕ) (path : Path) → r.left ≡ Some bytes → ¬ Rose r.faults r'.faults → ¬ Rose w.faults w'.faults → ¬ RoseBy (2 ^ 62) r.quiets r'.quiets →
+  pub complete : (bytes : List ℕ) (path : Path) → r.left ≡ Some bytes → ¬ Rose r.faults r'.faults → ¬ Rose w.faults w'.faults
+      → ¬ RoseBy (2 ^ 62) r.quiets r'.quiets →
       IsOf timeline (take HISTORY_INPUT bytes) path → length (canonical path) ≤ HISTORY_LIMIT → (end ≡ status.Ok) ⊎ (end ≡ status.Memory)
   pub refuses : (bytes : List ℕ) → r.left ≡ Some bytes → ¬ Rose r.faults r'.faults → ¬ RoseBy (2 ^ 62) r.quiets r'.quiets →
       ¬ ((path : Path) × IsOf timeline (take HISTORY_INPUT bytes) path) →

@@ -17,15 +17,18 @@ use Rattle.repl_top.specs.Session.{IsSession, IsNoSessionAt}
 
 -- the input is a session with some requests and questions, and this is how what answers them was written
 abbrev pub Answered : SystemIdentity → SourceState → (List ℕ → Type 0) → Type 0
-Answered identity r How = (requests : ℕ) × (questions : ℕ) × IfTold r.left (λ left. IsSession (take INPUT_LIMIT left) requests questions) × How (answer_bytes identity requests questions)
+Answered identity r How = (requests : ℕ) × (questions : ℕ) × IfTold r.left (λ left.
+    IsSession (take INPUT_LIMIT left) requests questions) × How (answer_bytes identity requests questions)
 
 -- How the reading of an input and the writing of its answer end. Where the input is refused or memory runs out before
 -- the writing, nothing is written.
 abbrev pub Identifies : SystemIdentity → Status → SourceState → SourceState → SinkState → SinkState → Type 0
 Identifies identity status.Ok r r' w w' = Answered identity r (λ bytes. Wrote bytes w w')
 Identifies identity status.WriteFault r r' w w' = Rose w.faults w'.faults × Answered identity r (λ bytes. WroteFront bytes w w')
-Identifies identity status.Memory r r' w w' = WroteNothing w w' ⊎ (Rose w.wants w'.wants × Answered identity r (λ bytes. WroteFront bytes w w'))
-Identifies identity (status.BadInput place) r r' w w' = IfTold r.left (λ left. IsNoSessionAt (take INPUT_LIMIT left) place) × WroteNothing w w'
+Identifies identity status.Memory r r' w w' = WroteNothing w w'
+    ⊎ (Rose w.wants w'.wants × Answered identity r (λ bytes. WroteFront bytes w w'))
+Identifies identity (status.BadInput place) r r' w w' = IfTold r.left (λ left. IsNoSessionAt (take INPUT_LIMIT left) place) × WroteNothing w
+    w'
 Identifies identity status.ReadFault r r' w w' = Rose r.faults r'.faults × WroteNothing w w'
 Identifies identity status.TurnsSpent r r' w w' = RoseBy (2 ^ 62) r.quiets r'.quiets × WroteNothing w w'
 Identifies identity (status.Usage word) r r' w w' = ⊥
@@ -37,9 +40,11 @@ pub record Identified (identity : SystemIdentity) (end : Status) (r r' : SourceS
   pub ends : Identifies identity end r r' w w'
   pub has_read : HasRead INPUT_LIMIT end r r'
   pub messages : (questions : ℕ) → AreMessages (flat_map back_spelling (answer identity questions)) (answer identity questions)
-  pub no_others : (questions : ℕ) (others : List Back) → AreMessages (flat_map back_spelling (answer identity questions)) others → others ≡ answer identity questions
+  pub no_others : (questions : ℕ) (others : List Back) → AreMessages (flat_map back_spelling (answer identity questions)) others
+      → others ≡ answer identity questions
   pub complete : (bytes : List ℕ) (requests questions : ℕ) → r.left ≡ Some bytes → ¬ Rose r.faults r'.faults → ¬ Rose w.faults w'.faults →
-      ¬ RoseBy (2 ^ 62) r.quiets r'.quiets → IsSession (take INPUT_LIMIT bytes) requests questions → (end ≡ status.Ok) ⊎ (end ≡ status.Memory)
+      ¬ RoseBy (2 ^ 62) r.quiets r'.quiets → IsSession (take INPUT_LIMIT bytes) requests questions → (end ≡ status.Ok)
+      ⊎ (end ≡ status.Memory)
   pub refuses : (bytes : List ℕ) → r.left ≡ Some bytes → ¬ Rose r.faults r'.faults → ¬ RoseBy (2 ^ 62) r.quiets r'.quiets →
       ¬ ((requests : ℕ) × (questions : ℕ) × IsSession (take INPUT_LIMIT bytes) requests questions) →
       ((place : ℕ) × IsNoSessionAt (take INPUT_LIMIT bytes) place × (end ≡ status.BadInput place)) ⊎ (end ≡ status.Memory)

@@ -14,6 +14,9 @@ pub const FRAME_TURNS: u64 = 1 << 62;
 
 // The contracts take these from the code, so each is held to its number here.
 const _: () = prove!(INPUT_LIMIT == 65_536);
+
 const _: () = prove!(HISTORY_INPUT == 65_537);
+
 const _: () = prove!(TURNS == 4_611_686_018_427_453_441);
+
 const _: () = prove!(FRAME_TURNS == 4_611_686_018_427_387_904);

@@ -1,3 +1,4 @@
+-- The piece is appended as often as the counter says.
 use Rattle.std.proofs.Common.{◌≡◌, ◌++◌}
 use Rattle.std.specs.List.{repeat}
 use Rattle.repl_top.proofs.answer.append_times.Given as goal

@@ -1,3 +1,4 @@
+-- The messages so far are appended.
 use Rattle.std.proofs.Common.{◌≡◌, ◌++◌, take}
 use Rattle.std.specs.List.{flat_map}
 use Rattle.repl_message.specs.Message.{back_spelling}

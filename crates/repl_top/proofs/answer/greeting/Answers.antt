@@ -1,3 +1,4 @@
+-- The longest name of a setting is a text.
 use Rattle.std.proofs.Common.{refl}
 use Rattle.std.specs.Prelude.{codes}
 use Rattle.repl_text.proofs.Literals.{text_from_test}

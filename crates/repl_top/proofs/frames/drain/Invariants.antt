@@ -1,3 +1,4 @@
+-- What the loop of `drain` keeps: the lines of the messages that the reader gave so far stand in the buffer.
 use Rattle.std.proofs.Common.{◌≡◌, ◌<◌, ◌^◌, length}
 use Rattle.repl_top.specs.Printing.{GivesLines}
 use Rattle.repl_top.proofs.frames.drain.Given as goal

@@ -42,14 +42,16 @@ loop-preserved g c =
           rw b.reader-is (rw b.out-is (record {
             progress = progress_piece c.args.side c.loop.reader b.print_piece-printed.new.reader c.loop.counter
                 r r' r'' w w' (g.K.Sink.sink b.print_piece-printed.new.out) piece c.loop.invariant.progress reads.moved.lost
-                (omega (arith, length-take b.in-Bytes.count c.read.new.room, reads.moved.some, reads.moved.fits)) reads.quiets printed.0 printed.1;
+                (omega (arith, length-take b.in-Bytes.count c.read.new.room, reads.moved.some, reads.moved.fits)) reads.quiets printed.0
+                printed.1;
             read_faults = reads.faults ∙ c.loop.invariant.read_faults;
             write_faults = printed.2 ∙ c.loop.invariant.write_faults;
           }))
       | in-Quiet b ↦
           let reads = b.in-Quiet.ensures.reads in
           rw b.reader-is (rw b.out-is (record {
-            progress = progress_quiet c.args.side c.loop.reader c.loop.counter r r' r'' w w' c.loop.invariant.progress reads.moved.left_stays reads.quiets;
+            progress = progress_quiet c.args.side c.loop.reader c.loop.counter r r' r'' w w' c.loop.invariant.progress
+                reads.moved.left_stays reads.quiets;
             read_faults = reads.faults ∙ c.loop.invariant.read_faults;
             write_faults = c.loop.invariant.write_faults;
           }))

@@ -1,3 +1,4 @@
+-- What the loop of `gather` keeps: what was lost is what stands in the buffer, and the other reads were quiet.
 use Rattle.std.proofs.Common.{◌-◌, ◌≤◌, vec_len}
 use Rattle.repl_counts.specs.Counts.{RoseBy, Stood}
 use Rattle.repl_counts.specs.Told.{Lost}

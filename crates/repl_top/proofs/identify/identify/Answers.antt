@@ -17,7 +17,8 @@ returns-in-Ok-answer-clause-ends g c =
     let is : IsIt c.in-Ok.bytes.items = subst IsIt c.deref.ensures.value c.in-Ok-read_session.ensures.read in
     session_ends c.args.identity.now session.requests session.questions c.reply.result old (g.S.Source.source c.gather.new.input) out out'
     (of_gathered INPUT_LIMIT IsIt old.left c.in-Ok.bytes.items c.in-Ok.ensures.bytes is)
-    (subst (λ (bytes : List ℕ). Replies bytes c.reply.result out out') (c.deref-in-Ok-answer.ensures.value ∙ c.in-Ok-answer.ensures) c.reply.ensures.ends)
+    (subst (λ (bytes : List ℕ). Replies bytes c.reply.result out out') (c.deref-in-Ok-answer.ensures.value
+    ∙ c.in-Ok-answer.ensures) c.reply.ensures.ends)
 
 pub returns-in-Ok-answer-clause-has_read : goal.returns-in-Ok-answer-clause-has_read
 returns-in-Ok-answer-clause-has_read g c =
@@ -25,4 +26,5 @@ returns-in-Ok-answer-clause-has_read g c =
     let new = g.S.Source.source c.gather.new.input in
     reply_read INPUT_LIMIT c.deref-in-Ok-answer.result.now c.reply.result old new
     (g.K.Sink.sink c.args.out.now) (g.K.Sink.sink c.reply.new.out)
-    (of_gathered INPUT_LIMIT (λ bytes. Lost old.left new.left bytes) old.left c.in-Ok.bytes.items c.in-Ok.ensures.bytes c.in-Ok.ensures.lost) c.reply.ensures.ends
+    (of_gathered INPUT_LIMIT (λ bytes. Lost old.left new.left bytes) old.left c.in-Ok.bytes.items c.in-Ok.ensures.bytes
+    c.in-Ok.ensures.lost) c.reply.ensures.ends

@@ -1,3 +1,4 @@
+-- An input is a session in one way, or is refused at one place.
 use Rattle.repl_top.proofs.Sessions.{one_counts, not_both, one_place}
 use Rattle.repl_top.proofs.laws.one_session.Goals as goal
 

@@ -1,3 +1,4 @@
+-- The three tests together are what a connection for replication asks.
 use Rattle.std.proofs.Common.{sym, ◌∙◌}
 use Rattle.repl_top.proofs.Replication.{replicates}
 use Rattle.repl_top.proofs.parameters.asks_for_replication.Goals as goal
@@ -6,6 +7,7 @@ use Rattle.repl_top.proofs.parameters.asks_for_replication.Goals.{then-has_user,
 pub returns-then-is_physical : goal.returns-then-is_physical
 returns-then-is_physical c =
     elim c.if-has_user.branch [
-      | then-has_user w ↦ replicates _ _ c.as_slice-pairs.ensures.value _ _ _ c.has_user.ensures w.if-has_user.true w.is_physical.ensures (sym w.value-is ∙ c.if-is_physical.true) c.has_no_option.ensures
+      | then-has_user w ↦ replicates _ _ c.as_slice-pairs.ensures.value _ _ _ c.has_user.ensures w.if-has_user.true w.is_physical.ensures
+          (sym w.value-is ∙ c.if-is_physical.true) c.has_no_option.ensures
       | else-has_user w ↦ absurd cc
     ]

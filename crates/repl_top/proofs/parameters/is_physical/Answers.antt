@@ -1,3 +1,4 @@
+-- One more parameter counts where it is named `replication`, and else changes nothing.
 use Rattle.std.proofs.Common.{◌≡◌, ◌<◌, length, codes, slice_index_or, arith}
 use Rattle.std.proofs.lemmas.Bool.Decides.{Decides-eqb}
 use Rattle.std.proofs.lemmas.Slice.Eq.{slice_eq-Decides}
@@ -13,6 +14,8 @@ loop-pair-preserved c =
     let pair-is : slice_index_or c.args.pairs.now c.loop-pair.pair-index c.pair-item.result ≡ c.pair-item.result = cc in
     let same = slice_eq-Decides Decides-eqb c.as_slice.result.now c.as_slice-in-loop-pair.result.now c.eq.result c.eq.ensures in
     rw (more, pair-is) (elim c.if-eq.branch [
-      | then-eq w ↦ physical_named _ _ _ (let named = same.0 w.if-eq.true in cc) (rw (w.physical-is, ← w.as_slice-then-eq.ensures.value) w.is_true_value-physical.ensures)
-      | else-eq w ↦ physical_other _ _ _ (λ (named : c.pair-item.result.name ≡ codes "replication"). let yes = same.1 cc in cc) (rw w.physical-is c.loop-pair.invariant)
+      | then-eq w ↦ physical_named _ _ _ (let named = same.0 w.if-eq.true in cc)
+          (rw (w.physical-is, ← w.as_slice-then-eq.ensures.value) w.is_true_value-physical.ensures)
+      | else-eq w ↦ physical_other _ _ _ (λ (named : c.pair-item.result.name ≡ codes "replication"). let yes = same.1 cc in cc)
+          (rw w.physical-is c.loop-pair.invariant)
     ])

@@ -1,3 +1,4 @@
+-- What the loop of `read_session` keeps: how far the session has come in the pieces that were fed.
 use Rattle.std.proofs.Common.{◌≡◌}
 use Rattle.std.specs.Slice.Iter.{chunks_rest, chunks_size}
 use Rattle.repl_top.proofs.Sessions.{SoFar}

@@ -1,3 +1,4 @@
+-- The messages that the reader gave so far lead to the present stage.
 use Rattle.std.proofs.Common.{length}
 use Rattle.repl_top.specs.Stages.{Walked}
 use Rattle.repl_top.proofs.session.walk.Given as goal

@@ -1,3 +1,4 @@
+-- The value is that of the digits so far.
 use Rattle.repl_top.proofs.Decimal.{ReadsDigits}
 use Rattle.repl_top.proofs.words.read_decimal.Given as goal
 

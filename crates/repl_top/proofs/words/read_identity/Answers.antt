@@ -1,3 +1,4 @@
+-- The words stop at the first argument that is none, or are `identify` with its three.
 use Rattle.std.proofs.Common.{arith, string_bytes}
 use Rattle.std.proofs.lemmas.List.{length-map}
 use Rattle.repl_top.specs.Words.{texts}
@@ -27,11 +28,13 @@ returns-then-words-gt4-clause-wrong c =
     let system = rw c.word_at.ensures at c.in-Some.ensures.some in
     let timeline = rw c.word_at-2.ensures at c.in-Some-read_timeline.ensures.some in
     let flushed = rw c.word_at-3.ensures at c.in-Some-read_position.ensures.some in
-    stops_after_position (texts c.args.words.now) c.in-Some.system c.in-Some-read_timeline.timeline c.in-Some-read_position.flushed c.requires system timeline flushed (omega (arith, length-map c.args.words.now string_bytes))
+    stops_after_position (texts c.args.words.now) c.in-Some.system c.in-Some-read_timeline.timeline c.in-Some-read_position.flushed
+    c.requires system timeline flushed (omega (arith, length-map c.args.words.now string_bytes))
 
 pub returns-clause-read : goal.returns-clause-read
 returns-clause-read c =
     let system = rw c.word_at.ensures at c.in-Some.ensures.some in
     let timeline = rw c.word_at-2.ensures at c.in-Some-read_timeline.ensures.some in
     let flushed = rw c.word_at-3.ensures at c.in-Some-read_position.ensures.some in
-    is_identify (texts c.args.words.now) c.in-Some.system c.in-Some-read_timeline.timeline c.in-Some-read_position.flushed c.requires system timeline flushed (omega (arith, length-map c.args.words.now string_bytes))
+    is_identify (texts c.args.words.now) c.in-Some.system c.in-Some-read_timeline.timeline c.in-Some-read_position.flushed c.requires system
+    timeline flushed (omega (arith, length-map c.args.words.now string_bytes))

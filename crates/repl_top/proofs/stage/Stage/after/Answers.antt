@@ -1,3 +1,4 @@
+-- Each stage asks what its own function answers.
 use Rattle.repl_top.proofs.stage.Stage.after.Goals as goal
 
 pub returns-in-Starting : goal.returns-in-Starting
