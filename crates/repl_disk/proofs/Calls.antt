@@ -99,6 +99,7 @@ module _ (old new : Held) (call_name : String Global) (at : ℕ) (bytes : List �
     back = write_back change is;
     now = tears change;
     each = λ past image step. step;
+    all = λ past image step. step;
   }
 
   tied_here : Change → undo ≡ undo_after (found old.files (string_bytes call_name)) at bytes → new.calls ≡ call ∷ old.calls → IsTied old → IsTied new
@@ -131,6 +132,7 @@ module _ (old new : Held) (call_name : String Global) (file : Stored) where
     back = synced_files is change;
     now = synced_files is change ∙ sym (put_same (folder_of old.files) (string_bytes call_name) (folder_of old.files (string_bytes call_name)) refl);
     each = λ past image step. step;
+    all = λ past image step. step;
   }
 
   synced_tied_here : found old.files (string_bytes call_name) ≡ Some file → Changed old.files new.files (string_bytes call_name) (Some (settled file)) → new.calls ≡ done.Synced call_name ∷ old.calls → IsTied old → IsTied new
@@ -168,6 +170,7 @@ module _ (old new : Held) (call_name : String Global) (taken : Vec ℕ Global) (
     back = removed_back is same change;
     now = removed_files change;
     each = λ past image step. step;
+    all = λ past image step. step;
   }
 
   removed_tied_here : found old.files (string_bytes call_name) ≡ Some file → taken.items ≡ file.bytes → Changed old.files new.files (string_bytes call_name) None → new.calls ≡ done.Removed call_name taken ∷ old.calls → IsTied old → IsTied new
@@ -234,6 +237,7 @@ module _ (old new : Held) (middle : List Stored) (from to : String Global) (take
     back = moved_back s;
     now = moved_files s;
     each = λ past image step. step;
+    all = λ past image step. step;
   }
 
   moved_certain : Renaming → certain_folder new.files ≡ moved (certain_folder old.files) (string_bytes from) (string_bytes to)

@@ -5,7 +5,7 @@ use Rattle.repl_disk.specs.declared.call.Done.TheVariants as done
 use Rattle.repl_disk.specs.declared.disk.DiskError.{DiskError}
 use Rattle.repl_disk.specs.declared.disk.DiskError.TheVariants as error
 use Rattle.repl_counts.specs.Counts.{RoseExactly}
-use Rattle.repl_disk.specs.Answers.{Leaves, is_failed, is_memory, is_missing}
+use Rattle.repl_disk.specs.Answers.{Leaves, LeavesAll, is_failed, is_memory, is_missing}
 use Rattle.repl_disk.specs.Tally.{Tallied, raised, tallied}
 use Rattle.repl_disk.specs.Crash.{Elapses, Follows, TornFile}
 use Rattle.repl_disk.specs.Files.{folder_of}
@@ -64,6 +64,9 @@ module _ (old new : Held) (effect : Folder → Folder) (step : Folder → Folder
   did_follows image is =
       ⊎_elim (λ now. (folder_of old.files, reads_as_image old.calls (folder_of old.files), subst (λ (f : Folder). step (folder_of old.files) f) (sym now) did.now)) (λ past. past) (did_image image is)
 
+  did_all : (past image : Folder) → Images old past → step past image → Images new image
+  did_all past image was done = subst (λ (l : List Done). IsImage l (folder_of new.files) image) (sym did.kept) (inr (past, subst (λ (f : Folder). IsImage old.calls f past) (sym did.back) was, subst (λ (f : Folder). Steps did.call f past image) (sym did.back) (did.all past image done)))
+
   did_elapses : Passing old new
   did_elapses = record {
     later = omega (arith, ap (λ (l : List Done). length l) did.kept);
@@ -84,15 +87,15 @@ same_elapses h = record { later = omega arith; nothing_else = λ t image le was.
 -- ---- an answer
 
 abbrev pub Goes : Result (Unit {0}) DiskError → (Folder → Folder → Type 0) → Held → Held → Type 0
-Goes result step old new = Leaves result step (Images old) (Images new) × Passing old new
+Goes result step old new = Leaves result step (Images old) (Images new) × Passing old new × LeavesAll result step (Images old) (Images new)
 
 failed_leaves : (old : Held) (step : Folder → Folder → Type 0) (e : DiskError) → Goes (Err e) step old old
-failed_leaves old step error.Missing = (λ image is. is, same_elapses old)
-failed_leaves old step error.Failed = (λ image is. (image, is, inl refl), same_elapses old)
-failed_leaves old step error.Memory = (λ image is. (image, is, inl refl), same_elapses old)
+failed_leaves old step error.Missing = (λ image is. is, same_elapses old, λ image is. is)
+failed_leaves old step error.Failed = (λ image is. (image, is, inl refl), same_elapses old, λ image is. is)
+failed_leaves old step error.Memory = (λ image is. (image, is, inl refl), same_elapses old, λ image is. is)
 
 answer_leaves : (old new : Held) (effect : Folder → Folder) (step : Folder → Folder → Type 0) (P : DiskError → Type 0) → ((e : DiskError) → P e → new ≡ old) → (answer : Result (Unit {0}) DiskError) → MatchResult answer (λ _. Did old new effect step) P → Goes answer step old new
-answer_leaves old new effect step P same (Ok x) did = (did_follows old new effect step did, did_elapses old new effect step did)
+answer_leaves old new effect step P same (Ok x) did = (did_follows old new effect step did, did_elapses old new effect step did, did_all old new effect step did)
 answer_leaves old new effect step P same (Err e) failed = subst (λ (h : Held). Goes (Err e) step old h) (sym (same e failed)) (failed_leaves old step e)
 
 -- the same of the disk round them

@@ -77,6 +77,11 @@ Leaves (Err error.Missing) step old new = NoneNew old new
 Leaves (Err error.Failed) step old new = Follows (Either step) old new
 Leaves (Err error.Memory) step old new = Follows (Either step) old new
 
+-- All that the step makes of an image is left where the call is done, and all that might have been where it failed.
+abbrev pub LeavesAll : {A : Type 0} → Result A DiskError → (Folder → Folder → Type 0) → (Folder → Type 0) → (Folder → Type 0) → Type 0
+LeavesAll (Ok x) step old new = (past image : Folder) → old past → step past image → new image
+LeavesAll (Err e) step old new = NoneNew new old
+
 -- ---- how a call ends
 
 -- Time went on, and each count rose exactly where its test holds.

@@ -78,6 +78,7 @@ pub record Did (old new : Held) (effect : Folder → Folder) (step : Folder → 
   pub back : before call (folder_of new.files) ≡ folder_of old.files
   pub now : step (folder_of old.files) (folder_of new.files)
   pub each : (past image : Folder) → Steps call (folder_of old.files) past image → step past image
+  pub all : (past image : Folder) → step past image → Steps call (folder_of old.files) past image
 
 -- a call that was not done: nothing changed, and where the name is said to be missing it is not there
 pub record DidNot (old new : Held) (name : List ℕ) (e : DiskError) : Type 0 where

@@ -7,7 +7,8 @@ use Rattle.repl_disk.specs.declared.disk.DiskError.TheVariants as error
 use Rattle.repl_disk.specs.Answers.{Does, Leaves}
 use Rattle.repl_disk.specs.Crash.{Elapses, LeavesOnly, Follows, NoneNew, Either, Syncs}
 use Rattle.repl_disk.specs.Folder.{Folder, ToldFiles, IfTold, Stayed, Became}
-use Rattle.repl_disk.specs.Moments.{started, goes_on, joined}
+use Rattle.repl_disk.specs.Moments.{started, goes_on, joined, weakened}
+use Rattle.repl_disk.specs.Replacing.{IsBeforeOrAfter, IsAfter, IsHalfDone, replaced}
 use Rattle.repl_disk.specs.State.{DiskState}
 
 -- A run so far: a crash at any of its moments leaves what has P, one now what has Q, and the files read so.
@@ -113,3 +114,36 @@ ran_query old mid new P folder Q so_far stayed none_new time within = record {
 pub ran_run : (old mid new : DiskState) (P : Folder → Type 0) (folder after : Folder) (Q R : Folder → Type 0) → Run old mid P folder Q → LeavesOnly mid new P → ((image : Folder) → new.may_leave image → R image) → new.files ≡ Some after
     → Run old new P after R
 ran_run old mid new P folder after Q R so_far more leaves reads = record { any_moment = joined old mid new P so_far.any_moment more; now = leaves; reads = reads }
+
+-- ---- a replacement as a part of a run
+
+module _ (name aside bytes : List ℕ) (from to : Folder → Type 0) (more : (image : Folder) → from image → to image) where
+  either_of : (image : Folder) → IsBeforeOrAfter from name aside bytes image → IsBeforeOrAfter to name aside bytes image
+  either_of image either = record { before = either.before; was = more either.before either.was; others = either.others; file = either.file }
+
+  after_of : (image : Folder) → IsAfter from name aside bytes image → IsAfter to name aside bytes image
+  after_of image after = record { before = after.before; was = more after.before after.was; others = after.others; file = after.file }
+
+module _ (name aside bytes : List ℕ) (old mid new : DiskState) (P : Folder → Type 0) (folder : Folder) (Q : Folder → Type 0) where
+  moments : Run old mid P folder Q → IfTold mid.files (λ f. LeavesOnly mid new (IsBeforeOrAfter mid.may_leave name aside bytes)) → ((image : Folder) → IsBeforeOrAfter Q name aside bytes image → P image) → LeavesOnly mid new P
+  moments so_far any_moment within =
+      weakened mid new (IsBeforeOrAfter mid.may_leave name aside bytes) P (told_so mid.files folder (λ f. LeavesOnly mid new (IsBeforeOrAfter mid.may_leave name aside bytes)) so_far.reads any_moment)
+      (λ image either. within image (either_of name aside bytes mid.may_leave Q so_far.now image either))
+
+  -- `replace_by` that is done
+  pub ran_replace : Run old mid P folder Q → IfTold mid.files (λ f. LeavesOnly mid new (IsBeforeOrAfter mid.may_leave name aside bytes)) → IfTold mid.files (λ f. (image : Folder) → new.may_leave image → IsAfter mid.may_leave name aside bytes image)
+      → Became mid.files new.files (λ f. replaced f name aside bytes) → ((image : Folder) → IsBeforeOrAfter Q name aside bytes image → P image) → Run old new P (replaced folder name aside bytes) (IsAfter Q name aside bytes)
+  ran_replace so_far any_moment durable files within =
+      let after = told_so mid.files folder (λ f. (image : Folder) → new.may_leave image → IsAfter mid.may_leave name aside bytes image) so_far.reads durable in
+      ran_run old mid new P folder (replaced folder name aside bytes) Q (IsAfter Q name aside bytes) so_far (moments so_far any_moment within)
+      (λ image now. after_of name aside bytes mid.may_leave Q so_far.now image (after image now)) (files ∙ ap (option_map (λ f. replaced f name aside bytes)) so_far.reads)
+
+  -- one that failed; `counts_now` of the disk says the last premise
+  pub failed_replace : Run old mid P folder Q → IfTold mid.files (λ f. LeavesOnly mid new (IsBeforeOrAfter mid.may_leave name aside bytes)) → IsHalfDone mid.files new.files name aside bytes
+      → ((image : Folder) → IsBeforeOrAfter Q name aside bytes image → P image) → ((image : Folder) → new.may_leave image → new.left_since mid.moment image)
+      → (now : Folder) × IsBeforeOrAfter (λ f. f ≡ folder) name aside bytes now × Run old new P now (IsBeforeOrAfter Q name aside bytes)
+  failed_replace so_far any_moment half within counts_now =
+      let reads : IsHalfDone (Some folder) new.files name aside bytes = subst (λ (t : ToldFiles). IsHalfDone t new.files name aside bytes) so_far.reads half in
+      let only = told_so mid.files folder (λ f. LeavesOnly mid new (IsBeforeOrAfter mid.may_leave name aside bytes)) so_far.reads any_moment in
+      (reads.0, reads.2, ran_run old mid new P folder reads.0 Q (IsBeforeOrAfter Q name aside bytes) so_far (moments so_far any_moment within)
+      (λ image now. either_of name aside bytes mid.may_leave Q so_far.now image (only.each image (counts_now image now))) reads.1)

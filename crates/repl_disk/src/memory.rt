@@ -2,7 +2,7 @@
 ghost use Rattle.std.specs.Prelude.{◌≡◌, ℕ, ◌≤◌, ◌↔◌, ◌+◌, [], Contains, List, Some, None, true, false, length, map, string_bytes, IfOk, refl};
 ghost use Rattle.repl_disk.specs.Folder.{Stayed, ReadsAt, AreNames};
 ghost use Rattle.repl_disk.specs.Crash.{Tears, Syncs, Moves, Removes, NoneNew};
-ghost use Rattle.repl_disk.specs.Answers.{Wrote, Moved, Removed, OnlyWhereThere, NeverMissing, Leaves, Ends, EndsRead};
+ghost use Rattle.repl_disk.specs.Answers.{Wrote, Moved, Removed, OnlyWhereThere, NeverMissing, Leaves, LeavesAll, Ends, EndsRead};
 ghost use Rattle.repl_disk.specs.Memory.{Counts, Crashed, IsDue, KeepsOn, LeavesNow, begun, certain_files, reading, state_of};
 ghost use Rattle.repl_disk.specs.Images.{reads_as_image, image_counts, image_only};
 ghost use Rattle.repl_disk.specs.Keeping.{keeps_itself, keeps_on};
@@ -135,6 +135,7 @@ impl Disk for MemoryDisk {
         ensures there { OnlyWhereThere (Some (reading self.old)) name.now result }
         ensures files { Stayed (Some (reading self.old)) (Some (reading self.new)) }
         ensures crash { NoneNew (LeavesNow self.old) (LeavesNow self.new) }
+        ensures all { NoneNew (LeavesNow self.new) (LeavesNow self.old) }
         ensures ends { Ends result (state_of self.old) (state_of self.new) }
         ensures keeps { KeepsOn self.old self.new }
     {
@@ -152,6 +153,7 @@ impl Disk for MemoryDisk {
         ensures there { OnlyWhereThere (Some (reading self.old)) name.now result }
         ensures files { Stayed (Some (reading self.old)) (Some (reading self.new)) }
         ensures crash { NoneNew (LeavesNow self.old) (LeavesNow self.new) }
+        ensures all { NoneNew (LeavesNow self.new) (LeavesNow self.old) }
         ensures ends { EndsRead (length room.old) result (state_of self.old) (state_of self.new) }
         ensures keeps { KeepsOn self.old self.new }
     {
@@ -167,6 +169,7 @@ impl Disk for MemoryDisk {
         ensures written { Wrote result (Some (reading self.old)) (Some (reading self.new)) name.now at bytes.now }
         ensures never_missing { NeverMissing result }
         ensures crash { Leaves result (Tears name.now at (length bytes.now)) (LeavesNow self.old) (LeavesNow self.new) }
+        ensures all { LeavesAll result (Tears name.now at (length bytes.now)) (LeavesNow self.old) (LeavesNow self.new) }
         ensures ends { Ends result (state_of self.old) (state_of self.new) }
         ensures keeps { KeepsOn self.old self.new }
     {
@@ -185,6 +188,7 @@ impl Disk for MemoryDisk {
         ensures there { OnlyWhereThere (Some (reading self.old)) name.now result }
         ensures files { Stayed (Some (reading self.old)) (Some (reading self.new)) }
         ensures crash { Leaves result (Syncs name.now (reading self.old name.now)) (LeavesNow self.old) (LeavesNow self.new) }
+        ensures all { LeavesAll result (Syncs name.now (reading self.old name.now)) (LeavesNow self.old) (LeavesNow self.new) }
         ensures ends { Ends result (state_of self.old) (state_of self.new) }
         ensures keeps { KeepsOn self.old self.new }
     {
@@ -200,6 +204,7 @@ impl Disk for MemoryDisk {
         ensures moved { Moved result (Some (reading self.old)) (Some (reading self.new)) from.now to.now }
         ensures there { OnlyWhereThere (Some (reading self.old)) from.now result }
         ensures crash { Leaves result (Moves from.now to.now) (LeavesNow self.old) (LeavesNow self.new) }
+        ensures all { LeavesAll result (Moves from.now to.now) (LeavesNow self.old) (LeavesNow self.new) }
         ensures ends { Ends result (state_of self.old) (state_of self.new) }
         ensures keeps { KeepsOn self.old self.new }
     {
@@ -215,6 +220,7 @@ impl Disk for MemoryDisk {
         ensures removed { Removed result (Some (reading self.old)) (Some (reading self.new)) name.now }
         ensures there { OnlyWhereThere (Some (reading self.old)) name.now result }
         ensures crash { Leaves result (Removes name.now) (LeavesNow self.old) (LeavesNow self.new) }
+        ensures all { LeavesAll result (Removes name.now) (LeavesNow self.old) (LeavesNow self.new) }
         ensures ends { Ends result (state_of self.old) (state_of self.new) }
         ensures keeps { KeepsOn self.old self.new }
     {
@@ -231,6 +237,7 @@ impl Disk for MemoryDisk {
         ensures never_missing { NeverMissing result }
         ensures files { Stayed (Some (reading self.old)) (Some (reading self.new)) }
         ensures crash { NoneNew (LeavesNow self.old) (LeavesNow self.new) }
+        ensures all { NoneNew (LeavesNow self.new) (LeavesNow self.old) }
         ensures ends { Ends result (state_of self.old) (state_of self.new) }
         ensures keeps { KeepsOn self.old self.new }
     {

@@ -12,6 +12,12 @@ returns-clause-crash c =
     (Removes c.args.name.now) (λ e. DidNot c.self.inside.history c.remove-answer.new.self c.args.name.now e) (λ e not. not.unchanged)
     c.remove-answer.result c.tell.result (ap held (c.self.view_is ∙ c.begin.ensures.counted)) c.tell.ensures.answer c.remove-answer.ensures.done).0
 
+pub returns-clause-all : goal.returns-clause-all
+returns-clause-all c =
+    (goes c.args.self.now c.self.inside.history c.remove-answer.new.self (λ folder. put folder c.args.name.now None)
+    (Removes c.args.name.now) (λ e. DidNot c.self.inside.history c.remove-answer.new.self c.args.name.now e) (λ e not. not.unchanged)
+    c.remove-answer.result c.tell.result (ap held (c.self.view_is ∙ c.begin.ensures.counted)) c.tell.ensures.answer c.remove-answer.ensures.done).2
+
 pub returns-clause-ends : goal.returns-clause-ends
 returns-clause-ends c =
     let passed : c.begin.result ≡ false = search rules in

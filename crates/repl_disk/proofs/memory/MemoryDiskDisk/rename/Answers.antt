@@ -12,6 +12,12 @@ returns-clause-crash c =
     (Moves c.args.from.now c.args.to.now) (λ e. DidNot c.self.inside.history c.rename-answer.new.self c.args.from.now e) (λ e not. not.unchanged)
     c.rename-answer.result c.tell.result (ap held (c.self.view_is ∙ c.begin.ensures.counted)) c.tell.ensures.answer c.rename-answer.ensures.done).0
 
+pub returns-clause-all : goal.returns-clause-all
+returns-clause-all c =
+    (goes c.args.self.now c.self.inside.history c.rename-answer.new.self (λ folder. moved folder c.args.from.now c.args.to.now)
+    (Moves c.args.from.now c.args.to.now) (λ e. DidNot c.self.inside.history c.rename-answer.new.self c.args.from.now e) (λ e not. not.unchanged)
+    c.rename-answer.result c.tell.result (ap held (c.self.view_is ∙ c.begin.ensures.counted)) c.tell.ensures.answer c.rename-answer.ensures.done).2
+
 pub returns-clause-ends : goal.returns-clause-ends
 returns-clause-ends c =
     let passed : c.begin.result ≡ false = search rules in

@@ -13,6 +13,12 @@ returns-clause-crash c =
     (Tears c.args.name.now c.args.at (length c.args.bytes.now)) (λ e. (e ≡ error.Memory) × (c.write_at-answer.new.self ≡ c.self.inside.history)) (λ e not. not.1)
     c.write_at-answer.result c.tell-2.result (ap held (c.self.view_is ∙ c.begin.ensures.counted)) c.tell-2.ensures.answer c.write_at-answer.ensures).0
 
+pub returns-clause-all : goal.returns-clause-all
+returns-clause-all c =
+    (goes c.args.self.now c.self.inside.history c.write_at-answer.new.self (λ folder. written folder c.args.name.now c.args.at c.args.bytes.now)
+    (Tears c.args.name.now c.args.at (length c.args.bytes.now)) (λ e. (e ≡ error.Memory) × (c.write_at-answer.new.self ≡ c.self.inside.history)) (λ e not. not.1)
+    c.write_at-answer.result c.tell-2.result (ap held (c.self.view_is ∙ c.begin.ensures.counted)) c.tell-2.ensures.answer c.write_at-answer.ensures).2
+
 pub returns-clause-ends : goal.returns-clause-ends
 returns-clause-ends c =
     let passed : c.begin.result ≡ false = search rules in
