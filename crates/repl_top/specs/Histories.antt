@@ -7,7 +7,7 @@ use Rattle.repl_io.specs.Sink.{SinkState}
 use Rattle.repl_lsn.specs.declared.fault.HistoryFault.{HistoryFault}
 use Rattle.repl_lsn.specs.declared.fault.HistoryFault.TheVariants as fault
 use Rattle.repl_lsn.specs.declared.history.TheConstants.{HISTORY_LIMIT}
-use Rattle.repl_lsn.specs.History.{Path, IsRead, IsRefused, canonical}
+use Rattle.repl_lsn.specs.History.{Path, SaysHistory, IsHistoryFault, canonical}
 use Rattle.repl_top.specs.declared.limits.TheConstants.{HISTORY_INPUT}
 use Rattle.repl_top.specs.declared.status.Status.{Status}
 use Rattle.repl_top.specs.declared.status.Status.TheVariants as status
@@ -15,7 +15,7 @@ use Rattle.repl_top.specs.Outcome.{HasRead, Wrote, WroteFront, WroteNothing}
 
 -- the text says this history of the timeline
 abbrev pub IsOf : ℕ → List ℕ → Path → Type 0
-IsOf timeline text path = (path.own ≡ timeline) × IsRead text path
+IsOf timeline text path = (path.own ≡ timeline) × SaysHistory text path
 
 -- the line of a fault, which is 0 where a text is too long
 abbrev pub IsAtLine : HistoryFault → ℕ → Type 0
@@ -30,7 +30,7 @@ IsAtLine fault.Memory line = ⊥
 -- the text is refused at this line, or says a history whose canonical text is too long
 abbrev pub IsWrong : ℕ → List ℕ → ℕ → Type 0
 IsWrong timeline text line =
-    ((f : HistoryFault) × IsRefused timeline text f × IsAtLine f line)
+    ((f : HistoryFault) × IsHistoryFault timeline text f × IsAtLine f line)
     ⊎ ((path : Path) × IsOf timeline text path × (HISTORY_LIMIT < length (canonical path)) × (line ≡ 0))
 
 -- the input says a history of the timeline, and this is how its canonical text was written

@@ -6,7 +6,7 @@ use Rattle.repl_io.specs.Sink.{SinkState}
 use Rattle.repl_names.specs.declared.fault.NamesFault.{NamesFault}
 use Rattle.repl_names.specs.declared.fault.NamesFault.TheVariants as fault
 use Rattle.repl_names.specs.StandbyList.{Listing, spelling}
-use Rattle.repl_names.specs.Grammar.{IsRead, IsRefused}
+use Rattle.repl_names.specs.Grammar.{SaysList, IsListFault}
 use Rattle.repl_top.specs.declared.status.Status.{Status}
 use Rattle.repl_top.specs.declared.status.Status.TheVariants as status
 use Rattle.repl_top.specs.Outcome.{ReadNothing, Wrote, WroteFront, WroteNothing}
@@ -26,12 +26,12 @@ names_line list = spelling list ++ 10 ∷ []
 
 -- the text says a list, and this is how its line was written
 abbrev pub OfList : List ℕ → (List ℕ → Type 0) → Type 0
-OfList text How = (list : Listing) × IsRead text list × How (names_line list)
+OfList text How = (list : Listing) × SaysList text list × How (names_line list)
 
 -- How the printing ends. Where memory runs out before the writing, nothing is written.
 abbrev pub NamesEnd : List ℕ → Status → SinkState → SinkState → Type 0
 NamesEnd text status.Ok w w' = OfList text (λ line. Wrote line w w')
-NamesEnd text (status.BadInput place) w w' = ((f : NamesFault) × IsRefused text f × IsPlace text f place) × WroteNothing w w'
+NamesEnd text (status.BadInput place) w w' = ((f : NamesFault) × IsListFault text f × IsPlace text f place) × WroteNothing w w'
 NamesEnd text status.WriteFault w w' = Rose w.faults w'.faults × OfList text (λ bytes. WroteFront bytes w w')
 NamesEnd text status.Memory w w' = WroteNothing w w' ⊎ (Rose w.wants w'.wants × OfList text (λ bytes. WroteFront bytes w w'))
 NamesEnd text status.ReadFault w w' = ⊥
@@ -42,4 +42,4 @@ NamesEnd text (status.Usage word) w w' = ⊥
 pub record Named (text : List ℕ) (end : Status) (r r' : SourceState) (w w' : SinkState) : Type 0 where
   pub unread : ReadNothing r r'
   pub ends : NamesEnd text end w w'
-  pub complete : (list : Listing) → IsRead text list → ¬ Rose w.faults w'.faults → (end ≡ status.Ok) ⊎ (end ≡ status.Memory)
+  pub complete : (list : Listing) → SaysList text list → ¬ Rose w.faults w'.faults → (end ≡ status.Ok) ⊎ (end ≡ status.Memory)

@@ -60,7 +60,7 @@ IsRequest m = (m ≡ message.Startup startup.Ssl) ⊎ (m ≡ message.Startup sta
 
 -- a query that says IDENTIFY_SYSTEM
 abbrev pub IsQuestion : Message → Type 0
-IsQuestion m = (text : List ℕ) × (m ≡ message.Front (front.Query text)) × commands.IsRead text command.IdentifySystem
+IsQuestion m = (text : List ℕ) × (m ≡ message.Front (front.Query text)) × commands.SaysCommand text command.IdentifySystem
 
 -- The messages are a session with so many requests for encryption, a startup packet for physical replication, so
 -- many questions, and the end.

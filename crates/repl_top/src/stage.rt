@@ -88,7 +88,7 @@ fn after_message(
 
 /// Whether the text says IDENTIFY_SYSTEM.
 fn is_question(alloc: Global, text: &[u8]) -> Result<bool, AllocError>
-    ensures { IfOk result (λ says. IsTrue says ↔ commands.IsRead text.now command.IdentifySystem) }
+    ensures { IfOk result (λ says. IsTrue says ↔ commands.SaysCommand text.now command.IdentifySystem) }
 {
     match parse_command(alloc, text) {
         Ok(Command::IdentifySystem) => Ok(true),
