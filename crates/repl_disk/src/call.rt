@@ -5,10 +5,11 @@ ghost use Rattle.repl_disk.specs.Stored.{undo_of, unwritten};
 use crate::bytes::write_over;
 use std::alloc::{AllocError, Global};
 use std::marker::Model;
+use std::sync::Arc;
 
-/// How to take a write back.
-#[derive(Debug, Drop)]
-pub(crate) struct Undo {
+/// What a write wrote over.
+#[derive(Drop)]
+struct Overwritten {
     /// The first place that was written, or the file's end where that is before it.
     at: usize,
     /// The bytes that stood there.
@@ -17,12 +18,19 @@ pub(crate) struct Undo {
     len: usize,
 }
 
+/// How to take a write back. The file and the call keep one copy of the bytes together.
+#[derive(Drop)]
+pub(crate) struct Undo {
+    of: Arc<Overwritten, Global>,
+}
+
 impl Model for Undo {
+    ghost use Rattle.std.specs.Arc.{arc_value};
     ghost use Rattle.repl_disk.specs.Stored.{Cut};
 
     ghost Value = { Cut };
 
-    ghost view = { λ u. record { at = u.at; cut = u.cut.items; len = u.len } };
+    ghost view = { λ u. record { at = (arc_value u.of).at; cut = (arc_value u.of).cut.items; len = (arc_value u.of).len } };
 }
 
 impl Undo {
@@ -37,11 +45,19 @@ impl Undo {
     {
         let at = at.min(bytes.len());
         let rest = &bytes[at..];
-        let cut = &rest[..count.min(rest.len())];
+        let cut = rest[..count.min(rest.len())].to_vec(alloc)?;
+        let len = bytes.len();
         Ok(Undo {
-            at,
-            cut: cut.to_vec(alloc)?,
-            len: bytes.len(),
+            of: Arc::new(alloc, Overwritten { at, cut, len })?,
+        })
+    }
+
+    /// The same once more. Copies no bytes.
+    pub(crate) fn again(&self) -> Result<Undo, AllocError>
+        ensures { IfOk result (λ undo. undo ≡ self.now) }
+    {
+        Ok(Undo {
+            of: Arc::try_clone(&self.of)?,
         })
     }
 
@@ -50,13 +66,14 @@ impl Undo {
         requires { self.now.at + length self.now.cut ≤ length bytes.old.items }
         ensures { bytes.new.items ≡ unwritten self.now bytes.old.items }
     {
-        write_over(bytes, self.at, &self.cut);
-        bytes.truncate(self.len);
+        let of = &*self.of;
+        write_over(bytes, of.at, &of.cut);
+        bytes.truncate(of.len);
     }
 }
 
 /// A call that changed files, or made them certain.
-#[derive(Debug, Drop)]
+#[derive(Drop)]
 pub(crate) enum Done {
     /// So many bytes were written at this place. Without an undo the file was made.
     Wrote {

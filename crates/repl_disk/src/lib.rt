@@ -4,6 +4,13 @@
 //! them at any moment of the call: `specs/Folder.antt` and `specs/Crash.antt`. `replace` puts other bytes under a name so
 //! that a crash leaves the old or the new. `MemoryDisk` is a disk in memory that crashes and fails as it is told, and
 //! `FolderDisk` a folder of the system, which is trusted. Stands on `repl_counts` and the kit's `thiserror`.
+//!
+//! ```text
+//! let mut disk = FolderDisk::new(rt, "data")?;
+//! disk.write_at("log", 0, b"record")?;
+//! disk.sync("log")?;                                       // from here on a crash leaves the record
+//! replace_by(&mut disk, "end", "end.tmp", b"6")?;          // and never half of an end
+//! ```
 #![tactic(auto)]
 
 mod bytes;

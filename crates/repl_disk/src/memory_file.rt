@@ -8,7 +8,7 @@ use std::alloc::{AllocError, Global};
 use std::marker::Model;
 
 /// A file as it reads, and how to take back what was written into it since its last sync.
-#[derive(Debug, Drop)]
+#[derive(Drop)]
 pub(crate) struct File {
     name: String,
     bytes: Vec<u8>,
@@ -97,7 +97,7 @@ impl File {
         ensures err { OnErr result (self.new ≡ self.old) }
     {
         let undo = Undo::of(alloc, &self.bytes, at, bytes.len())?;
-        let kept = Undo::of(alloc, &self.bytes, at, bytes.len())?;
+        let kept = undo.again()?;
         self.undos.reserve(1)?;
         overwrite(&mut self.bytes, at, bytes)?;
         self.undos.push_reserved(kept);
