@@ -6,6 +6,15 @@
 //! and `encode_reply` append it; `decode_stream` and `decode_reply` read exactly the spellings, take no memory,
 //! and say of any other payload what is wrong with it. Stands on `repl_lsn` and on the kit's `bytes`,
 //! `byteorder` and `thiserror`.
+//!
+//! ```text
+//! let sent = Stream::Keepalive { end: Lsn(0x300_0000), clock, reply: true };
+//! encode_stream(&sent, &mut payload)?;
+//! match decode_stream(Bytes::from_vec(payload)?)? {
+//!     Stream::Keepalive { end, reply: true, .. } => answer_at(end),
+//!     ..
+//! }
+//! ```
 #![tactic(auto)]
 
 mod decode;
@@ -19,6 +28,3 @@ pub use encode::{encode_reply, encode_stream};
 pub use fault::CopyFault;
 pub use laws::{one_reply, one_stream};
 pub use payload::{Reply, Stream, WAL_LIMIT};
-
-#[cfg(test)]
-mod tests;

@@ -4,6 +4,8 @@ use repl_lsn::Lsn;
 /// The most bytes of the log that a server sends in one message.
 pub const WAL_LIMIT: u64 = 131_072;
 
+const _: () = prove!(WAL_LIMIT == 131_072);
+
 /// How many bytes stand before those of the log in a piece of it.
 pub(crate) const WAL_HEAD: usize = 25;
 

@@ -1,4 +1,5 @@
 pub mod FieldLaws
+pub mod Appending
 pub mod Extending
 pub mod Counting
 pub mod Spellings

@@ -1,7 +1,10 @@
 //! Encoding what a client sends.
 ghost use Rattle.std.specs.Prelude.{◌≡◌, ℕ, ◌+◌, ◌<◌, ◌≤◌, ◌++◌, length, OnOk, OnErr, Err, List};
-ghost use Rattle.repl_message.specs.Message.{pair, ended, startup_body, startup_spelling, front_kind, front_body, front_spelling, front_limit};
-ghost use Rattle.repl_message.specs.Encoding.{capped, Extends};
+ghost use Rattle.repl_message.specs.Message.{pair, ended, startup_body, startup_spelling, front_kind, front_body, front_spelling, front_limit, FitsPair, FitsStartup, FitsFront, Spells};
+ghost use Rattle.repl_message.specs.Encoding.{capped, Appends};
+ghost use Rattle.repl_message.specs.declared.message.Message.{Message};
+ghost use Rattle.std.specs.List.{AllByRecursion};
+ghost use Rattle.repl_message.specs.declared.message.Phase.{Phase};
 
 use crate::fault::EncodeFault;
 use crate::framing::{length_field, put_head, whole_or_none};
@@ -17,6 +20,8 @@ use std::alloc::AllocError;
 /// The length field is never below `STARTUP_LEAST`, since every packet has a code.
 pub fn encode_startup(message: &Startup, out: &mut Vec<u8>) -> Result<(), EncodeFault>
     ensures ok { OnOk result (out.new.items ≡ out.old.items ++ startup_spelling message.now) }
+    // A reader of startup packets takes it back.
+    ensures read { OnOk result (Spells Phase.Startup (Message.Startup message.now) (startup_spelling message.now)) }
     // The length field is above its limit exactly where the packet is refused for it.
     ensures within { OnOk result (length (startup_body message.now) + 4 ≤ STARTUP_LIMIT) }
     ensures too_long { (n : ℕ) → result ≡ Err (EncodeFault.TooLong n) →
@@ -32,8 +37,8 @@ pub fn encode_startup(message: &Startup, out: &mut Vec<u8>) -> Result<(), Encode
 /// Appends the packet, whose length field this is.
 fn put_startup(out: &mut Vec<u8>, message: &Startup, said: u32) -> Result<(), AllocError>
     requires { said ≡ length (startup_body message.now) + 4 }
-    ensures ok { OnOk result (out.new.items ≡ out.old.items ++ startup_spelling message.now) }
-    ensures err { OnErr result (Extends out.old.items out.new.items) }
+    ensures put { Appends result out.old.items out.new.items (startup_spelling message.now) }
+    ensures fits { OnOk result (FitsStartup message.now) }
 {
     out.reserve(said as usize)?;
     put_u32(out, said)?;
@@ -41,8 +46,8 @@ fn put_startup(out: &mut Vec<u8>, message: &Startup, said: u32) -> Result<(), Al
 }
 
 fn put_startup_body(out: &mut Vec<u8>, message: &Startup) -> Result<(), AllocError>
-    ensures ok { OnOk result (out.new.items ≡ out.old.items ++ startup_body message.now) }
-    ensures err { OnErr result (Extends out.old.items out.new.items) }
+    ensures put { Appends result out.old.items out.new.items (startup_body message.now) }
+    ensures fits { OnOk result (FitsStartup message.now) }
 {
     match message {
         Startup::Params(pairs) => {
@@ -59,8 +64,8 @@ fn put_startup_body(out: &mut Vec<u8>, message: &Startup) -> Result<(), AllocErr
 }
 
 fn put_parameters(out: &mut Vec<u8>, pairs: &Pairs) -> Result<(), AllocError>
-    ensures ok { OnOk result (out.new.items ≡ out.old.items ++ ended pair pairs.now) }
-    ensures err { OnErr result (Extends out.old.items out.new.items) }
+    ensures put { Appends result out.old.items out.new.items (ended pair pairs.now) }
+    ensures fits { OnOk result (AllByRecursion FitsPair pairs.now) }
 {
     for entry in pairs.as_slice() {
         put_strings(out, &entry.name, &entry.value)?;
@@ -72,6 +77,8 @@ fn put_parameters(out: &mut Vec<u8>, pairs: &Pairs) -> Result<(), AllocError>
 /// Appends the one spelling of a client's message. Where that is not done, `out` is as it was.
 pub fn encode_front(message: &Front, out: &mut Vec<u8>) -> Result<(), EncodeFault>
     ensures ok { OnOk result (out.new.items ≡ out.old.items ++ front_spelling message.now) }
+    // A reader of the client's messages takes it back.
+    ensures read { OnOk result (Spells Phase.Front (Message.Front message.now) (front_spelling message.now)) }
     // The length field is above its limit exactly where the message is refused for it.
     ensures within { OnOk result (length (front_body message.now) + 4 ≤ front_limit message.now) }
     ensures too_long { (n : ℕ) → result ≡ Err (EncodeFault.TooLong n) →
@@ -97,8 +104,8 @@ fn limit_of(message: &Front) -> u32
 /// Appends the message, whose length field this is.
 fn put_front(out: &mut Vec<u8>, message: &Front, said: u32) -> Result<(), AllocError>
     requires { said ≡ length (front_body message.now) + 4 }
-    ensures ok { OnOk result (out.new.items ≡ out.old.items ++ front_spelling message.now) }
-    ensures err { OnErr result (Extends out.old.items out.new.items) }
+    ensures put { Appends result out.old.items out.new.items (front_spelling message.now) }
+    ensures fits { OnOk result (FitsFront message.now) }
 {
     put_head(out, kind_of(message), said)?;
     put_front_body(out, message)
@@ -118,8 +125,8 @@ fn kind_of(message: &Front) -> u8
 }
 
 fn put_front_body(out: &mut Vec<u8>, message: &Front) -> Result<(), AllocError>
-    ensures ok { OnOk result (out.new.items ≡ out.old.items ++ front_body message.now) }
-    ensures err { OnErr result (Extends out.old.items out.new.items) }
+    ensures put { Appends result out.old.items out.new.items (front_body message.now) }
+    ensures fits { OnOk result (FitsFront message.now) }
 {
     match message {
         Front::Query(text) | Front::CopyFail(text) => put_string(out, text),

@@ -2,7 +2,7 @@
 ghost use Rattle.std.specs.Prelude.{◌≡◌, ◌+◌, ◌<◌, ◌≤◌, ◌∷◌, ◌++◌, take, IfOk, IfErr, IsOk, OnOk, OnErr, List};
 ghost use Rattle.repl_message.specs.declared.fault.EncodeFault.TheVariants as EncodeFault;
 ghost use Rattle.repl_message.specs.Message.{int32};
-ghost use Rattle.repl_message.specs.Encoding.{capped, Extends};
+ghost use Rattle.repl_message.specs.Encoding.{capped, Appends};
 
 use crate::fault::EncodeFault;
 use crate::put::{put_byte, put_u32};
@@ -22,8 +22,7 @@ pub(crate) fn length_field(body: u64, limit: u32) -> Result<u32, EncodeFault>
 
 /// Appends a type byte and a length field.
 pub(crate) fn put_head(out: &mut Vec<u8>, kind: u8, said: u32) -> Result<(), AllocError>
-    ensures ok { OnOk result (out.new.items ≡ out.old.items ++ kind ∷ int32 said) }
-    ensures err { OnErr result (Extends out.old.items out.new.items) }
+    ensures { Appends result out.old.items out.new.items (kind ∷ int32 said) }
 {
     out.reserve(said as usize + 1)?;
     put_byte(out, kind)?;

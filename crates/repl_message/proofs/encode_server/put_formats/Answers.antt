@@ -1,7 +1,13 @@
-use Rattle.std.proofs.Common.{◌∙◌}
-use Rattle.repl_message.proofs.Extending.{Extends-by, at_err}
+-- The format codes have two bytes each.
+use Rattle.std.proofs.Common.{◌<◌, ◌^◌, subst, arith, rules}
+use Rattle.std.specs.List.{AllByRecursion}
+use Rattle.repl_message.proofs.Appending.{fits_below}
 use Rattle.repl_message.proofs.encode_server.put_formats.Goals as goal
 
-pub returns-in_err-extend_from_slice-clause-err : goal.returns-in_err-extend_from_slice-clause-err
-returns-in_err-extend_from_slice-clause-err c =
-    at_err c.from_residual-in_err-extend_from_slice.result (Extends-by _ _ _ (c.in_err-extend_from_slice.ensures.items ∙ c.loop-entry.invariant))
+pub returns-clause-fits : goal.returns-clause-fits
+returns-clause-fits c =
+    let entries = c.as_slice-entries.result.now in (
+      c.as_slice-entries.ensures.few,
+      subst (AllByRecursion (λ f. f < 2 ^ 16)) c.as_slice-entries.ensures.value
+          (fits_below (2 ^ 16) entries (λ i. first_of (omega arith, search rules, grind arith))),
+    )
