@@ -1,7 +1,6 @@
 -- What `history` prints: the canonical text of a timeline's history.
 use Rattle.std.specs.Prelude.{◌≡◌, ℕ, ◌^◌, ◌<◌, ◌≤◌, ◌⊎◌, List, Some, length, take}
 use Rattle.repl_counts.specs.Counts.{Rose, RoseBy}
-use Rattle.repl_counts.specs.Told.{IfTold}
 use Rattle.repl_io.specs.Source.{SourceState}
 use Rattle.repl_io.specs.Sink.{SinkState}
 use Rattle.repl_lsn.specs.declared.fault.HistoryFault.{HistoryFault}
@@ -11,7 +10,7 @@ use Rattle.repl_lsn.specs.History.{Path, SaysHistory, IsHistoryFault, canonical}
 use Rattle.repl_top.specs.declared.limits.TheConstants.{HISTORY_INPUT}
 use Rattle.repl_top.specs.declared.status.Status.{Status}
 use Rattle.repl_top.specs.declared.status.Status.TheVariants as status
-use Rattle.repl_top.specs.Outcome.{HasRead, Wrote, WroteFront, WroteNothing}
+use Rattle.repl_top.specs.Outcome.{Converts, HasRead}
 
 -- the text says this history of the timeline
 abbrev pub IsOf : ℕ → List ℕ → Path → Type 0
@@ -33,30 +32,18 @@ IsWrong timeline text line =
     ((f : HistoryFault) × IsHistoryFault timeline text f × IsAtLine f line)
     ⊎ ((path : Path) × IsOf timeline text path × (HISTORY_LIMIT < length (canonical path)) × (line ≡ 0))
 
--- the input says a history of the timeline, and this is how its canonical text was written
-abbrev pub OfHistory : ℕ → SourceState → (List ℕ → Type 0) → Type 0
-OfHistory timeline r How = (path : Path) × IfTold r.left (λ left. IsOf timeline (take HISTORY_INPUT left) path) × How (canonical path)
-
--- How the printing ends. Where the input is refused or memory runs out before the writing, nothing is written.
+-- how the reading of an input and the writing of its canonical text end
 abbrev pub HistoryEnds : ℕ → Status → SourceState → SourceState → SinkState → SinkState → Type 0
-HistoryEnds timeline status.Ok r r' w w' = OfHistory timeline r (λ text. Wrote text w w')
-HistoryEnds timeline (status.BadInput line) r r' w w' = IfTold r.left (λ left.
-    IsWrong timeline (take HISTORY_INPUT left) line) × WroteNothing w w'
-HistoryEnds timeline status.WriteFault r r' w w' = Rose w.faults w'.faults × OfHistory timeline r (λ text. WroteFront text w w')
-HistoryEnds timeline status.Memory r r' w w' = WroteNothing w w'
-    ⊎ (Rose w.wants w'.wants × OfHistory timeline r (λ text. WroteFront text w w'))
-HistoryEnds timeline status.ReadFault r r' w w' = Rose r.faults r'.faults × WroteNothing w w'
-HistoryEnds timeline status.TurnsSpent r r' w w' = RoseBy (2 ^ 62) r.quiets r'.quiets × WroteNothing w w'
-HistoryEnds timeline (status.Usage word) r r' w w' = ⊥
+HistoryEnds timeline end r r' w w' = Converts HISTORY_INPUT (IsOf timeline) canonical (IsWrong timeline) end r r' w w'
 
 -- What `history` does for this timeline: it reads its input, and writes the canonical text of the history that it says.
 -- Unless an object is faulty or memory runs out, a history is printed, and any other input is refused.
 pub record Historied (timeline : ℕ) (end : Status) (r r' : SourceState) (w w' : SinkState) : Type 0 where
   pub ends : HistoryEnds timeline end r r' w w'
   pub has_read : HasRead HISTORY_INPUT end r r'
-  pub complete : (bytes : List ℕ) (path : Path) → r.left ≡ Some bytes → ¬ Rose r.faults r'.faults → ¬ Rose w.faults w'.faults
-      → ¬ RoseBy (2 ^ 62) r.quiets r'.quiets →
-      IsOf timeline (take HISTORY_INPUT bytes) path → length (canonical path) ≤ HISTORY_LIMIT → (end ≡ status.Ok) ⊎ (end ≡ status.Memory)
-  pub refuses : (bytes : List ℕ) → r.left ≡ Some bytes → ¬ Rose r.faults r'.faults → ¬ RoseBy (2 ^ 62) r.quiets r'.quiets →
-      ¬ ((path : Path) × IsOf timeline (take HISTORY_INPUT bytes) path) →
-      ((line : ℕ) × IsWrong timeline (take HISTORY_INPUT bytes) line × (end ≡ status.BadInput line)) ⊎ (end ≡ status.Memory)
+  pub complete : (bytes : List ℕ) (path : Path) → r.left ≡ Some bytes → IsOf timeline (take HISTORY_INPUT bytes) path
+      → length (canonical path) ≤ HISTORY_LIMIT → ¬ Rose r.faults r'.faults → ¬ Rose w.faults w'.faults
+      → ¬ RoseBy (2 ^ 62) r.quiets r'.quiets → (end ≡ status.Ok) ⊎ (end ≡ status.Memory)
+  pub refuses : (bytes : List ℕ) → r.left ≡ Some bytes → ¬ ((path : Path) × IsOf timeline (take HISTORY_INPUT bytes) path)
+      → ¬ Rose r.faults r'.faults → ¬ RoseBy (2 ^ 62) r.quiets r'.quiets
+      → ((line : ℕ) × IsWrong timeline (take HISTORY_INPUT bytes) line × (end ≡ status.BadInput line)) ⊎ (end ≡ status.Memory)

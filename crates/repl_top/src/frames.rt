@@ -1,10 +1,9 @@
 ghost use Rattle.std.specs.Prelude.{◌≡◌, ◌≢◌, ◌≤◌, ◌⊎◌, ◌∷◌, [], ◌++◌, length, IfErr, OnOk};
-ghost use Rattle.repl_counts.specs.Counts.{RoseExactly, Stood};
-ghost use Rattle.repl_top.specs.Outcome.{Wrote};
+ghost use Rattle.repl_counts.specs.Counts.{Stood};
+ghost use Rattle.repl_top.specs.Outcome.{Wrote, TellsReadFault, TellsWriteFault};
 ghost use Rattle.repl_message.specs.Message.{length_field};
 ghost use Rattle.repl_wire.specs.Reader.{Waits, fed};
 ghost use Rattle.repl_top.specs.declared.status.Status.TheVariants as status;
-ghost use Rattle.repl_top.specs.Status.{is_read_fault, is_write_fault};
 ghost use Rattle.repl_top.specs.Frames.{Framed, kind_text, line, place_of};
 ghost use Rattle.repl_top.specs.Printing.{GivesLines, Drains, PieceEnds};
 
@@ -37,8 +36,8 @@ pub(crate) fn frames<S: Source, K: Sink>(
     out: &mut K,
 ) -> Status
     ensures ends { Framed side result (S.source input.old) (S.source input.new) (K.sink out.old) (K.sink out.new) }
-    ensures read_fault { RoseExactly (is_read_fault result) (S.source input.old).faults (S.source input.new).faults }
-    ensures write_fault { RoseExactly (is_write_fault result) (K.sink out.old).faults (K.sink out.new).faults }
+    ensures read_fault { TellsReadFault result (S.source input.old) (S.source input.new) }
+    ensures write_fault { TellsWriteFault result (K.sink out.old) (K.sink out.new) }
 {
     let Ok(mut reader) = FrameReader::new(alloc, side) else {
         return Status::Memory;
@@ -87,7 +86,7 @@ fn print_piece<K: Sink>(
     requires short { length piece.now ≤ PIECE_LIMIT }
     ensures ok { OnOk result (Waits reader.new × GivesLines (fed reader.old piece.now) reader.new (λ text. Wrote text (K.sink out.old) (K.sink out.new)) × Stood (K.sink out.old).faults (K.sink out.new).faults) }
     ensures err { IfErr result (λ end. PieceEnds end (fed reader.old piece.now) reader.new (K.sink out.old) (K.sink out.new)) }
-    ensures fault { IfErr result (λ end. RoseExactly (is_write_fault end) (K.sink out.old).faults (K.sink out.new).faults) }
+    ensures fault { IfErr result (λ end. TellsWriteFault end (K.sink out.old) (K.sink out.new)) }
 {
     reader.feed(piece);
     let drained = drain(alloc, reader, lines);

@@ -1,9 +1,7 @@
 ghost use Rattle.std.specs.Prelude.{◌≡◌, ◌⊎◌, ℕ, IfOk, IfErr};
-ghost use Rattle.repl_counts.specs.Counts.{RoseExactly};
 ghost use Rattle.repl_lsn.specs.declared.fault.HistoryFault.TheVariants as history_fault;
 ghost use Rattle.repl_lsn.specs.History.{Path, canonical};
-ghost use Rattle.repl_top.specs.Status.{is_read_fault, is_write_fault};
-ghost use Rattle.repl_top.specs.Outcome.{HasRead};
+ghost use Rattle.repl_top.specs.Outcome.{HasRead, TellsReadFault, TellsWriteFault};
 ghost use Rattle.repl_top.specs.Histories.{HistoryEnds, IsAtLine, IsOf, IsWrong};
 
 use crate::gather::{Stop, gather};
@@ -23,8 +21,8 @@ pub(crate) fn history<S: Source, K: Sink>(
 ) -> Status
     ensures ends { HistoryEnds own result (S.source input.old) (S.source input.new) (K.sink out.old) (K.sink out.new) }
     ensures has_read { HasRead HISTORY_INPUT result (S.source input.old) (S.source input.new) }
-    ensures read_fault { RoseExactly (is_read_fault result) (S.source input.old).faults (S.source input.new).faults }
-    ensures write_fault { RoseExactly (is_write_fault result) (K.sink out.old).faults (K.sink out.new).faults }
+    ensures read_fault { TellsReadFault result (S.source input.old) (S.source input.new) }
+    ensures write_fault { TellsWriteFault result (K.sink out.old) (K.sink out.new) }
 {
     let bytes = match gather(alloc, input, HISTORY_INPUT) {
         Ok(bytes) => bytes,

@@ -1,6 +1,4 @@
-ghost use Rattle.repl_counts.specs.Counts.{RoseExactly};
-ghost use Rattle.repl_top.specs.Status.{is_read_fault, is_write_fault};
-ghost use Rattle.repl_top.specs.Outcome.{HasRead};
+ghost use Rattle.repl_top.specs.Outcome.{HasRead, TellsReadFault, TellsWriteFault};
 ghost use Rattle.repl_top.specs.Identify.{Identifies};
 
 use crate::answer::answer;
@@ -22,8 +20,8 @@ pub(crate) fn identify<S: Source, K: Sink>(
 ) -> Status
     ensures ends { Identifies identity.now result (S.source input.old) (S.source input.new) (K.sink out.old) (K.sink out.new) }
     ensures has_read { HasRead INPUT_LIMIT result (S.source input.old) (S.source input.new) }
-    ensures read_fault { RoseExactly (is_read_fault result) (S.source input.old).faults (S.source input.new).faults }
-    ensures write_fault { RoseExactly (is_write_fault result) (K.sink out.old).faults (K.sink out.new).faults }
+    ensures read_fault { TellsReadFault result (S.source input.old) (S.source input.new) }
+    ensures write_fault { TellsWriteFault result (K.sink out.old) (K.sink out.new) }
 {
     let bytes = match gather(alloc, input, INPUT_LIMIT) {
         Ok(bytes) => bytes,

@@ -1,10 +1,10 @@
 ghost use Rattle.std.specs.Prelude.{◌≡◌, ℕ, ◌⊎◌, IfOk};
-ghost use Rattle.repl_counts.specs.Counts.{Rose, RoseExactly};
+ghost use Rattle.repl_counts.specs.Counts.{Rose};
 ghost use Rattle.repl_names.specs.declared.fault.NamesFault.TheVariants as names_fault;
 ghost use Rattle.repl_names.specs.StandbyList.{Listing};
 ghost use Rattle.repl_names.specs.Grammar.{SaysList};
-ghost use Rattle.repl_top.specs.Status.{is_write_fault};
 ghost use Rattle.repl_top.specs.Names.{IsPlace, NamesEnd, names_line};
+ghost use Rattle.repl_top.specs.Outcome.{TellsWriteFault};
 
 use crate::reply::reply;
 use crate::status::Status;
@@ -18,7 +18,7 @@ pub(crate) fn names<K: Sink>(alloc: Global, text: &[u8], out: &mut K) -> Status
     // A list is printed, unless the sink is faulty or there is no memory.
     ensures complete { (list : Listing) → SaysList text.now list → ¬ Rose (K.sink out.old).faults (K.sink out.new).faults →
         (result ≡ Status.Ok) ⊎ (result ≡ Status.Memory) }
-    ensures write_fault { RoseExactly (is_write_fault result) (K.sink out.old).faults (K.sink out.new).faults }
+    ensures write_fault { TellsWriteFault result (K.sink out.old) (K.sink out.new) }
 {
     let list = match parse_names(alloc, text) {
         Ok(list) => list,

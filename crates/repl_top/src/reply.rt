@@ -1,6 +1,4 @@
-ghost use Rattle.repl_counts.specs.Counts.{RoseExactly};
-ghost use Rattle.repl_top.specs.Status.{is_write_fault};
-ghost use Rattle.repl_top.specs.Outcome.{Replies};
+ghost use Rattle.repl_top.specs.Outcome.{Replies, TellsWriteFault};
 
 use crate::status::Status;
 use repl_io::{Sent, Sink, write_all};
@@ -8,7 +6,7 @@ use repl_io::{Sent, Sink, write_all};
 /// Writes the whole answer of a command, which ends so.
 pub(crate) fn reply<K: Sink>(bytes: &[u8], out: &mut K) -> Status
     ensures ends { Replies bytes.now result (K.sink out.old) (K.sink out.new) }
-    ensures write_fault { RoseExactly (is_write_fault result) (K.sink out.old).faults (K.sink out.new).faults }
+    ensures write_fault { TellsWriteFault result (K.sink out.old) (K.sink out.new) }
 {
     match write_all(out, bytes) {
         Sent::All => Status::Ok,

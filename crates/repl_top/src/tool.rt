@@ -1,9 +1,8 @@
 ghost use Rattle.std.specs.Prelude.{◌≡◌, ℕ, ◌↔◌};
-ghost use Rattle.repl_counts.specs.Counts.{RoseExactly};
 ghost use Rattle.repl_top.specs.declared.words.Task.{Task};
 ghost use Rattle.repl_top.specs.Words.{IsTask, IsUsage, texts};
-ghost use Rattle.repl_top.specs.Status.{is_read_fault, is_write_fault};
 ghost use Rattle.repl_top.specs.Tool.{Ends};
+ghost use Rattle.repl_top.specs.Outcome.{TellsReadFault, TellsWriteFault};
 
 use crate::frames::frames;
 use crate::histories::history;
@@ -34,8 +33,8 @@ pub fn run_tool<S: Source, K: Sink>(
     ensures ends { (task : Task) → IsTask (texts words.now) task →
         Ends (texts words.now) task result (S.source input.old) (S.source input.new) (K.sink out.old) (K.sink out.new) }
     // A fault is told exactly where an object was faulty.
-    ensures read_fault { RoseExactly (is_read_fault result) (S.source input.old).faults (S.source input.new).faults }
-    ensures write_fault { RoseExactly (is_write_fault result) (K.sink out.old).faults (K.sink out.new).faults }
+    ensures read_fault { TellsReadFault result (S.source input.old) (S.source input.new) }
+    ensures write_fault { TellsWriteFault result (K.sink out.old) (K.sink out.new) }
 {
     let task = match read_words(words) {
         Ok(task) => task,

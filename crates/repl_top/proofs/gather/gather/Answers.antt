@@ -1,5 +1,5 @@
 -- A read adds what it gave, or was quiet, and at the end all that may be read was.
-use Rattle.std.proofs.Common.{◌≡◌, ◌≤◌, ◌++◌, ℕ, List, Vec, Global, vec_len, length, take, drop, ap, ◌∙◌, arith, length-append}
+use Rattle.std.proofs.Common.{◌≡◌, ◌≤◌, ◌++◌, ◌+◌, ℕ, List, Vec, Global, vec_len, length, take, drop, ap, ◌∙◌, arith, length-append}
 use Rattle.std.proofs.lemmas.List.{length-take}
 use Rattle.repl_top.proofs.Moves.{Lost-more, Lost-still, Lost-front, Lost-all, items_of_same, len_of_same}
 use Rattle.repl_top.proofs.gather.gather.Goals as goal
@@ -22,8 +22,10 @@ loop-preserved g c =
           let read = w.in-Bytes.ensures.reads.moved in
           let room = c.read.new.room in
           let behind : List ℕ = drop c.min-some.result c.loop.room in
-          let items = items_of_same _ _ _ w.bytes-is w.in_ok-extend_from_slice-in-Bytes.ensures.items in
-          let len = len_of_same _ _ _ w.bytes-is w.in_ok-extend_from_slice-in-Bytes.ensures.len in
+          let items = items_of_same c.match-read.bytes w.extend_from_slice.new.self (c.loop.bytes.items ++ take w.in-Bytes.count (room ++ behind)) w.bytes-is
+          w.in_ok-extend_from_slice-in-Bytes.ensures.items in
+          let len = len_of_same c.match-read.bytes w.extend_from_slice.new.self (vec_len c.loop.bytes + length (take w.in-Bytes.count (room ++ behind))) w.bytes-is
+          w.in_ok-extend_from_slice-in-Bytes.ensures.len in
           let size : length (take w.in-Bytes.count (room ++ behind)) ≡ w.in-Bytes.count =
           omega (arith, length-take w.in-Bytes.count (room ++ behind), length-append room behind, read.fits) in
           let some : length room ≤ c.min-some.result = omega (arith, c.read.auto.room, length-take c.min-some.result c.loop.room) in
