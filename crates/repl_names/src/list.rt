@@ -11,6 +11,11 @@ pub const NUMBER_LIMIT: u32 = 2_147_483_647;
 /// The most bytes of a list's spelling.
 pub const SPELLING_LIMIT: u64 = 65_536;
 
+// What a list is depends on these numbers.
+const _: () = prove!(NUMBER_LIMIT == 2_147_483_647);
+
+const _: () = prove!(SPELLING_LIMIT == 65_536);
+
 /// Which of the standbys on a list confirm a commit.
 #[derive(Clone, Copy, Debug, PartialEq, Eq)]
 pub enum Method {
@@ -100,7 +105,8 @@ impl StandbyList {
 
     /// How many of them confirm it: 0 of the list without names, and 1 to 2,147,483,647 of any other.
     pub fn number(&self) -> u32
-        ensures { result ≡ self.now.number }
+        ensures value { result ≡ self.now.number }
+        ensures listing { IsListing self.now }
     {
         self.number
     }
