@@ -37,7 +37,8 @@ within_cases priority session c h = ⊎_elim
     (or_cases (nat_lt c.priority priority) (c.priority == priority && not (nat_lt session c.session)) h)
 
 -- who is within goes before one who is not
-within_before : (priority session : ℕ) (c d : Candidate) → is_within priority session c ≡ false → is_within priority session d ≡ true → goes_before d c ≡ true
+within_before : (priority session : ℕ) (c d : Candidate) → is_within priority session c ≡ false → is_within priority session d ≡ true
+    → goes_before d c ≡ true
 within_before priority session c d out h = grind (arith, nat_tests)
 
 -- at the last priority, all are within the greatest session
@@ -52,7 +53,8 @@ up_to_within priority session cs h = count_le (is_up_to priority) (is_within pri
 pub up_to_all : (priority : ℕ) (cs : List Candidate) → All (λ c. c.priority ≤ priority) cs → count_by (is_up_to priority) cs ≡ length cs
 up_to_all priority cs h = count_all (is_up_to priority) cs (λ k d l. ap not (le-ltb priority (get_or cs k d).priority (h k d l)))
 
-pub up_to_rises : (earlier later : ℕ) (cs : List Candidate) → earlier ≤ later → count_by (is_up_to earlier) cs ≤ count_by (is_up_to later) cs
+pub up_to_rises : (earlier later : ℕ) (cs : List Candidate) → earlier ≤ later
+    → count_by (is_up_to earlier) cs ≤ count_by (is_up_to later) cs
 up_to_rises earlier later cs le = count_le (is_up_to earlier) (is_up_to later) cs (λ k d l h. one earlier later (get_or cs k d) le h)
   where
     one : (earlier later : ℕ) (c : Candidate) → earlier ≤ later → is_up_to earlier c ≡ true → is_up_to later c ≡ true
@@ -63,7 +65,8 @@ pub within_rises : (priority earlier later : ℕ) (cs : List Candidate) → earl
 within_rises priority earlier later cs le = count_le (is_within priority earlier) (is_within priority later) cs
     (λ k d l h. one priority earlier later (get_or cs k d) le h)
   where
-    one : (priority earlier later : ℕ) (c : Candidate) → earlier ≤ later → is_within priority earlier c ≡ true → is_within priority later c ≡ true
+    one : (priority earlier later : ℕ) (c : Candidate) → earlier ≤ later → is_within priority earlier c ≡ true
+        → is_within priority later c ≡ true
     one priority earlier later c le h = grind (arith, nat_tests)
 
 -- ---- the last place
@@ -100,7 +103,8 @@ first_within cs number priority session c last some h = ⊎_elim
     (λ at. ⊎_elim
     (λ z. oldest_rank cs number priority c some (omega arith) at.0 last.no_better)
     (λ l.
-    let le = count_le (λ d. goes_before d c) (is_within c.priority (c.session - 1)) cs (λ k d l' e. before_within c (get_or cs k d) (omega arith) e) in
+    let le = count_le (λ d. goes_before d c) (is_within c.priority (c.session - 1)) cs
+    (λ k d l' e. before_within c (get_or cs k d) (omega arith) e) in
     let few : count_by (is_within c.priority (c.session - 1)) cs < number =
     subst (λ n. count_by (is_within n (c.session - 1)) cs < number) (sym at.0) (last.no_older (c.session - 1) (omega (arith, at.1))) in
     omega arith)
@@ -108,14 +112,16 @@ first_within cs number priority session c last some h = ⊎_elim
     (within_cases priority session c h)
 
 -- the first are up to the last place
-pub within_first : (cs : List Candidate) (number priority session : ℕ) (c : Candidate) → IsLast number priority session cs → rank cs c < number
+pub within_first : (cs : List Candidate) (number priority session : ℕ) (c : Candidate) → IsLast number priority session cs
+    → rank cs c < number
     → is_within priority session c ≡ true
 within_first cs number priority session c last h = by_test (is_within priority session c) refl
   where
     by_test : (b : Bool) → is_within priority session c ≡ b → is_within priority session c ≡ true
     by_test true e = e
     by_test false e =
-        let more = count_le (is_within priority session) (λ d. goes_before d c) cs (λ k d l i. within_before priority session c (get_or cs k d) e i) in
+        let more = count_le (is_within priority session) (λ d. goes_before d c) cs
+        (λ k d l i. within_before priority session c (get_or cs k d) e i) in
         absurd (omega (arith, last.enough))
 
 -- ---- the least of a list
@@ -194,7 +200,8 @@ first_missed cs m number priority session end later last some least h met =
     let c = least.one.1 in
     let at = λ (P : Candidate → Type 0) (all : All P kept). subst P least.one.3 (all least.one.0 c least.one.2) in
     let close : test c ≡ true = at (λ d. test d ≡ true) (filter_passes test cs) in
-    let reach : rank cs c < number → later ≤ position m c = at (λ d. rank cs d < number → later ≤ position m d) (All-filter test (λ d. rank cs d < number → later ≤ position m d) cs met.first) in
+    let reach : rank cs c < number → later ≤ position m c = at (λ d. rank cs d < number → later ≤ position m d)
+    (All-filter test (λ d. rank cs d < number → later ≤ position m d) cs met.first) in
     let past : later ≤ position m c = reach (first_within cs number priority session c last some close) in
     let value : position m c ≡ end = least.one.4 in
     omega arith

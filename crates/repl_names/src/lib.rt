@@ -30,7 +30,7 @@ mod token;
 pub use fault::NamesFault;
 pub use laws::{
     any_reached, counted_reach, met_below, met_forward, met_without_names, one_list,
-    printed_is_read,
+    printed_is_read, released_decides,
 };
 pub use list::{Method, NUMBER_LIMIT, NameList, SPELLING_LIMIT, StandbyList};
 pub use matching::priority;

@@ -1,8 +1,8 @@
-ghost use Rattle.std.specs.Prelude.{◌≡◌, []};
+ghost use Rattle.std.specs.Prelude.{◌≡◌, [], IfOk};
 ghost use Rattle.repl_names.specs.StandbyList.{Listing, IsListing};
 
 use repl_text::Text;
-use std::alloc::Global;
+use std::alloc::{AllocError, Global};
 use std::marker::Model;
 
 /// The greatest number of standbys that a list may demand.
@@ -94,6 +94,17 @@ impl StandbyList {
             number,
             names: NameList { names },
         }
+    }
+
+    /// A copy of the list. Takes memory for its names.
+    pub fn copy(&self, alloc: Global) -> Result<StandbyList, AllocError>
+        ensures { IfOk result (λ list. list ≡ self.now) }
+    {
+        let mut names = Vec::new(alloc);
+        for name in self.names().as_slice() {
+            names.push(Text::copied(alloc, name.as_slice())?)?;
+        }
+        Ok(StandbyList::of(self.method, self.number, names))
     }
 
     /// Which of the standbys confirm a commit.

@@ -1,3 +1,4 @@
+-- What `last_priority` needs and ensures.
 use Rattle.std.proofs.Common.{◌+◌, ◌-◌, ◌≤◌, ◌/◌, arith}
 use Rattle.std.proofs.lemmas.List.Elements.{All-filter}
 use Rattle.repl_names.proofs.Ranks.{up_to_all, up_to_rises}
@@ -21,6 +22,7 @@ loop-low-preserved c = record {
   ordered = omega arith;
   enough = c.loop-low.invariant.enough;
   fewer = λ earlier h.
-      let rises = up_to_rises earlier (c.loop-low.low + (c.loop-low.high - c.loop-low.low) / 2) (candidates c.args.sessions.now) (omega arith) in
+      let rises = up_to_rises earlier (c.loop-low.low + (c.loop-low.high - c.loop-low.low) / 2) (candidates c.args.sessions.now)
+      (omega arith) in
       omega (arith, c.candidates_up_to.ensures);
 }

@@ -1,3 +1,4 @@
+-- What each turn of the loop in `last_session` keeps, and that it ends.
 use Rattle.std.proofs.Common.{ℕ, ◌-◌, ◌<◌, ◌≤◌, count_by}
 use Rattle.repl_names.specs.Order.{is_within}
 use Rattle.repl_names.specs.Quorum.{candidates}
