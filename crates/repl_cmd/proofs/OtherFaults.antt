@@ -42,12 +42,20 @@ ended_stop s t f ended e =
     subst (λ (from : State). IsStop from t f) (sym is.1) (subst (IsStop (state.Ended is.0) t) (sym e) stop)
 
 -- the refusal of a list is that of the token, but for want of memory
-pub names_stop : (t : Lexeme) (bytes : List ℕ) (r : Result Listing NamesFault) (found : NamesFault) (f : CmdFault) → bytes ≡ t.text → t.kind ≡ kind.Text → r ≡ Err found → names.IsListFault bytes found → ((list : Listing) → names.SaysList bytes list → (r ≡ Ok list) ⊎ (r ≡ Err names_fault.Memory)) → ((found ≡ names_fault.Memory) × (f ≡ fault.Memory)) ⊎ ((found ≢ names_fault.Memory) × (f ≡ fault.BadNames found)) → (f ≡ fault.Memory) ⊎ IsStop state.AlterText t f
+pub names_stop : (t : Lexeme) (bytes : List ℕ) (r : Result Listing NamesFault) (found : NamesFault) (f : CmdFault) → bytes ≡ t.text
+    → t.kind ≡ kind.Text → r ≡ Err found → names.IsListFault bytes found
+    → ((list : Listing) → names.SaysList bytes list → (r ≡ Ok list) ⊎ (r ≡ Err names_fault.Memory))
+    → ((found ≡ names_fault.Memory) × (f ≡ fault.Memory)) ⊎ ((found ≢ names_fault.Memory) × (f ≡ fault.BadNames found))
+    → (f ≡ fault.Memory) ⊎ IsStop state.AlterText t f
 names_stop t bytes r found f same text is refused only which = elim which [
   | inl h ↦ inl h.1
   | inr h ↦ inr (subst (IsStop state.AlterText t) (sym h.1) (record {
     stuck = λ next step. elim step [
-      | inl move ↦ elim (only move.0 (subst (λ (b : List ℕ). names.SaysList b move.0) (sym same) move.1.1)) [ inl e ↦ cc | inr e ↦ absurd (h.0 cc) ]
+      | inl move ↦ elim (only move.0 (subst (λ (b : List ℕ). names.SaysList b move.0) (sym same) move.1.1)) [
+        | inl e ↦ cc
+        | inr e ↦ absurd
+            (h.0 cc)
+      ]
       | inr close ↦ cc (text, close.0)
     ];
     cause = (refl, text, subst (λ (b : List ℕ). names.IsListFault b found) same refused, h.0);

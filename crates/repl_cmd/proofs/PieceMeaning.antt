@@ -41,7 +41,8 @@ means_follow (part ∷ next ∷ parts) p [] at m = absurd m.1
 means_follow (part ∷ next ∷ parts) p (q ∷ qs) at m = (m.0 at, means_follow (next ∷ parts) q qs (at + length p.spelled + 1) m.1)
 
 -- a written text, whose tokens are a form of the command, says it
-pub written_is_read : (text : List ℕ) (p : Piece) (ps : List Piece) (form : List Part) (c : Command) → IsWritten text p ps → Means form (p ∷ ps) → ((said : List Lexeme) → Follow form said → OneOf (forms c) said) → SaysCommand text c
+pub written_is_read : (text : List ℕ) (p : Piece) (ps : List Piece) (form : List Part) (c : Command) → IsWritten text p ps
+    → Means form (p ∷ ps) → ((said : List Lexeme) → Follow form said → OneOf (forms c) said) → SaysCommand text c
 written_is_read text p ps form c written means is_form = record {
   tokens = tokens_from 0 p ps;
   reads = written_reads text p ps written;

@@ -20,7 +20,8 @@ pub record WantsOnlyPosition (s : State) : Type 0 where
   pub number : wants_number s ≡ false
   pub names : wants_names s ≡ false
 
-no_own : (s : State) (t : Lexeme) (f : CmdFault) → WantsOnlyPosition s → ¬ IsJudged t → ¬ ((wants_physical s ≡ true) × IsKeyword (codes "logical") t) → ¬ IsOwnFault s t f
+no_own : (s : State) (t : Lexeme) (f : CmdFault) → WantsOnlyPosition s → ¬ IsJudged t
+    → ¬ ((wants_physical s ≡ true) × IsKeyword (codes "logical") t) → ¬ IsOwnFault s t f
 no_own s t (fault.Syntax place) w judged logical = λ h. h
 no_own s t (fault.Unsupported unsupported.Logical) w judged logical = logical
 no_own s t (fault.Unsupported unsupported.BaseBackup) w judged logical = λ h. false≢true (sym w.start ∙ h.0)
@@ -32,19 +33,22 @@ no_own s t (fault.BadNumber place) w judged logical = λ h. judged h.2
 no_own s t (fault.BadNames found) w judged logical = λ h. false≢true (sym w.names ∙ h.0)
 no_own s t fault.Memory w judged logical = λ h. h
 
-pub position_stop : (s : State) (t : Lexeme) (f : CmdFault) → WantsOnlyPosition s → ¬ ((wants_physical s ≡ true) × IsKeyword (codes "logical") t) → IsNoPosition t f → IsStuck s t → IsStop s t f
+pub position_stop : (s : State) (t : Lexeme) (f : CmdFault) → WantsOnlyPosition s
+    → ¬ ((wants_physical s ≡ true) × IsKeyword (codes "logical") t) → IsNoPosition t f → IsStuck s t → IsStop s t f
 position_stop s t f w logical none stuck = elim none.fault [
   | inl h ↦ subst (IsStop s t) (sym h.1) (record { stuck = stuck; cause = (refl, w.position, h.0, logical) })
   | inr h ↦ subst (IsStop s t) (sym h.1) (record { stuck = stuck; cause = (refl, λ own. no_own s t own.0 w h.0 logical own.1) })
 ]
 
-logical_stop : (s : State) (t : Lexeme) (f : CmdFault) → WantsOnlyPosition s → wants_physical s ≡ true → IsLogicalOrNone t f → IsStuck s t → IsStop s t f
+logical_stop : (s : State) (t : Lexeme) (f : CmdFault) → WantsOnlyPosition s → wants_physical s ≡ true → IsLogicalOrNone t f → IsStuck s t
+    → IsStop s t f
 logical_stop s t f w physical none stuck = elim none.fault [
   | inl h ↦ subst (IsStop s t) (sym h.1) (record { stuck = stuck; cause = (physical, h.0) })
   | inr h ↦ position_stop s t f w (λ logical. h.0 logical.1) h.1 stuck
 ]
 
-pub stream_stop : (t : Lexeme) (f : CmdFault) → t.kind ≢ kind.Semicolon → ¬ IsKeyword (codes "slot") t → ¬ IsKeyword (codes "physical") t → IsLogicalOrNone t f → IsStop state.Stream t f
+pub stream_stop : (t : Lexeme) (f : CmdFault) → t.kind ≢ kind.Semicolon → ¬ IsKeyword (codes "slot") t → ¬ IsKeyword (codes "physical") t
+    → IsLogicalOrNone t f → IsStop state.Stream t f
 stream_stop t f going slot physical none =
     logical_stop state.Stream t f (record { position = refl; start = refl; slot = refl; number = refl; names = refl }) refl none
     (λ next step. elim step [
@@ -52,7 +56,8 @@ stream_stop t f going slot physical none =
       | inr close ↦ going close.0
     ])
 
-pub named_stop : (name : List ℕ) (t : Lexeme) (f : CmdFault) → t.kind ≢ kind.Semicolon → ¬ IsKeyword (codes "physical") t → IsLogicalOrNone t f → IsStop (state.StreamNamed name) t f
+pub named_stop : (name : List ℕ) (t : Lexeme) (f : CmdFault) → t.kind ≢ kind.Semicolon → ¬ IsKeyword (codes "physical") t
+    → IsLogicalOrNone t f → IsStop (state.StreamNamed name) t f
 named_stop name t f going physical none =
     logical_stop (state.StreamNamed name) t f (record { position = refl; start = refl; slot = refl; number = refl; names = refl }) refl none
     (λ next step. elim step [
@@ -60,9 +65,11 @@ named_stop name t f going physical none =
       | inr close ↦ going close.0
     ])
 
-pub physical_stop : (slot : Option (List ℕ)) (t : Lexeme) (f : CmdFault) → t.kind ≢ kind.Semicolon → IsNoPosition t f → IsStop (state.StreamPhysical slot) t f
+pub physical_stop : (slot : Option (List ℕ)) (t : Lexeme) (f : CmdFault) → t.kind ≢ kind.Semicolon → IsNoPosition t f
+    → IsStop (state.StreamPhysical slot) t f
 physical_stop slot t f going none =
-    position_stop (state.StreamPhysical slot) t f (record { position = refl; start = refl; slot = refl; number = refl; names = refl }) (λ h. false≢true h.0) none
+    position_stop (state.StreamPhysical slot) t f (record { position = refl; start = refl; slot = refl; number = refl; names = refl })
+    (λ h. false≢true h.0) none
     (λ next step. elim step [ inl h ↦ none.none h.0 h.1 | inr close ↦ going close.0 ])
 
 -- a test that fails

@@ -30,14 +30,17 @@ pub record IsWalked (text : List ℕ) (at : ℕ) (s : State) : Type 0 where
 pub walked_none : (text : List ℕ) → IsWalked text 0 state.Start
 walked_none text = record { before = []; leads = leads_none command_class command_token text; runs = refl }
 
-pub walked_more : (text : List ℕ) (at : ℕ) (s : State) (token : RawToken) (end : ℕ) (next : State) → IsWalked text at s → IsNext command_class at (drop at text) token (drop end text) → end ≤ length text → Steps s (command_token token) next → IsWalked text end next
+pub walked_more : (text : List ℕ) (at : ℕ) (s : State) (token : RawToken) (end : ℕ) (next : State) → IsWalked text at s
+    → IsNext command_class at (drop at text) token (drop end text) → end ≤ length text → Steps s (command_token token) next
+    → IsWalked text end next
 walked_more text at s token end next w is within step = record {
   before = w.before ++ command_token token ∷ [];
   leads = leads_more command_class command_token text w.before at token end w.leads is within;
   runs = runs_more state.Start s next w.before (command_token token) w.runs step;
 }
 
-pub walked_read : (text : List ℕ) (at : ℕ) (s : State) (c : Command) → IsWalked text at s → lexer.Reads command_class at (drop at text) [] → finish s ≡ Some c → SaysCommand text c
+pub walked_read : (text : List ℕ) (at : ℕ) (s : State) (c : Command) → IsWalked text at s → lexer.Reads command_class at (drop at text) []
+    → finish s ≡ Some c → SaysCommand text c
 walked_read text at s c w reads ends = record {
   tokens = w.before;
   reads = leads_all command_class command_token text w.before at w.leads reads;
@@ -46,7 +49,8 @@ walked_read text at s c w reads ends = record {
 
 -- ---- refusals
 
-pub walked_stops : (text : List ℕ) (at : ℕ) (s : State) (token : RawToken) (end : ℕ) (f : CmdFault) → IsWalked text at s → IsNext command_class at (drop at text) token (drop end text) → end ≤ length text → IsStop s (command_token token) f → Leaves text f
+pub walked_stops : (text : List ℕ) (at : ℕ) (s : State) (token : RawToken) (end : ℕ) (f : CmdFault) → IsWalked text at s
+    → IsNext command_class at (drop at text) token (drop end text) → end ≤ length text → IsStop s (command_token token) f → Leaves text f
 walked_stops text at s token end f w is within stop =
     let own = command_token token in
     let rest = has_reading_as command_class command_token end (drop end text) in
@@ -63,7 +67,8 @@ walked_stops text at s token end f w is within stop =
       cause = rw (take-append_seam w.before (own ∷ rest.0), drop-append_seam w.before (own ∷ rest.0)) cause;
     }
 
-pub walked_ends : (text : List ℕ) (at : ℕ) (s : State) → IsWalked text at s → lexer.Reads command_class at (drop at text) [] → finish s ≡ None → Leaves text (fault.Syntax (length text))
+pub walked_ends : (text : List ℕ) (at : ℕ) (s : State) → IsWalked text at s → lexer.Reads command_class at (drop at text) []
+    → finish s ≡ None → Leaves text (fault.Syntax (length text))
 walked_ends text at s w reads none = record {
   tokens = w.before;
   index = length w.before;
@@ -94,11 +99,23 @@ one_read text a b g h =
     cc
 
 pub leaves_unread : (text : List ℕ) (f : CmdFault) (c : Command) → Leaves text f → ¬ SaysCommand text c
-leaves_unread text f c l = λ h. l.stops.refused (c, subst (λ (ts : List Lexeme). Says ts c) (reads_as_one command_class command_token 0 text h.tokens l.tokens h.reads l.reads) h.says)
+leaves_unread text f c l = λ h. l.stops.refused (
+  c,
+  subst (λ (ts : List Lexeme). Says ts c)
+      (reads_as_one command_class command_token 0 text h.tokens l.tokens h.reads l.reads) h.says,
+)
 
-pub stopped_front : (text other : List ℕ) (tokens more : List Lexeme) (index : ℕ) (c : Command) → Reads 0 text tokens → StopsAt IsSaid tokens index → index < length tokens → Reads 0 other (take (index + 1) tokens ++ more) → ¬ SaysCommand other c
+pub stopped_front : (text other : List ℕ) (tokens more : List Lexeme) (index : ℕ) (c : Command) → Reads 0 text tokens
+    → StopsAt IsSaid tokens index → index < length tokens → Reads 0 other (take (index + 1) tokens ++ more) → ¬ SaysCommand other c
 stopped_front text other tokens more index c reads stops below front =
-    λ h. stops.stops below (more, (c, subst (λ (ts : List Lexeme). Says ts c) (reads_as_one command_class command_token 0 other h.tokens (take (index + 1) tokens ++ more) h.reads front) h.says))
+    λ h. stops.stops below (
+      more,
+      (
+        c,
+        subst (λ (ts : List Lexeme). Says ts c)
+            (reads_as_one command_class command_token 0 other h.tokens (take (index + 1) tokens ++ more) h.reads front) h.says,
+      ),
+    )
 
 -- ---- answers
 
@@ -109,8 +126,10 @@ IsFaultHere text f = (f ≡ fault.Memory) ⊎ Leaves text f
 pub here_refused : (text : List ℕ) (f : CmdFault) → IsFaultHere text f → IsCommandFault text f
 here_refused text f h = elim h [ inl e ↦ subst (IsCommandFault text) (sym e) tt | inr l ↦ leaves_refused text f l ]
 
-pub here_only : (text : List ℕ) (r : Result Command CmdFault) (f : CmdFault) → r ≡ Err f → IsFaultHere text f → (c : Command) → SaysCommand text c → (r ≡ Ok c) ⊎ (r ≡ Err fault.Memory)
+pub here_only : (text : List ℕ) (r : Result Command CmdFault) (f : CmdFault) → r ≡ Err f → IsFaultHere text f → (c : Command)
+    → SaysCommand text c → (r ≡ Ok c) ⊎ (r ≡ Err fault.Memory)
 here_only text r f is h = λ c read. elim h [ inl e ↦ inr cc | inr l ↦ absurd (leaves_unread text f c l read) ]
 
-pub read_only : (text : List ℕ) (r : Result Command CmdFault) (made : Command) → r ≡ Ok made → SaysCommand text made → (c : Command) → SaysCommand text c → (r ≡ Ok c) ⊎ (r ≡ Err fault.Memory)
+pub read_only : (text : List ℕ) (r : Result Command CmdFault) (made : Command) → r ≡ Ok made → SaysCommand text made → (c : Command)
+    → SaysCommand text c → (r ≡ Ok c) ⊎ (r ≡ Err fault.Memory)
 read_only text r made is read = λ c said. inl (is ∙ ap (λ (x : Command). Ok x) (one_read text made c read said))

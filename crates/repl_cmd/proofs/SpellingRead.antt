@@ -27,11 +27,13 @@ one_word word some e = written_first (word_piece word) (keyword_is_piece word so
 word_front : (word : List ℕ) → 0 < length word → all_word_bytes word ≡ true → IsFront (word ++ 32 ∷ []) (word_piece word) []
 word_front word some e = front_space word (word_piece word) [] (one_word word some e)
 
-word_and : (word : List ℕ) (q : Piece) → 0 < length word → all_word_bytes word ≡ true → IsPiece q → IsWritten (word ++ 32 ∷ [] ++ q.spelled) (word_piece word) (q ∷ [])
+word_and : (word : List ℕ) (q : Piece) → 0 < length word → all_word_bytes word ≡ true → IsPiece q
+    → IsWritten (word ++ 32 ∷ [] ++ q.spelled) (word_piece word) (q ∷ [])
 word_and word q some e is = front_more (word ++ 32 ∷ []) (word_piece word) [] q (word_front word some e) is
 
 -- a command that is one keyword
-keyword_read : (word small : List ℕ) (c : Command) → 0 < length word → all_word_bytes word ≡ true → map to_ascii_lowercase word ≡ small → forms c ≡ (Keyword small ∷ []) ∷ [] → SaysCommand word c
+keyword_read : (word small : List ℕ) (c : Command) → 0 < length word → all_word_bytes word ≡ true → map to_ascii_lowercase word ≡ small
+    → forms c ≡ (Keyword small ∷ []) ∷ [] → SaysCommand word c
 keyword_read word small c some bytes e form =
     written_is_read word (word_piece word) [] (Keyword small ∷ []) c (one_word word some bytes) (keyword_means word small e, tt)
     (λ said f. subst (λ (forms : List (List Part)). OneOf forms said) (sym form) (inl f))
@@ -60,11 +62,16 @@ slot_read name is =
 -- ---- words that may stand behind
 
 drop_means : (name : List ℕ) (wait : Bool) → IsSlotName name
-    → Means (Keyword (codes "drop_replication_slot") ∷ Slot name ∷ wait_part wait) (word_piece (codes "DROP_REPLICATION_SLOT") ∷ name_piece name ∷ pieces_if wait (codes "WAIT"))
-drop_means name true is = (keyword_means (codes "DROP_REPLICATION_SLOT") (codes "drop_replication_slot") refl, (slot_means name is, (keyword_means (codes "WAIT") (codes "wait") refl, tt)))
+    → Means (Keyword (codes "drop_replication_slot") ∷ Slot name ∷ wait_part wait)
+    (word_piece (codes "DROP_REPLICATION_SLOT") ∷ name_piece name ∷ pieces_if wait (codes "WAIT"))
+drop_means name true is = (
+  keyword_means (codes "DROP_REPLICATION_SLOT") (codes "drop_replication_slot") refl,
+  (slot_means name is, (keyword_means (codes "WAIT") (codes "wait") refl, tt)),
+)
 drop_means name false is = (keyword_means (codes "DROP_REPLICATION_SLOT") (codes "drop_replication_slot") refl, (slot_means name is, tt))
 
-drop_read : (name : List ℕ) (wait : Bool) → IsSlotName name → SaysCommand (spelling (command.DropSlot name wait)) (command.DropSlot name wait)
+drop_read : (name : List ℕ) (wait : Bool) → IsSlotName name
+    → SaysCommand (spelling (command.DropSlot name wait)) (command.DropSlot name wait)
 drop_read name wait is =
     let named = word_and (codes "DROP_REPLICATION_SLOT") (name_piece name) (omega arith) refl (name_is_piece name) in
     written_is_read _ _ _ (Keyword (codes "drop_replication_slot") ∷ Slot name ∷ wait_part wait) (command.DropSlot name wait)
@@ -72,7 +79,8 @@ drop_read name wait is =
     (drop_means name wait is)
     (λ said f. inl f)
 
-promote_means : (n : Option ℕ) → IsTimeline n → Means (Keyword (codes "promote") ∷ number_part n) (word_piece (codes "PROMOTE") ∷ number_pieces n)
+promote_means : (n : Option ℕ) → IsTimeline n → Means (Keyword (codes "promote") ∷ number_part n)
+    (word_piece (codes "PROMOTE") ∷ number_pieces n)
 promote_means None is = (keyword_means (codes "PROMOTE") (codes "promote") refl, tt)
 promote_means (Some n) is = (keyword_means (codes "PROMOTE") (codes "promote") refl, (number_means 1 n (omega (arith, is.0)) is.1, tt))
 
@@ -91,10 +99,12 @@ reserve_part false = []
 
 -- the pieces of `name [TEMPORARY] PHYSICAL [RESERVE_WAL]`
 abbrev create_pieces : List ℕ → Bool → Bool → List Piece
-create_pieces name temporary reserve = ((name_piece name ∷ pieces_if temporary (codes "TEMPORARY")) ++ word_piece (codes "PHYSICAL") ∷ []) ++ pieces_if reserve (codes "RESERVE_WAL")
+create_pieces name temporary reserve = ((name_piece name ∷ pieces_if temporary (codes "TEMPORARY")) ++ word_piece
+    (codes "PHYSICAL") ∷ []) ++ pieces_if reserve (codes "RESERVE_WAL")
 
 create_means : (name : List ℕ) (temporary reserve : Bool) → IsSlotName name
-    → Means (create_physical name temporary ++ reserve_part reserve) (word_piece (codes "CREATE_REPLICATION_SLOT") ∷ create_pieces name temporary reserve)
+    → Means (create_physical name temporary ++ reserve_part reserve) (word_piece
+    (codes "CREATE_REPLICATION_SLOT") ∷ create_pieces name temporary reserve)
 create_means name temporary reserve is =
     let create = keyword_means (codes "CREATE_REPLICATION_SLOT") (codes "create_replication_slot") refl in
     let slot = slot_means name is in
@@ -106,41 +116,61 @@ create_means name temporary reserve is =
     behind false = tt
 
     go : (temporary reserve : Bool) → MeansOne (Keyword (codes "physical")) (word_piece (codes "PHYSICAL"))
-        → Means ((temporary_part temporary ++ Keyword (codes "physical") ∷ []) ++ reserve_part reserve) ((pieces_if temporary (codes "TEMPORARY") ++ word_piece (codes "PHYSICAL") ∷ []) ++ pieces_if reserve (codes "RESERVE_WAL"))
+        → Means ((temporary_part temporary ++ Keyword (codes "physical") ∷ []) ++ reserve_part reserve)
+        ((pieces_if temporary (codes "TEMPORARY") ++ word_piece (codes "PHYSICAL") ∷ []) ++ pieces_if reserve (codes "RESERVE_WAL"))
     go true reserve physical = (keyword_means (codes "TEMPORARY") (codes "temporary") refl, (physical, behind reserve))
     go false reserve physical = (physical, behind reserve)
 
-create_form : (name : List ℕ) (temporary reserve : Bool) (said : List Lexeme) → Follow (create_physical name temporary ++ reserve_part reserve) said → OneOf (forms (command.CreateSlot name temporary reserve)) said
+create_form : (name : List ℕ) (temporary reserve : Bool) (said : List Lexeme)
+    → Follow (create_physical name temporary ++ reserve_part reserve) said → OneOf (forms (command.CreateSlot name temporary reserve)) said
 create_form name temporary true said f = inl f
 create_form name temporary false said f = inl f
 
-create_read : (name : List ℕ) (temporary reserve : Bool) → IsSlotName name → SaysCommand (spelling (command.CreateSlot name temporary reserve)) (command.CreateSlot name temporary reserve)
+create_read : (name : List ℕ) (temporary reserve : Bool) → IsSlotName name
+    → SaysCommand (spelling (command.CreateSlot name temporary reserve)) (command.CreateSlot name temporary reserve)
 create_read name temporary reserve is =
     let named = word_and (codes "CREATE_REPLICATION_SLOT") (name_piece name) (omega arith) refl (name_is_piece name) in
     let temporarily = written_if _ _ _ temporary (codes "TEMPORARY") (keyword_is_piece (codes "TEMPORARY") (omega arith) refl) named in
-    let physical = written_more _ _ _ (word_piece (codes "PHYSICAL")) temporarily (keyword_is_piece (codes "PHYSICAL") (omega arith) refl) in
+    let physical = written_more _ _ _ (word_piece (codes "PHYSICAL")) temporarily
+    (keyword_is_piece (codes "PHYSICAL") (omega arith) refl) in
     let reserved = written_if _ _ _ reserve (codes "RESERVE_WAL") (keyword_is_piece (codes "RESERVE_WAL") (omega arith) refl) physical in
-    written_is_read _ _ _ (create_physical name temporary ++ reserve_part reserve) (command.CreateSlot name temporary reserve) reserved (create_means name temporary reserve is) (create_form name temporary reserve)
+    written_is_read _ _ _ (create_physical name temporary ++ reserve_part reserve) (command.CreateSlot name temporary reserve) reserved
+    (create_means name temporary reserve is) (create_form name temporary reserve)
 
 -- ---- a stream
 
 -- the pieces of `[SLOT name] PHYSICAL position [TIMELINE number]`
 abbrev start_pieces : Option (List ℕ) → ℕ → Option ℕ → List Piece
-start_pieces slot at timeline = ((slot_pieces slot ++ word_piece (codes "PHYSICAL") ∷ []) ++ position_piece (position_text at) ∷ []) ++ timeline_pieces timeline
+start_pieces slot at timeline = ((slot_pieces slot ++ word_piece (codes "PHYSICAL") ∷ []) ++ position_piece
+    (position_text at) ∷ []) ++ timeline_pieces timeline
 
 start_means : (slot : Option (List ℕ)) (at : ℕ) (timeline : Option ℕ) → IsSlotOf slot → at < 2 ^ 64 → IsTimeline timeline
-    → Means ((start_words slot ++ Keyword (codes "physical") ∷ []) ++ Position at ∷ timeline_part timeline) (word_piece (codes "START_REPLICATION") ∷ start_pieces slot at timeline)
+    → Means ((start_words slot ++ Keyword (codes "physical") ∷ []) ++ Position at ∷ timeline_part timeline)
+    (word_piece (codes "START_REPLICATION") ∷ start_pieces slot at timeline)
 start_means slot at timeline name small number =
     (keyword_means (codes "START_REPLICATION") (codes "start_replication") refl, go slot name)
   where
     behind : (timeline : Option ℕ) → IsTimeline timeline → Means (timeline_part timeline) (timeline_pieces timeline)
     behind None number = tt
-    behind (Some n) number = (keyword_means (codes "TIMELINE") (codes "timeline") refl, (number_means 1 n (omega (arith, number.0)) number.1, tt))
+    behind (Some n) number = (
+      keyword_means (codes "TIMELINE") (codes "timeline") refl,
+      (number_means 1 n (omega (arith, number.0)) number.1, tt),
+    )
 
     go : (slot : Option (List ℕ)) → IsSlotOf slot
-        → Means ((slot_part slot ++ Keyword (codes "physical") ∷ []) ++ Position at ∷ timeline_part timeline) (start_pieces slot at timeline)
+        → Means ((slot_part slot ++ Keyword (codes "physical") ∷ []) ++ Position at ∷ timeline_part timeline)
+        (start_pieces slot at timeline)
     go None name = (keyword_means (codes "PHYSICAL") (codes "physical") refl, (position_means at small, behind timeline number))
-    go (Some bytes) name = (keyword_means (codes "SLOT") (codes "slot") refl, (slot_means bytes name, (keyword_means (codes "PHYSICAL") (codes "physical") refl, (position_means at small, behind timeline number))))
+    go (Some bytes) name = (
+      keyword_means (codes "SLOT") (codes "slot") refl,
+      (
+        slot_means bytes name,
+        (
+          keyword_means (codes "PHYSICAL") (codes "physical") refl,
+          (position_means at small, behind timeline number),
+        ),
+      ),
+    )
 
 start_read : (slot : Option (List ℕ)) (at : ℕ) (timeline : Option ℕ) → IsSlotOf slot → at < 2 ^ 64 → IsTimeline timeline
     → SaysCommand (spelling (command.StartReplication slot at timeline)) (command.StartReplication slot at timeline)
@@ -149,14 +179,16 @@ start_read slot at timeline name small number =
     let named = slot_front _ _ _ slot start in
     let physical = front_word _ _ _ (word_piece (codes "PHYSICAL")) named (keyword_is_piece (codes "PHYSICAL") (omega arith) refl) in
     let placed = front_more _ _ _ (position_piece (position_text at)) physical (position_is_piece at small) in
-    written_is_read _ _ _ ((start_words slot ++ Keyword (codes "physical") ∷ []) ++ Position at ∷ timeline_part timeline) (command.StartReplication slot at timeline)
+    written_is_read _ _ _ ((start_words slot ++ Keyword (codes "physical") ∷ []) ++ Position at ∷ timeline_part timeline)
+    (command.StartReplication slot at timeline)
     (timeline_written _ _ _ timeline number placed)
     (start_means slot at timeline name small number)
     (λ said f. inr (inl f))
 
 -- ---- statements
 
-append_read : (xid : ℕ) (body : List ℕ) → xid < 2 ^ 32 → All (λ b. b < 256) body → SaysCommand (spelling (command.Append xid body)) (command.Append xid body)
+append_read : (xid : ℕ) (body : List ℕ) → xid < 2 ^ 32 → All (λ b. b < 256) body
+    → SaysCommand (spelling (command.Append xid body)) (command.Append xid body)
 append_read xid body small bytes =
     let numbered = word_and (codes "APPEND") (word_piece (decimal xid)) (omega arith) refl (number_is_piece xid (omega arith)) in
     let spaced = front_space _ _ _ numbered in
@@ -174,22 +206,43 @@ setting_is_piece setting.Off = keyword_is_piece (codes "off") (omega arith) refl
 
 commit_read : (v : Setting) → SaysCommand (spelling (command.SetCommit v)) (command.SetCommit v)
 commit_read v =
-    let set = word_and (codes "SET") (word_piece (codes "synchronous_commit")) (omega arith) refl (keyword_is_piece (codes "synchronous_commit") (omega arith) refl) in
+    let set = word_and (codes "SET") (word_piece (codes "synchronous_commit")) (omega arith) refl
+    (keyword_is_piece (codes "synchronous_commit") (omega arith) refl) in
     let equals = front_space _ _ _ (written_more _ _ _ equals_piece set equals_is_piece) in
     written_is_read _ _ _ (set_words ++ Sign kind.Equals ∷ Value v ∷ []) (command.SetCommit v)
-    (front_more _ _ _ (word_piece (setting_word v)) equals (setting_is_piece v))
-    (keyword_means (codes "SET") (codes "set") refl, (keyword_means (codes "synchronous_commit") (codes "synchronous_commit") refl, (equals_means, (setting_means v, tt))))
+    (front_more _ _ _ (word_piece (setting_word v)) equals (setting_is_piece v)) (
+      keyword_means (codes "SET") (codes "set") refl,
+      (
+        keyword_means (codes "synchronous_commit") (codes "synchronous_commit") refl,
+        (equals_means, (setting_means v, tt)),
+      ),
+    )
     (λ said f. inl f)
 
 names_means : (list : Listing) → IsListing list
-    → Means (alter_words ++ Names list ∷ []) (word_piece (codes "ALTER") ∷ word_piece (codes "SYSTEM") ∷ word_piece (codes "SET") ∷ word_piece (codes "synchronous_standby_names") ∷ equals_piece ∷ text_piece (names.spelling list) ∷ [])
-names_means list is = (keyword_means (codes "ALTER") (codes "alter") refl, (keyword_means (codes "SYSTEM") (codes "system") refl, (keyword_means (codes "SET") (codes "set") refl, (keyword_means (codes "synchronous_standby_names") (codes "synchronous_standby_names") refl, (equals_means, (list_means list is, tt))))))
+    → Means (alter_words ++ Names list ∷ []) (word_piece (codes "ALTER") ∷ word_piece (codes "SYSTEM") ∷ word_piece
+    (codes "SET") ∷ word_piece (codes "synchronous_standby_names") ∷ equals_piece ∷ text_piece (names.spelling list) ∷ [])
+names_means list is = (
+  keyword_means (codes "ALTER") (codes "alter") refl,
+  (
+    keyword_means (codes "SYSTEM") (codes "system") refl,
+    (
+      keyword_means (codes "SET") (codes "set") refl,
+      (
+        keyword_means (codes "synchronous_standby_names") (codes "synchronous_standby_names") refl,
+        (equals_means, (list_means list is, tt)),
+      ),
+    ),
+  ),
+)
 
 names_read : (list : Listing) → IsListing list → SaysCommand (spelling (command.SetNames list)) (command.SetNames list)
 names_read list is =
-    let system = word_and (codes "ALTER") (word_piece (codes "SYSTEM")) (omega arith) refl (keyword_is_piece (codes "SYSTEM") (omega arith) refl) in
+    let system = word_and (codes "ALTER") (word_piece (codes "SYSTEM")) (omega arith) refl
+    (keyword_is_piece (codes "SYSTEM") (omega arith) refl) in
     let set = written_more _ _ _ (word_piece (codes "SET")) system (keyword_is_piece (codes "SET") (omega arith) refl) in
-    let name = written_more _ _ _ (word_piece (codes "synchronous_standby_names")) set (keyword_is_piece (codes "synchronous_standby_names") (omega arith) refl) in
+    let name = written_more _ _ _ (word_piece (codes "synchronous_standby_names")) set
+    (keyword_is_piece (codes "synchronous_standby_names") (omega arith) refl) in
     let equals = front_space _ _ _ (written_more _ _ _ equals_piece name equals_is_piece) in
     written_is_read _ _ _ (alter_words ++ Names list ∷ []) (command.SetNames list)
     (front_more _ _ _ (text_piece (names.spelling list)) equals (text_is_piece (names.spelling list)))
@@ -199,7 +252,8 @@ names_read list is =
 -- ---- each command
 
 pub spelling_read : (c : Command) → IsCommand c → SaysCommand (spelling c) c
-spelling_read command.IdentifySystem is = keyword_read (codes "IDENTIFY_SYSTEM") (codes "identify_system") command.IdentifySystem (omega arith) refl refl refl
+spelling_read command.IdentifySystem is = keyword_read (codes "IDENTIFY_SYSTEM") (codes "identify_system") command.IdentifySystem
+    (omega arith) refl refl refl
 spelling_read (command.Show name) is = show_read name is
 spelling_read (command.TimelineHistory n) is = history_read n is.0 is.1
 spelling_read (command.CreateSlot name temporary reserve) is = create_read name temporary reserve is

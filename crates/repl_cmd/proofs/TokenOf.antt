@@ -33,10 +33,12 @@ token_of k text place = record { kind = k; place = place; text = text }
 abbrev pub IsToken : Kind → List ℕ → List ℕ → List ℕ → Type 0
 IsToken k text spelled behind = IsTokenAs command_class command_token (token_of k text) spelled behind
 
-read_next : (at : ℕ) (blanks spelled behind : List ℕ) (k : Kind) (text : List ℕ) (tokens : List Lexeme) → All (λ c. is_blank (command_class c) ≡ true) blanks
+read_next : (at : ℕ) (blanks spelled behind : List ℕ) (k : Kind) (text : List ℕ) (tokens : List Lexeme)
+    → All (λ c. is_blank (command_class c) ≡ true) blanks
     → IsToken k text spelled behind → Reads (at + length blanks + length spelled) behind tokens
     → Reads at (blanks ++ spelled ++ behind) (token_of k text (at + length blanks) ∷ tokens)
-read_next at blanks spelled behind k text tokens blank is reads = written.read_next command_class command_token at blanks spelled behind (token_of k text) tokens blank is reads
+read_next at blanks spelled behind k text tokens blank is reads = written.read_next command_class command_token at blanks spelled behind
+    (token_of k text) tokens blank is reads
 
 no_blank : All (λ c. is_blank (command_class c) ≡ true) []
 no_blank = written.no_blank command_class
@@ -52,15 +54,21 @@ run_class c e =
     cond-false (is_space c) _ _ no_space ∙ cond-true (is_run_byte c) _ _ e
 
 run_is_inside : (run : List ℕ) → All (λ c. is_run_byte c ≡ true) run → All (λ c. is_inside (command_class c) ≡ true) run
-run_is_inside run h = All-weaker (λ c. is_run_byte c ≡ true) (λ c. is_inside (command_class c) ≡ true) (λ c e. ap is_inside (run_class c e)) run h
+run_is_inside run h = All-weaker (λ c. is_run_byte c ≡ true) (λ c. is_inside (command_class c) ≡ true)
+    (λ c e. ap is_inside (run_class c e)) run h
 
 -- a run, of which there is some, and no more behind it
-run_token : (k : Kind) (run behind : List ℕ) → 0 < length run → All (λ c. is_run_byte c ≡ true) run → EndsBefore (λ c. is_inside (command_class c)) behind
+run_token : (k : Kind) (run behind : List ℕ) → 0 < length run → All (λ c. is_run_byte c ≡ true) run
+    → EndsBefore (λ c. is_inside (command_class c)) behind
     → run_kind run ≡ k → IsToken k run run behind
 run_token k run behind some bytes ends is = record {
   kind = raw.Word;
   text = run;
-  is = (refl, run_of command_class class.Letter is_inside run behind some (run_class (get_or run 0 0) (bytes 0 0 some)) (run_is_inside run bytes) ends);
+  is = (
+    refl,
+    run_of command_class class.Letter is_inside run behind some (run_class (get_or run 0 0) (bytes 0 0 some))
+        (run_is_inside run bytes) ends,
+  );
   means = λ place. ap (λ l. token_of l run place) is;
 }
 
@@ -74,28 +82,41 @@ no_slash : (c : ℕ) → is_word_byte c ≡ true → (c == 47) ≡ false
 no_slash c e = grind (arith, nat_tests)
 
 -- bytes of words, of which there are some
-pub word_token : (word behind : List ℕ) → 0 < length word → All (λ c. is_word_byte c ≡ true) word → EndsBefore (λ c. is_inside (command_class c)) behind
+pub word_token : (word behind : List ℕ) → 0 < length word → All (λ c. is_word_byte c ≡ true) word
+    → EndsBefore (λ c. is_inside (command_class c)) behind
     → IsToken kind.Word word word behind
 word_token word behind some bytes ends =
     let none = list_any_none (λ c. c == 47) word (All-weaker (λ c. is_word_byte c ≡ true) (λ c. (c == 47) ≡ false) no_slash word bytes) in
     run_token kind.Word word behind some (word_is_run word bytes) ends (cond-false (list_any (λ c. c == 47) word) _ _ none)
 
 slash_in : (high low : List ℕ) → list_any (λ c. c == 47) (high ++ 47 ∷ low) ≡ true
-slash_in high low = list_any-append (λ c. c == 47) high (47 ∷ low) ∙ or_right (list_any (λ c. c == 47) high) (list_any (λ c. c == 47) (47 ∷ low)) refl
+slash_in high low = list_any-append (λ c. c == 47) high (47 ∷ low)
+    ∙ or_right (list_any (λ c. c == 47) high) (list_any (λ c. c == 47) (47 ∷ low)) refl
 
 -- bytes of words with a slash between them
 pub position_token : (high low behind : List ℕ) → All (λ c. is_word_byte c ≡ true) high → All (λ c. is_word_byte c ≡ true) low
     → EndsBefore (λ c. is_inside (command_class c)) behind → IsToken kind.Position (high ++ 47 ∷ low) (high ++ 47 ∷ low) behind
 position_token high low behind above below ends =
-    let bytes = All-append (λ c. is_run_byte c ≡ true) high (47 ∷ low) (word_is_run high above) (All-cons (λ c. is_run_byte c ≡ true) 47 low refl (word_is_run low below)) in
+    let bytes = All-append (λ c. is_run_byte c ≡ true) high (47 ∷ low) (word_is_run high above)
+    (All-cons (λ c. is_run_byte c ≡ true) 47 low refl (word_is_run low below)) in
     run_token kind.Position (high ++ 47 ∷ low) behind (omega (arith, length-append high (47 ∷ low))) bytes ends
     (cond-true (list_any (λ c. c == 47) (high ++ 47 ∷ low)) _ _ (slash_in high low))
 
 pub name_token : (name behind : List ℕ) → EndsBefore (λ c. c == 34) behind → IsToken kind.Name name (quoted 34 name) behind
-name_token name behind ends = record { kind = raw.Quoted 34; text = name; is = (refl, record { spelled = refl; ends = ends }); means = λ place. refl }
+name_token name behind ends = record {
+  kind = raw.Quoted 34;
+  text = name;
+  is = (refl, record { spelled = refl; ends = ends });
+  means = λ place. refl;
+}
 
 pub text_token : (text behind : List ℕ) → EndsBefore (λ c. c == 39) behind → IsToken kind.Text text (quoted 39 text) behind
-text_token text behind ends = record { kind = raw.Quoted 39; text = text; is = (refl, record { spelled = refl; ends = ends }); means = λ place. refl }
+text_token text behind ends = record {
+  kind = raw.Quoted 39;
+  text = text;
+  is = (refl, record { spelled = refl; ends = ends });
+  means = λ place. refl;
+}
 
 pub equals_token : (behind : List ℕ) → IsToken kind.Equals [] (codes "=") behind
 equals_token behind = record { kind = raw.Alone 61; text = []; is = (refl, refl, refl); means = λ place. refl }
@@ -128,7 +149,8 @@ spaced p (q ∷ qs) = p.spelled ++ 32 ∷ spaced q qs
 -- more tokens
 pub spaced_append : (p : Piece) (ps : List Piece) (q : Piece) (qs : List Piece) → spaced p (ps ++ q ∷ qs) ≡ spaced p ps ++ 32 ∷ spaced q qs
 spaced_append p [] q qs = refl
-spaced_append p (r ∷ rs) q qs = ap (λ rest. p.spelled ++ 32 ∷ rest) (spaced_append r rs q qs) ∙ sym (append_assoc p.spelled (32 ∷ spaced r rs) (32 ∷ spaced q qs))
+spaced_append p (r ∷ rs) q qs = ap (λ rest. p.spelled ++ 32 ∷ rest) (spaced_append r rs q qs)
+    ∙ sym (append_assoc p.spelled (32 ∷ spaced r rs) (32 ∷ spaced q qs))
 
 pub are_append : (ps qs : List Piece) → ArePieces ps → ArePieces qs → ArePieces (ps ++ qs)
 are_append [] qs a b = b
@@ -140,13 +162,17 @@ tokens_from at p [] = record { kind = p.kind; place = at; text = p.text } ∷ []
 tokens_from at p (q ∷ qs) = record { kind = p.kind; place = at; text = p.text } ∷ tokens_from (at + length p.spelled + 1) q qs
 
 -- such a text has these tokens
-pub spaced_reads : (at : ℕ) (blanks : List ℕ) (p : Piece) (ps : List Piece) → All (λ c. is_blank (command_class c) ≡ true) blanks → ArePieces (p ∷ ps) → Reads at (blanks ++ spaced p ps) (tokens_from (at + length blanks) p ps)
-spaced_reads at blanks p [] blank are = read_last command_class command_token at blanks p.spelled (token_of p.kind p.text) blank (are.0 [] tt)
+pub spaced_reads : (at : ℕ) (blanks : List ℕ) (p : Piece) (ps : List Piece) → All (λ c. is_blank (command_class c) ≡ true) blanks
+    → ArePieces (p ∷ ps) → Reads at (blanks ++ spaced p ps) (tokens_from (at + length blanks) p ps)
+spaced_reads at blanks p [] blank are = read_last command_class command_token at blanks p.spelled (token_of p.kind p.text) blank
+    (are.0 [] tt)
 spaced_reads at blanks p (q ∷ qs) blank are =
     let end : ℕ = at + length blanks + length p.spelled in
     let others = spaced_reads end (32 ∷ []) q qs one_space are.1 in
-    subst (λ (bytes : List ℕ). Reads at bytes (tokens_from (at + length blanks) p (q ∷ qs))) (append_assoc blanks p.spelled (32 ∷ spaced q qs))
-    (read_next at blanks p.spelled (32 ∷ spaced q qs) p.kind p.text (tokens_from (end + 1) q qs) blank (are.0 (32 ∷ spaced q qs) refl) others)
+    subst (λ (bytes : List ℕ). Reads at bytes (tokens_from (at + length blanks) p (q ∷ qs)))
+    (append_assoc blanks p.spelled (32 ∷ spaced q qs))
+    (read_next at blanks p.spelled (32 ∷ spaced q qs) p.kind p.text (tokens_from (end + 1) q qs) blank
+    (are.0 (32 ∷ spaced q qs) refl) others)
 
 -- a text from its first byte on
 pub text_reads : (p : Piece) (ps : List Piece) → ArePieces (p ∷ ps) → Reads 0 (spaced p ps) (tokens_from 0 p ps)
@@ -163,7 +189,8 @@ pub written_first : (p : Piece) → IsPiece p → IsWritten p.spelled p []
 written_first p is = record { spelled = refl; pieces = (is, tt) }
 
 -- a space and one more token
-pub written_more : (text : List ℕ) (p : Piece) (ps : List Piece) (q : Piece) → IsWritten text p ps → IsPiece q → IsWritten (text ++ 32 ∷ q.spelled) p (ps ++ q ∷ [])
+pub written_more : (text : List ℕ) (p : Piece) (ps : List Piece) (q : Piece) → IsWritten text p ps → IsPiece q
+    → IsWritten (text ++ 32 ∷ q.spelled) p (ps ++ q ∷ [])
 written_more text p ps q h is = record {
   spelled = ap (λ front. front ++ 32 ∷ q.spelled) h.spelled ∙ sym (spaced_append p ps q []);
   pieces = are_append (p ∷ ps) (q ∷ []) h.pieces (is, tt);
@@ -188,14 +215,16 @@ pub record IsFront (text : List ℕ) (p : Piece) (ps : List Piece) : Type 0 wher
 pub front_space : (text : List ℕ) (p : Piece) (ps : List Piece) → IsWritten text p ps → IsFront (text ++ 32 ∷ []) p ps
 front_space text p ps h = record { spelled = ap (λ front. front ++ 32 ∷ []) h.spelled; pieces = h.pieces }
 
-pub front_more : (text : List ℕ) (p : Piece) (ps : List Piece) (q : Piece) → IsFront text p ps → IsPiece q → IsWritten (text ++ q.spelled) p (ps ++ q ∷ [])
+pub front_more : (text : List ℕ) (p : Piece) (ps : List Piece) (q : Piece) → IsFront text p ps → IsPiece q
+    → IsWritten (text ++ q.spelled) p (ps ++ q ∷ [])
 front_more text p ps q h is = record {
   spelled = ap (λ front. front ++ q.spelled) h.spelled ∙ append_assoc (spaced p ps) (32 ∷ []) q.spelled ∙ sym (spaced_append p ps q []);
   pieces = are_append (p ∷ ps) (q ∷ []) h.pieces (is, tt);
 }
 
 -- one more token and a space
-pub front_word : (text : List ℕ) (p : Piece) (ps : List Piece) (q : Piece) → IsFront text p ps → IsPiece q → IsFront (text ++ (q.spelled ++ 32 ∷ [])) p (ps ++ q ∷ [])
+pub front_word : (text : List ℕ) (p : Piece) (ps : List Piece) (q : Piece) → IsFront text p ps → IsPiece q
+    → IsFront (text ++ (q.spelled ++ 32 ∷ [])) p (ps ++ q ∷ [])
 front_word text p ps q h is =
     let more = front_more text p ps q h is in
     record { spelled = sym (append_assoc text q.spelled (32 ∷ [])) ∙ ap (λ front. front ++ 32 ∷ []) more.spelled; pieces = more.pieces }
@@ -223,7 +252,8 @@ text_piece text = record { kind = kind.Text; text = text; spelled = quoted 39 te
 abbrev pub equals_piece : Piece
 equals_piece = record { kind = kind.Equals; text = []; spelled = codes "=" }
 
-apart_ends : (test : ℕ → Bool) → ((c : ℕ) → is_blank (command_class c) ≡ true → test c ≡ false) → (behind : List ℕ) → IsApart behind → EndsBefore test behind
+apart_ends : (test : ℕ → Bool) → ((c : ℕ) → is_blank (command_class c) ≡ true → test c ≡ false) → (behind : List ℕ) → IsApart behind
+    → EndsBefore test behind
 apart_ends test blank [] apart = tt
 apart_ends test blank (c ∷ behind) apart = blank c apart
 
@@ -244,7 +274,8 @@ blank_no_quote : (c quote : ℕ) → is_blank (command_class quote) ≡ false �
 blank_no_quote c quote none e = ne_eqb c quote (λ same. true≢false (sym e ∙ ap (λ b. is_blank (command_class b)) same ∙ none))
 
 pub word_is_piece : (word : List ℕ) → 0 < length word → All (λ c. is_word_byte c ≡ true) word → IsPiece (word_piece word)
-word_is_piece word some bytes = λ behind apart. word_token word behind some bytes (apart_ends (λ c. is_inside (command_class c)) blank_no_run behind apart)
+word_is_piece word some bytes = λ behind apart. word_token word behind some bytes
+    (apart_ends (λ c. is_inside (command_class c)) blank_no_run behind apart)
 
 -- a test of a keyword, which computes
 abbrev pub all_word_bytes : List ℕ → Bool
@@ -253,7 +284,8 @@ all_word_bytes (c ∷ cs) = is_word_byte c && all_word_bytes cs
 
 word_bytes_pass : (word : List ℕ) → all_word_bytes word ≡ true → All (λ c. is_word_byte c ≡ true) word
 word_bytes_pass [] e = All-nil (λ c. is_word_byte c ≡ true)
-word_bytes_pass (c ∷ cs) e = All-cons (λ c. is_word_byte c ≡ true) c cs (and_parts (is_word_byte c) (all_word_bytes cs) e).0 (word_bytes_pass cs (and_parts (is_word_byte c) (all_word_bytes cs) e).1)
+word_bytes_pass (c ∷ cs) e = All-cons (λ c. is_word_byte c ≡ true) c cs (and_parts (is_word_byte c) (all_word_bytes cs) e).0
+    (word_bytes_pass cs (and_parts (is_word_byte c) (all_word_bytes cs) e).1)
 
 pub keyword_is_piece : (word : List ℕ) → 0 < length word → all_word_bytes word ≡ true → IsPiece (word_piece word)
 keyword_is_piece word some e = word_is_piece word some (word_bytes_pass word e)
@@ -264,16 +296,20 @@ digit_is_word_byte c h = grind (arith, nat_tests)
 -- digits in a base up to sixteen
 pub digits_are_word_bytes : (base : ℕ) (ds : List ℕ) → base ≤ 16 → AllDigits base ds → All (λ c. is_word_byte c ≡ true) ds
 digits_are_word_bytes base [] few h = All-nil (λ c. is_word_byte c ≡ true)
-digits_are_word_bytes base (c ∷ cs) few h = All-cons (λ c. is_word_byte c ≡ true) c cs (digit_is_word_byte c (omega (arith, h.0))) (digits_are_word_bytes base cs few h.1)
+digits_are_word_bytes base (c ∷ cs) few h = All-cons (λ c. is_word_byte c ≡ true) c cs (digit_is_word_byte c (omega (arith, h.0)))
+    (digits_are_word_bytes base cs few h.1)
 
 pub number_is_piece : (n : ℕ) → n < 2 ^ 64 → IsPiece (word_piece (decimal n))
-number_is_piece n small = word_is_piece (decimal n) (decimal_nonempty n small) (digits_are_word_bytes 10 (decimal n) (omega arith) (decimal_is_IsNumeral n small).0.1)
+number_is_piece n small = word_is_piece (decimal n) (decimal_nonempty n small)
+    (digits_are_word_bytes 10 (decimal n) (omega arith) (decimal_is_IsNumeral n small).0.1)
 
 pub position_is_piece : (at : ℕ) → at < 2 ^ 64 → IsPiece (position_piece (position_text at))
 position_is_piece at small = λ behind apart.
     let s = position_text_spells at small in
     subst (λ (text : List ℕ). IsToken kind.Position text text behind) (sym s.parts)
-    (position_token s.high s.low behind (digits_are_word_bytes 16 s.high (omega arith) s.high_is.hexadecimal) (digits_are_word_bytes 16 s.low (omega arith) s.low_is.hexadecimal) (apart_ends (λ c. is_inside (command_class c)) blank_no_run behind apart))
+    (position_token s.high s.low behind (digits_are_word_bytes 16 s.high (omega arith) s.high_is.hexadecimal)
+    (digits_are_word_bytes 16 s.low (omega arith) s.low_is.hexadecimal)
+    (apart_ends (λ c. is_inside (command_class c)) blank_no_run behind apart))
 
 pub name_is_piece : (name : List ℕ) → IsPiece (name_piece name)
 name_is_piece name = λ behind apart. name_token name behind (apart_ends (λ c. c == 34) (λ c e. blank_no_quote c 34 refl e) behind apart)

@@ -24,7 +24,8 @@ small_byte : (c : ℕ) → (0 < c) × (c < 256) → (0 < to_ascii_lowercase c) �
 small_byte c h = grind (arith, nat_tests)
 
 small_text : (name : List ℕ) → IsText name → IsText (map to_ascii_lowercase name)
-small_text name h = All-map (λ (b : ℕ). (0 < b) × (b < 256)) to_ascii_lowercase name (All-weaker (λ (b : ℕ). (0 < b) × (b < 256)) (λ (b : ℕ). (0 < to_ascii_lowercase b) × (to_ascii_lowercase b < 256)) small_byte name h)
+small_text name h = All-map (λ (b : ℕ). (0 < b) × (b < 256)) to_ascii_lowercase name
+    (All-weaker (λ (b : ℕ). (0 < b) × (b < 256)) (λ (b : ℕ). (0 < to_ascii_lowercase b) × (to_ascii_lowercase b < 256)) small_byte name h)
 
 parameter_name : (name : List ℕ) (t : Lexeme) → IsParameter name t → IsParameterName name
 parameter_name name t h = subst IsParameterName (sym h.written) (record { text = small_text t.text h.text; small = small_small t.text })
@@ -61,44 +62,54 @@ said_slot name (t, h) = h.is_name
 said_number : (n : ℕ) → Said (Number 1 n) → (0 < n) × (n < 2 ^ 32)
 said_number n (t, h) = number_fits n t h
 
-created_slot : (name : List ℕ) (temporary : Bool) (behind : List (List Part)) (ts : List Lexeme) → OneOf (map (λ ps. create_physical name temporary ++ ps) behind) ts → Said (Slot name)
+created_slot : (name : List ℕ) (temporary : Bool) (behind : List (List Part)) (ts : List Lexeme)
+    → OneOf (map (λ ps. create_physical name temporary ++ ps) behind) ts → Said (Slot name)
 created_slot name temporary [] ts h = absurd h
-created_slot name temporary (ps ∷ behind) ts (inl f) = said (Keyword (codes "create_replication_slot") ∷ []) (Slot name) ((temporary_part temporary ++ Keyword (codes "physical") ∷ []) ++ ps) ts f
+created_slot name temporary (ps ∷ behind) ts (inl f) = said (Keyword (codes "create_replication_slot") ∷ []) (Slot name)
+    ((temporary_part temporary ++ Keyword (codes "physical") ∷ []) ++ ps) ts f
 created_slot name temporary (ps ∷ behind) ts (inr h) = created_slot name temporary behind ts h
 
 started_slot : (slot : Option (List ℕ)) (ps : List Part) (ts : List Lexeme) → Follow (start_words slot ++ ps) ts → IsSlotOf slot
 started_slot None ps ts f = tt
-started_slot (Some name) ps ts f = said_slot name (said (Keyword (codes "start_replication") ∷ Keyword (codes "slot") ∷ []) (Slot name) ps ts f)
+started_slot (Some name) ps ts f = said_slot name (said (Keyword (codes "start_replication") ∷ Keyword (codes "slot") ∷ [])
+    (Slot name) ps ts f)
 
 -- the timeline behind these parts
-timeline_fits : (front : List Part) (timeline : Option ℕ) (ts : List Lexeme) → Follow (front ++ timeline_part timeline) ts → IsTimeline timeline
+timeline_fits : (front : List Part) (timeline : Option ℕ) (ts : List Lexeme) → Follow (front ++ timeline_part timeline) ts
+    → IsTimeline timeline
 timeline_fits front None ts f = tt
 timeline_fits [] (Some n) ts f = said_number n (said (Keyword (codes "timeline") ∷ []) (Number 1 n) [] ts f)
 timeline_fits (p ∷ front) (Some n) [] f = absurd f
 timeline_fits (p ∷ front) (Some n) (t ∷ ts) f = timeline_fits front (Some n) ts f.1
 
-started_position : (front : List Part) (at : ℕ) (timeline : Option ℕ) (ts : List Lexeme) → Follow (front ++ Position at ∷ timeline_part timeline) ts → (at < 2 ^ 64) × IsTimeline timeline
+started_position : (front : List Part) (at : ℕ) (timeline : Option ℕ) (ts : List Lexeme)
+    → Follow (front ++ Position at ∷ timeline_part timeline) ts → (at < 2 ^ 64) × IsTimeline timeline
 started_position [] at timeline [] f = absurd f
 started_position [] at timeline (t ∷ ts) f = (place_fits at t f.0, timeline_fits [] timeline ts f.1)
 started_position (p ∷ front) at timeline [] f = absurd f
 started_position (p ∷ front) at timeline (t ∷ ts) f = started_position front at timeline ts f.1
 
 -- the parts of the physical form but for those behind it
-physical_slot : (slot : Option (List ℕ)) (ps : List Part) (ts : List Lexeme) → Follow ((start_words slot ++ Keyword (codes "physical") ∷ []) ++ ps) ts → IsSlotOf slot
+physical_slot : (slot : Option (List ℕ)) (ps : List Part) (ts : List Lexeme)
+    → Follow ((start_words slot ++ Keyword (codes "physical") ∷ []) ++ ps) ts → IsSlotOf slot
 physical_slot slot ps ts f = started_slot slot (Keyword (codes "physical") ∷ ps) ts (physical_forms slot ps ts f)
 
-stream_command : (slot : Option (List ℕ)) (at : ℕ) (timeline : Option ℕ) (ts : List Lexeme) → OneOf (forms (command.StartReplication slot at timeline)) ts → IsCommand (command.StartReplication slot at timeline)
-stream_command slot at timeline ts (inl f) = let p = started_position (start_words slot) at timeline ts f in (started_slot slot (Position at ∷ timeline_part timeline) ts f, p.0, p.1)
+stream_command : (slot : Option (List ℕ)) (at : ℕ) (timeline : Option ℕ) (ts : List Lexeme)
+    → OneOf (forms (command.StartReplication slot at timeline)) ts → IsCommand (command.StartReplication slot at timeline)
+stream_command slot at timeline ts (inl f) = let p = started_position (start_words slot) at timeline ts f in
+    (started_slot slot (Position at ∷ timeline_part timeline) ts f, p.0, p.1)
 stream_command slot at timeline ts (inr (inl f)) =
     let p = started_position (start_words slot ++ Keyword (codes "physical") ∷ []) at timeline ts f in
     (physical_slot slot (Position at ∷ timeline_part timeline) ts f, p.0, p.1)
 stream_command slot at timeline ts (inr (inr f)) = absurd f
 
 form_command : (c : Command) (ts : List Lexeme) → OneOf (forms c) ts → IsCommand c
-form_command (command.Show name) ts (inl f) = let s = said (Keyword (codes "show") ∷ []) (Parameter name) [] ts f in parameter_name name s.0 s.1
+form_command (command.Show name) ts (inl f) = let s = said (Keyword (codes "show") ∷ [])
+    (Parameter name) [] ts f in parameter_name name s.0 s.1
 form_command (command.TimelineHistory n) ts (inl f) = said_number n (said (Keyword (codes "timeline_history") ∷ []) (Number 1 n) [] ts f)
 form_command (command.CreateSlot name temporary reserve) ts f = said_slot name (created_slot name temporary (reserve_forms reserve) ts f)
-form_command (command.DropSlot name wait) ts (inl f) = said_slot name (said (Keyword (codes "drop_replication_slot") ∷ []) (Slot name) (wait_part wait) ts f)
+form_command (command.DropSlot name wait) ts (inl f) = said_slot name (said (Keyword (codes "drop_replication_slot") ∷ []) (Slot name)
+    (wait_part wait) ts f)
 form_command (command.ReadSlot name) ts (inl f) = said_slot name (said (Keyword (codes "read_replication_slot") ∷ []) (Slot name) [] ts f)
 form_command (command.StartReplication slot at timeline) ts f = stream_command slot at timeline ts f
 form_command (command.Append xid body) ts (inl f) =

@@ -40,7 +40,12 @@ word text = token kind.Word text
 a_slot : IsSlot (codes "a") (word (codes "a"))
 a_slot = record {
   written = inl (refl, refl);
-  is_name = record { some = omega arith; short = omega arith; bytes = All-cons (λ c. is_slot_byte c ≡ true) 97 [] refl (All-nil (λ c. is_slot_byte c ≡ true)) };
+  is_name = record {
+    some = omega arith;
+    short = omega arith;
+    bytes = All-cons (λ c. is_slot_byte c ≡ true) 97 [] refl
+        (All-nil (λ c. is_slot_byte c ≡ true));
+  };
 }
 
 a_parameter : IsParameter (codes "a") (word (codes "a"))
@@ -106,7 +111,8 @@ streamed_ends : (slot : Option (List ℕ)) (at : ℕ) → Ends (state.Streamed s
 streamed_ends slot at = here (state.Streamed slot at) (command.StartReplication slot at None) refl
 
 stream_named_ends : (name : List ℕ) → Ends (state.StreamNamed name)
-stream_named_ends name = by (token kind.Position (codes "0/0")) _ (state.Streamed (Some name) 0) (inr (0, a_position, refl)) (streamed_ends (Some name) 0)
+stream_named_ends name = by (token kind.Position (codes "0/0")) _ (state.Streamed (Some name) 0) (inr (0, a_position, refl))
+    (streamed_ends (Some name) 0)
 
 value_ends : Ends state.SetValue
 value_ends = to_done (word (codes "on")) _ (command.SetCommit setting.On) (setting.On, (inl refl, refl), refl)
@@ -132,22 +138,32 @@ ends_from state.Show = to_done (word (codes "a")) _ (command.Show (codes "a")) (
 ends_from state.History = to_done (word (codes "1")) _ (command.TimelineHistory 1) (1, a_number 1 (omega arith), refl)
 ends_from state.Create = by (word (codes "a")) _ (state.CreateNamed (codes "a")) (codes "a", a_slot, refl) (named_ends (codes "a"))
 ends_from (state.CreateNamed name) = named_ends name
-ends_from (state.CreateTemporary name) = by (word (codes "physical")) _ (state.Created name true) ((refl, refl), refl) (created_ends name true)
+ends_from (state.CreateTemporary name) = by (word (codes "physical")) _ (state.Created name true) ((refl, refl), refl)
+    (created_ends name true)
 ends_from (state.Created name temporary) = created_ends name temporary
 ends_from (state.CreateOpened name temporary) =
-    by (word (codes "reserve_wal")) _ (state.CreateOption name temporary) ((refl, refl), refl) (to_done (token kind.Closing []) _ (command.CreateSlot name temporary true) (inl (refl, refl)))
-ends_from (state.CreateOption name temporary) = to_done (token kind.Closing []) _ (command.CreateSlot name temporary true) (inl (refl, refl))
-ends_from (state.CreateValued name temporary reserve) = to_done (token kind.Closing []) _ (command.CreateSlot name temporary reserve) (refl, refl)
-ends_from state.DropSlot = by (word (codes "a")) _ (state.Dropped (codes "a")) (codes "a", a_slot, refl) (here (state.Dropped (codes "a")) (command.DropSlot (codes "a") false) refl)
+    by (word (codes "reserve_wal")) _ (state.CreateOption name temporary) ((refl, refl), refl)
+    (to_done (token kind.Closing []) _ (command.CreateSlot name temporary true) (inl (refl, refl)))
+ends_from (state.CreateOption name temporary) = to_done (token kind.Closing []) _ (command.CreateSlot name temporary true)
+    (inl (refl, refl))
+ends_from (state.CreateValued name temporary reserve) = to_done (token kind.Closing []) _ (command.CreateSlot name temporary reserve)
+    (refl, refl)
+ends_from state.DropSlot = by (word (codes "a")) _ (state.Dropped (codes "a")) (codes "a", a_slot, refl)
+    (here (state.Dropped (codes "a")) (command.DropSlot (codes "a") false) refl)
 ends_from (state.Dropped name) = here (state.Dropped name) (command.DropSlot name false) refl
 ends_from state.ReadSlot = to_done (word (codes "a")) _ (command.ReadSlot (codes "a")) (codes "a", a_slot, refl)
-ends_from state.Stream = by (token kind.Position (codes "0/0")) _ (state.Streamed None 0) (inr (inr (0, a_position, refl))) (streamed_ends None 0)
-ends_from state.StreamSlot = by (word (codes "a")) _ (state.StreamNamed (codes "a")) (codes "a", a_slot, refl) (stream_named_ends (codes "a"))
+ends_from state.Stream = by (token kind.Position (codes "0/0")) _ (state.Streamed None 0) (inr (inr (0, a_position, refl)))
+    (streamed_ends None 0)
+ends_from state.StreamSlot = by (word (codes "a")) _ (state.StreamNamed (codes "a")) (codes "a", a_slot, refl)
+    (stream_named_ends (codes "a"))
 ends_from (state.StreamNamed name) = stream_named_ends name
-ends_from (state.StreamPhysical slot) = by (token kind.Position (codes "0/0")) _ (state.Streamed slot 0) (0, a_position, refl) (streamed_ends slot 0)
+ends_from (state.StreamPhysical slot) = by (token kind.Position (codes "0/0")) _ (state.Streamed slot 0) (0, a_position, refl)
+    (streamed_ends slot 0)
 ends_from (state.Streamed slot at) = streamed_ends slot at
-ends_from (state.StreamTimeline slot at) = to_done (word (codes "1")) _ (command.StartReplication slot at (Some 1)) (1, a_number 1 (omega arith), refl)
-ends_from state.Append = by (word (codes "1")) _ (state.AppendBody 1) (1, a_number 0 (omega arith), refl) (to_done (token kind.Text []) _ (command.Append 1 []) ([], a_body, refl))
+ends_from (state.StreamTimeline slot at) = to_done (word (codes "1")) _ (command.StartReplication slot at (Some 1))
+    (1, a_number 1 (omega arith), refl)
+ends_from state.Append = by (word (codes "1")) _ (state.AppendBody 1) (1, a_number 0 (omega arith), refl)
+    (to_done (token kind.Text []) _ (command.Append 1 []) ([], a_body, refl))
 ends_from (state.AppendBody n) = to_done (token kind.Text []) _ (command.Append n []) ([], a_body, refl)
 ends_from state.Set = by (word (codes "synchronous_commit")) _ state.SetCommit ((refl, refl), refl) commit_ends
 ends_from state.SetCommit = commit_ends
@@ -181,7 +197,11 @@ pub record Arrives (ts : List Lexeme) (c : Command) : Type 0 where
   pub ends : finish at ≡ Some c
 
 arrives : (said ending : List Lexeme) (c : Command) → IsEnding ending → Comes said c → Arrives (said ++ ending) c
-arrives said [] c e h = record { at = h.at; runs = subst (λ (ts : List Lexeme). Runs state.Start ts h.at) (sym (append-nil said)) h.runs; ends = finishes h.at c h.ends }
+arrives said [] c e h = record {
+  at = h.at;
+  runs = subst (λ (ts : List Lexeme). Runs state.Start ts h.at) (sym (append-nil said)) h.runs;
+  ends = finishes h.at c h.ends;
+}
 arrives said (t ∷ []) c e h = record {
   at = state.Ended c;
   runs = run_append state.Start h.at (state.Ended c) said (t ∷ []) h.runs (state.Ended c, close h.at c t h.ends e, refl);
@@ -190,20 +210,30 @@ arrives said (t ∷ []) c e h = record {
 arrives said (t ∷ u ∷ ts) c e h = absurd e
 
 pub says_arrives : (tokens : List Lexeme) (c : Command) → Says tokens c → Arrives tokens c
-says_arrives tokens c says = subst (λ (ts : List Lexeme). Arrives ts c) (sym says.parts) (arrives says.said says.ending c says.ends (form_comes c says.said says.is_said))
+says_arrives tokens c says = subst (λ (ts : List Lexeme). Arrives ts c) (sym says.parts)
+    (arrives says.said says.ending c says.ends (form_comes c says.said says.is_said))
 
 pub run_goes_on : (before : List Lexeme) (s : State) → Runs state.Start before s → Begins IsSaid before
-run_goes_on before s run = let e = ends_from s in (e.more, (e.c, run_says (before ++ e.more) e.at e.c (run_append state.Start s e.at before e.more run e.runs) e.ends))
+run_goes_on before s run = let e = ends_from s in (
+  e.more,
+  (
+    e.c,
+    run_says (before ++ e.more) e.at e.c
+        (run_append state.Start s e.at before e.more run e.runs) e.ends,
+  ),
+)
 
 -- nothing behind the token mends it
-pub stuck_unsaid : (before behind : List Lexeme) (t : Lexeme) (s : State) → Runs state.Start before s → IsStuck s t → ¬ IsSaid (before ++ t ∷ behind)
+pub stuck_unsaid : (before behind : List Lexeme) (t : Lexeme) (s : State) → Runs state.Start before s → IsStuck s t
+    → ¬ IsSaid (before ++ t ∷ behind)
 stuck_unsaid before behind t s run stuck (c, says) =
     let h = says_arrives (before ++ t ∷ behind) c says in
     let parts = run_split state.Start h.at before (t ∷ behind) h.runs in
     let same : parts.0 ≡ s = one_run state.Start parts.0 s before parts.1 run in
     stuck parts.2.0 (subst (λ (a : State). Steps a t parts.2.0) same parts.2.1)
 
-pub stuck_stops_at : (before behind : List Lexeme) (t : Lexeme) (s : State) → Runs state.Start before s → IsStuck s t → StopsAt IsSaid (before ++ t ∷ behind) (length before)
+pub stuck_stops_at : (before behind : List Lexeme) (t : Lexeme) (s : State) → Runs state.Start before s → IsStuck s t
+    → StopsAt IsSaid (before ++ t ∷ behind) (length before)
 stuck_stops_at before behind t s run stuck = record {
   within = omega (arith, length-append before (t ∷ behind));
   refused = stuck_unsaid before behind t s run stuck;

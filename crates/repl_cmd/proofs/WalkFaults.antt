@@ -18,8 +18,10 @@ use Rattle.repl_cmd.proofs.WalkReached.{Reached, reached, sole}
 -- ---- what is wanted behind the tokens is wanted in the state
 
 -- the state behind the tokens is the one behind their form
-known : (test : State → Bool) (form : List Part) (a s : State) (before : List Lexeme) → test a ≡ true → Leads state.Start form a → Runs state.Start before s → Follow form before → test s ≡ true
-known test form a s before is leads run f = subst (λ (b : State). test b ≡ true) (one_run state.Start a s before (leads.runs before f) run) is
+known : (test : State → Bool) (form : List Part) (a s : State) (before : List Lexeme) → test a ≡ true → Leads state.Start form a
+    → Runs state.Start before s → Follow form before → test s ≡ true
+known test form a s before is leads run f = subst (λ (b : State). test b ≡ true)
+    (one_run state.Start a s before (leads.runs before f) run) is
 
 named : (name : List ℕ) → Leads state.Start (create_words name false) (state.CreateNamed name)
 named name = create_named name done
@@ -31,10 +33,12 @@ start_named : (slot : Option (List ℕ)) → Leads state.Start (start_words slot
 start_named None = started None done
 start_named (Some name) = started (Some name) done
 
-start_physical : (slot : Option (List ℕ)) → Leads state.Start (start_words slot ++ Keyword (codes "physical") ∷ []) (state.StreamPhysical slot)
+start_physical : (slot : Option (List ℕ)) → Leads state.Start (start_words slot ++ Keyword (codes "physical") ∷ [])
+    (state.StreamPhysical slot)
 start_physical slot = started slot (stream_physical slot done)
 
-timeline_word : (slot : Option (List ℕ)) (at : ℕ) → Leads (state.Streamed slot at) (Keyword (codes "timeline") ∷ []) (state.StreamTimeline slot at)
+timeline_word : (slot : Option (List ℕ)) (at : ℕ)
+    → Leads (state.Streamed slot at) (Keyword (codes "timeline") ∷ []) (state.StreamTimeline slot at)
 timeline_word slot at = more (state.StreamTimeline slot at) (λ t h. (h, refl)) done
 
 wants_physical_stream : (slot : Option (List ℕ)) → wants_physical (stream_state slot) ≡ true
@@ -46,15 +50,21 @@ wants_position_stream None = refl
 wants_position_stream (Some name) = refl
 
 physical_wanted : (before : List Lexeme) (s : State) → Runs state.Start before s → WantsPhysical before → wants_physical s ≡ true
-physical_wanted before s run (name, true, slot, inl f) = known wants_physical (create_words name true) (state.CreateTemporary name) s before refl (temporary_named name) run f
-physical_wanted before s run (name, false, slot, inl f) = known wants_physical (create_words name false) (state.CreateNamed name) s before refl (named name) run f
-physical_wanted before s run (name, temporary, slot, inr (inl f)) = known wants_physical (start_words slot) (stream_state slot) s before (wants_physical_stream slot) (start_named slot) run f
+physical_wanted before s run (name, true, slot, inl f) = known wants_physical (create_words name true)
+    (state.CreateTemporary name) s before refl (temporary_named name) run f
+physical_wanted before s run (name, false, slot, inl f) = known wants_physical (create_words name false)
+    (state.CreateNamed name) s before refl (named name) run f
+physical_wanted before s run (name, temporary, slot, inr (inl f)) = known wants_physical (start_words slot) (stream_state slot) s before
+    (wants_physical_stream slot) (start_named slot) run f
 physical_wanted before s run (name, temporary, slot, inr (inr f)) = absurd f
 
 slot_wanted : (before : List Lexeme) (s : State) → Runs state.Start before s → WantsSlot before → wants_slot s ≡ true
-slot_wanted before s run (inl f) = known wants_slot (Keyword (codes "create_replication_slot") ∷ []) state.Create s before refl (first (codes "create_replication_slot") state.Create refl done) run f
-slot_wanted before s run (inr (inl f)) = known wants_slot (Keyword (codes "drop_replication_slot") ∷ []) state.DropSlot s before refl (first (codes "drop_replication_slot") state.DropSlot refl done) run f
-slot_wanted before s run (inr (inr (inl f))) = known wants_slot (Keyword (codes "read_replication_slot") ∷ []) state.ReadSlot s before refl (first (codes "read_replication_slot") state.ReadSlot refl done) run f
+slot_wanted before s run (inl f) = known wants_slot (Keyword (codes "create_replication_slot") ∷ []) state.Create s before refl
+    (first (codes "create_replication_slot") state.Create refl done) run f
+slot_wanted before s run (inr (inl f)) = known wants_slot (Keyword (codes "drop_replication_slot") ∷ []) state.DropSlot s before refl
+    (first (codes "drop_replication_slot") state.DropSlot refl done) run f
+slot_wanted before s run (inr (inr (inl f))) = known wants_slot (Keyword (codes "read_replication_slot") ∷ []) state.ReadSlot s before refl
+    (first (codes "read_replication_slot") state.ReadSlot refl done) run f
 slot_wanted before s run (inr (inr (inr (inl f)))) =
     known wants_slot (Keyword (codes "start_replication") ∷ Keyword (codes "slot") ∷ []) state.StreamSlot s before refl
     (first (codes "start_replication") state.Stream refl (more state.StreamSlot (λ t h. inl (h, refl)) done))
@@ -62,19 +72,26 @@ slot_wanted before s run (inr (inr (inr (inl f)))) =
 slot_wanted before s run (inr (inr (inr (inr f)))) = absurd f
 
 position_wanted : (before : List Lexeme) (s : State) → Runs state.Start before s → WantsPosition before → wants_position s ≡ true
-position_wanted before s run (slot, inl f) = known wants_position (start_words slot) (stream_state slot) s before (wants_position_stream slot) (start_named slot) run f
-position_wanted before s run (slot, inr (inl f)) = known wants_position (start_words slot ++ Keyword (codes "physical") ∷ []) (state.StreamPhysical slot) s before refl (start_physical slot) run f
+position_wanted before s run (slot, inl f) = known wants_position (start_words slot) (stream_state slot) s before
+    (wants_position_stream slot) (start_named slot) run f
+position_wanted before s run (slot, inr (inl f)) = known wants_position (start_words slot ++ Keyword (codes "physical") ∷ [])
+    (state.StreamPhysical slot) s before refl (start_physical slot) run f
 position_wanted before s run (slot, inr (inr f)) = absurd f
 
 number_wanted : (before : List Lexeme) (s : State) → Runs state.Start before s → WantsNumber before → wants_number s ≡ true
-number_wanted before s run (inl (inl f)) = known wants_number (Keyword (codes "timeline_history") ∷ []) state.History s before refl (first (codes "timeline_history") state.History refl done) run f
-number_wanted before s run (inl (inr (inl f))) = known wants_number (Keyword (codes "append") ∷ []) state.Append s before refl (first (codes "append") state.Append refl done) run f
-number_wanted before s run (inl (inr (inr (inl f)))) = known wants_number (Keyword (codes "promote") ∷ []) state.Promote s before refl (first (codes "promote") state.Promote refl done) run f
+number_wanted before s run (inl (inl f)) = known wants_number (Keyword (codes "timeline_history") ∷ []) state.History s before refl
+    (first (codes "timeline_history") state.History refl done) run f
+number_wanted before s run (inl (inr (inl f))) = known wants_number (Keyword (codes "append") ∷ []) state.Append s before refl
+    (first (codes "append") state.Append refl done) run f
+number_wanted before s run (inl (inr (inr (inl f)))) = known wants_number (Keyword (codes "promote") ∷ []) state.Promote s before refl
+    (first (codes "promote") state.Promote refl done) run f
 number_wanted before s run (inl (inr (inr (inr f)))) = absurd f
 number_wanted before s run (inr (slot, at, inl f)) =
-    known wants_number (start_words slot ++ Position at ∷ Keyword (codes "timeline") ∷ []) (state.StreamTimeline slot at) s before refl (started slot (stream_at slot at (timeline_word slot at))) run f
+    known wants_number (start_words slot ++ Position at ∷ Keyword (codes "timeline") ∷ []) (state.StreamTimeline slot at) s before refl
+    (started slot (stream_at slot at (timeline_word slot at))) run f
 number_wanted before s run (inr (slot, at, inr (inl f))) =
-    known wants_number (start_words slot ++ Keyword (codes "physical") ∷ Position at ∷ Keyword (codes "timeline") ∷ []) (state.StreamTimeline slot at) s before refl
+    known wants_number (start_words slot ++ Keyword (codes "physical") ∷ Position at ∷ Keyword (codes "timeline") ∷ [])
+    (state.StreamTimeline slot at) s before refl
     (started slot (stream_physical slot (physical_at slot at (timeline_word slot at))))
     run f
 number_wanted before s run (inr (slot, at, inr (inr f))) = absurd f
@@ -108,9 +125,15 @@ wants_position_behind (state.StreamNamed name) before h e = (Some name, inl (sol
 wants_position_behind (state.StreamPhysical slot) before h e = (slot, inr h)
 wants_position_behind _ before h e = absurd (false≢true e)
 
-timeline_behind : (slot : Option (List ℕ)) (at : ℕ) (before : List Lexeme) → Reached (state.StreamTimeline slot at) before → WantsNumber before
+timeline_behind : (slot : Option (List ℕ)) (at : ℕ) (before : List Lexeme) → Reached (state.StreamTimeline slot at) before
+    → WantsNumber before
 timeline_behind slot at before (inl f) = inr (slot, at, inl f)
-timeline_behind slot at before (inr (inl f)) = inr (slot, at, inr (inl (physical_forms slot (Position at ∷ Keyword (codes "timeline") ∷ []) before f)))
+timeline_behind slot at before (inr (inl f)) = inr (
+  slot,
+  at,
+  inr (inl (physical_forms slot
+      (Position at ∷ Keyword (codes "timeline") ∷ []) before f)),
+)
 timeline_behind slot at before (inr (inr f)) = absurd f
 
 wants_number_behind : (s : State) (before : List Lexeme) → Reached s before → wants_number s ≡ true → WantsNumber before
@@ -135,36 +158,53 @@ is_start_behind _ before h e = absurd (false≢true e)
 
 -- ---- the faults
 
-left_out : (before : List Lexeme) (s : State) (t : Lexeme) (what : Unsupported) → Runs state.Start before s → LeavesOut s t what → IsLeftOut before t what
+left_out : (before : List Lexeme) (s : State) (t : Lexeme) (what : Unsupported) → Runs state.Start before s → LeavesOut s t what
+    → IsLeftOut before t what
 left_out before s t unsupported.Logical run h = (wants_physical_behind s before (reached s before run) h.0, h.1)
 left_out before s t unsupported.BaseBackup run h = (is_start_behind s before (reached s before run) h.0, h.1)
 left_out before s t unsupported.UploadManifest run h = (is_start_behind s before (reached s before run) h.0, h.1)
 left_out before s t unsupported.AlterSlot run h = (is_start_behind s before (reached s before run) h.0, h.1)
 
-leaves_out : (before : List Lexeme) (s : State) (t : Lexeme) (what : Unsupported) → Runs state.Start before s → IsLeftOut before t what → LeavesOut s t what
+leaves_out : (before : List Lexeme) (s : State) (t : Lexeme) (what : Unsupported) → Runs state.Start before s → IsLeftOut before t what
+    → LeavesOut s t what
 leaves_out before s t unsupported.Logical run h = (physical_wanted before s run h.0, h.1)
 leaves_out before s t unsupported.BaseBackup run h = (start_wanted before s run h.0, h.1)
 leaves_out before s t unsupported.UploadManifest run h = (start_wanted before s run h.0, h.1)
 leaves_out before s t unsupported.AlterSlot run h = (start_wanted before s run h.0, h.1)
 
-own_special : (before : List Lexeme) (s : State) (t : Lexeme) (f : CmdFault) → Runs state.Start before s → IsOwnFault s t f → IsSpecial before t f
+own_special : (before : List Lexeme) (s : State) (t : Lexeme) (f : CmdFault) → Runs state.Start before s → IsOwnFault s t f
+    → IsSpecial before t f
 own_special before s t (fault.Syntax place) run h = h
 own_special before s t (fault.Unsupported what) run h = left_out before s t what run h
 own_special before s t (fault.BadSlotName place) run h = (h.0, wants_slot_behind s before (reached s before run) h.1, h.2)
-own_special before s t (fault.BadLsn place) run h = (h.0, wants_position_behind s before (reached s before run) h.1, h.2, λ p. h.3 (physical_wanted before s run p.0, p.1))
+own_special before s t (fault.BadLsn place) run h = (
+  h.0,
+  wants_position_behind s before (reached s before run) h.1,
+  h.2,
+  λ p. h.3
+      (physical_wanted before s run p.0, p.1),
+)
 own_special before s t (fault.BadNumber place) run h = (h.0, wants_number_behind s before (reached s before run) h.1, h.2)
 own_special before s t (fault.BadNames found) run h = (wants_names_behind s before (reached s before run) h.0, h.1, h.2, h.3)
 own_special before s t fault.Memory run h = h
 
-special_own : (before : List Lexeme) (s : State) (t : Lexeme) (f : CmdFault) → Runs state.Start before s → IsSpecial before t f → IsOwnFault s t f
+special_own : (before : List Lexeme) (s : State) (t : Lexeme) (f : CmdFault) → Runs state.Start before s → IsSpecial before t f
+    → IsOwnFault s t f
 special_own before s t (fault.Syntax place) run h = h
 special_own before s t (fault.Unsupported what) run h = leaves_out before s t what run h
 special_own before s t (fault.BadSlotName place) run h = (h.0, slot_wanted before s run h.1, h.2)
-special_own before s t (fault.BadLsn place) run h = (h.0, position_wanted before s run h.1, h.2, λ p. h.3 (wants_physical_behind s before (reached s before run) p.0, p.1))
+special_own before s t (fault.BadLsn place) run h = (
+  h.0,
+  position_wanted before s run h.1,
+  h.2,
+  λ p. h.3
+      (wants_physical_behind s before (reached s before run) p.0, p.1),
+)
 special_own before s t (fault.BadNumber place) run h = (h.0, number_wanted before s run h.1, h.2)
 special_own before s t (fault.BadNames found) run h = (names_wanted before s run h.0, h.1, h.2, h.3)
 special_own before s t fault.Memory run h = h
 
-pub fault_behind : (before : List Lexeme) (s : State) (t : Lexeme) (f : CmdFault) → Runs state.Start before s → IsStepFault s t f → IsFaultOf before t f
+pub fault_behind : (before : List Lexeme) (s : State) (t : Lexeme) (f : CmdFault) → Runs state.Start before s → IsStepFault s t f
+    → IsFaultOf before t f
 fault_behind before s t (fault.Syntax place) run h = (h.0, λ special. h.1 (special.0, special_own before s t special.0 run special.1))
 fault_behind before s t f run h = own_special before s t f run h

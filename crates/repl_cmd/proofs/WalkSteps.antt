@@ -68,13 +68,16 @@ two_ways p q b c differ (inr x) (inl y) = absurd (differ y.0 x.0)
 two_ways p q b c differ (inr x) (inr y) = x.1 ∙ sym y.1
 
 -- the same of a state that has a value from its token
-by_value : {V : Type 0} (P : V → Type 0) (f : V → State) (b c : State) → ((x y : V) → P x → P y → x ≡ y) → (x : V) × P x × (b ≡ f x) → (x : V) × P x × (c ≡ f x) → b ≡ c
+by_value : {V : Type 0} (P : V → Type 0) (f : V → State) (b c : State) → ((x y : V) → P x → P y → x ≡ y) → (x : V) × P x × (b ≡ f x)
+    → (x : V) × P x × (c ≡ f x) → b ≡ c
 by_value P f b c one x y = x.2 ∙ ap f (one x.0 y.0 x.1 y.1) ∙ sym y.2
 
-by_number : (least : ℕ) (f : ℕ → State) (t : Lexeme) (b c : State) → (n : ℕ) × IsNumber least n t × (b ≡ f n) → (n : ℕ) × IsNumber least n t × (c ≡ f n) → b ≡ c
+by_number : (least : ℕ) (f : ℕ → State) (t : Lexeme) (b c : State) → (n : ℕ) × IsNumber least n t × (b ≡ f n)
+    → (n : ℕ) × IsNumber least n t × (c ≡ f n) → b ≡ c
 by_number least f t b c m n = by_value (λ n. IsNumber least n t) f b c (one_number least t) m n
 
-by_slot : (f : List ℕ → State) (t : Lexeme) (b c : State) → (n : List ℕ) × IsSlot n t × (b ≡ f n) → (n : List ℕ) × IsSlot n t × (c ≡ f n) → b ≡ c
+by_slot : (f : List ℕ → State) (t : Lexeme) (b c : State) → (n : List ℕ) × IsSlot n t × (b ≡ f n) → (n : List ℕ) × IsSlot n t × (c ≡ f n)
+    → b ≡ c
 by_slot f t b c m n = by_value (λ n. IsSlot n t) f b c (one_slot t) m n
 
 by_place : (f : ℕ → State) (t : Lexeme) (b c : State) → (n : ℕ) × IsPosition n t × (b ≡ f n) → (n : ℕ) × IsPosition n t × (c ≡ f n) → b ≡ c
@@ -93,9 +96,12 @@ one_move (state.CreateTemporary name) b c t m n = m.1 ∙ sym n.1
 one_move (state.Created name temporary) b c t m n = two_ways _ _ b c (not_word (codes "reserve_wal") t kind.Opening (λ e. cc)) m n
 one_move (state.CreateOpened name temporary) b c t m n = m.1 ∙ sym n.1
 one_move (state.CreateOption name temporary) b c t (inl m) (inl n) = m.1 ∙ sym n.1
-one_move (state.CreateOption name temporary) b c t (inl m) (inr n) = absurd (value_not t kind.Closing (λ e. cc) (λ e. cc) (flag_kind n.0 t n.1) m.0)
-one_move (state.CreateOption name temporary) b c t (inr m) (inl n) = absurd (value_not t kind.Closing (λ e. cc) (λ e. cc) (flag_kind m.0 t m.1) n.0)
-one_move (state.CreateOption name temporary) b c t (inr m) (inr n) = by_value (λ r. IsFlag r t) (λ r. state.CreateValued name temporary r) b c (one_flag t) m n
+one_move (state.CreateOption name temporary) b c t (inl m) (inr n) = absurd
+    (value_not t kind.Closing (λ e. cc) (λ e. cc) (flag_kind n.0 t n.1) m.0)
+one_move (state.CreateOption name temporary) b c t (inr m) (inl n) = absurd
+    (value_not t kind.Closing (λ e. cc) (λ e. cc) (flag_kind m.0 t m.1) n.0)
+one_move (state.CreateOption name temporary) b c t (inr m) (inr n) = by_value (λ r. IsFlag r t)
+    (λ r. state.CreateValued name temporary r) b c (one_flag t) m n
 one_move (state.CreateValued name temporary reserve) b c t m n = m.1 ∙ sym n.1
 one_move state.DropSlot b c t m n = by_slot (λ n. state.Dropped n) t b c m n
 one_move (state.Dropped name) b c t m n = m.1 ∙ sym n.1
@@ -118,7 +124,8 @@ one_move (state.StreamPhysical slot) b c t m n = by_place (λ at. state.Streamed
 one_move (state.Streamed slot at) b c t m n = m.1 ∙ sym n.1
 one_move (state.StreamTimeline slot at) b c t m n = by_number 1 (λ n. state.Done (command.StartReplication slot at (Some n))) t b c m n
 one_move state.Append b c t m n = by_number 0 (λ n. state.AppendBody n) t b c m n
-one_move (state.AppendBody xid) b c t m n = by_value (λ bytes. IsBody bytes t) (λ bytes. state.Done (command.Append xid bytes)) b c (one_body t) m n
+one_move (state.AppendBody xid) b c t m n = by_value (λ bytes. IsBody bytes t) (λ bytes. state.Done (command.Append xid bytes)) b c
+    (one_body t) m n
 one_move state.Set b c t m n = m.1 ∙ sym n.1
 one_move state.SetCommit b c t m n = m.1 ∙ sym n.1
 one_move state.SetValue b c t m n = by_value (λ v. IsSetting v t) (λ v. state.Done (command.SetCommit v)) b c (one_setting t) m n
@@ -172,4 +179,5 @@ run_split a c (t ∷ ts) us (next, step, r) = let s = run_split next c ts us r i
 
 pub one_run : (a b c : State) (ts : List Lexeme) → Runs a ts b → Runs a ts c → b ≡ c
 one_run a b c [] r s = r ∙ sym s
-one_run a b c (t ∷ ts) (m, step, r) (n, other, s) = one_run n b c ts (subst (λ (from : State). Runs from ts b) (one_step a m n t step other) r) s
+one_run a b c (t ∷ ts) (m, step, r) (n, other, s) = one_run n b c ts (subst (λ (from : State). Runs from ts b)
+    (one_step a m n t step other) r) s

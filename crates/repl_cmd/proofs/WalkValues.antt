@@ -24,7 +24,8 @@ not_word w t k differ a b = differ (sym a.0 ∙ b)
 pub one_slot : (t : Lexeme) (a b : List ℕ) → IsSlot a t → IsSlot b t → a ≡ b
 one_slot t a b p q = written p.written q.written
   where
-    written : ((t.kind ≡ kind.Word) × (a ≡ map to_ascii_lowercase t.text)) ⊎ ((t.kind ≡ kind.Name) × (a ≡ t.text)) → ((t.kind ≡ kind.Word) × (b ≡ map to_ascii_lowercase t.text)) ⊎ ((t.kind ≡ kind.Name) × (b ≡ t.text)) → a ≡ b
+    written : ((t.kind ≡ kind.Word) × (a ≡ map to_ascii_lowercase t.text)) ⊎ ((t.kind ≡ kind.Name) × (a ≡ t.text))
+        → ((t.kind ≡ kind.Word) × (b ≡ map to_ascii_lowercase t.text)) ⊎ ((t.kind ≡ kind.Name) × (b ≡ t.text)) → a ≡ b
     written (inl x) (inl y) = x.1 ∙ sym y.1
     written (inl x) (inr y) = absurd cc
     written (inr x) (inl y) = absurd cc

@@ -31,14 +31,16 @@ says_walk tokens c says = let h = says_arrives tokens c says in (h.at, h.runs, h
 pub goes_on : (before : List Lexeme) (s : State) → Runs state.Start before s → Begins IsSaid before
 goes_on before s run = run_goes_on before s run
 
-pub stuck_stops : (before behind : List Lexeme) (t : Lexeme) (s : State) → Runs state.Start before s → IsStuck s t → StopsAt IsSaid (before ++ t ∷ behind) (length before)
+pub stuck_stops : (before behind : List Lexeme) (t : Lexeme) (s : State) → Runs state.Start before s → IsStuck s t
+    → StopsAt IsSaid (before ++ t ∷ behind) (length before)
 stuck_stops before behind t s run stuck = stuck_stops_at before behind t s run stuck
 
 pub ended_stops : (tokens : List Lexeme) (s : State) → Runs state.Start tokens s → finish s ≡ None → StopsAt IsSaid tokens (length tokens)
 ended_stops tokens s run none = end_stops_at tokens s run none
 
 -- the fault of a token in a state is its fault behind the tokens that lead there
-pub step_fault : (before : List Lexeme) (s : State) (t : Lexeme) (f : CmdFault) → Runs state.Start before s → IsStop s t f → IsFaultOf before t f
+pub step_fault : (before : List Lexeme) (s : State) (t : Lexeme) (f : CmdFault) → Runs state.Start before s → IsStop s t f
+    → IsFaultOf before t f
 step_fault before s t f run stop = fault_behind before s t f run stop.cause
 
 pub says_command : (tokens : List Lexeme) (c : Command) → Says tokens c → IsCommand c

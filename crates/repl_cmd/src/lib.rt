@@ -5,7 +5,15 @@
 //! spacing, keywords in any case and names and values in either of their quotings. Any other text it refuses at the
 //! first token with which no command goes on, by the cause that `specs/Refusal.antt` gives. `print_command` prints
 //! the one spelling of a command, which is read back as that command. Reading does not depend on the kind of the
-//! connection. Stands on `repl_text`, `repl_lsn` and `repl_names`, and on the kit's `bytes`, `hex` and `thiserror`.
+//! connection. Stands on `repl_token`, `repl_text`, `repl_lsn` and `repl_names`, and on the kit's `bytes`, `hex` and
+//! `thiserror`.
+//!
+//! ```text
+//! match parse_command(alloc, b"TIMELINE_HISTORY 2;")? {
+//!     Command::TimelineHistory(tli) => send_history(tli),
+//!     other => ..
+//! }
+//! ```
 #![tactic(auto)]
 
 mod command;

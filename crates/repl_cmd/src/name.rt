@@ -9,6 +9,9 @@ use std::marker::Model;
 /// The most bytes of a replication slot's name.
 pub const SLOT_NAME_LIMIT: usize = 63;
 
+// What a slot's name is depends on this number.
+const _: () = prove!(SLOT_NAME_LIMIT == 63);
+
 /// The name of a replication slot: 1 to 63 lower-case letters, digits and underscores (PostgreSQL 17 manual,
 /// section "Replication Slots").
 #[derive(Debug, Drop)]

@@ -22,35 +22,54 @@ decimal_length n k low high small =
 
 -- ---- names
 
-byte_length : (t : Bool) (b : ℕ) (others : List ℕ) → length ((if t then 34 ∷ 34 ∷ [] else b ∷ []) ++ others) ≡ cond t 1 0 + (1 + length others)
+byte_length : (t : Bool) (b : ℕ) (others : List ℕ)
+    → length ((if t then 34 ∷ 34 ∷ [] else b ∷ []) ++ others) ≡ cond t 1 0 + (1 + length others)
 byte_length true b others = omega arith
 byte_length false b others = omega arith
 
 quoted_length : (name : List ℕ) → length (flat_map (doubled 34) name) ≡ length name + count_by (λ b. b == 34) name
 quoted_length [] = refl
 quoted_length (b ∷ name) =
-    let spelled : length (flat_map (doubled 34) (b ∷ name)) ≡ cond (b == 34) 1 0 + (1 + length (flat_map (doubled 34) name)) = byte_length (b == 34) b (flat_map (doubled 34) name) in
-    let quotes : count_by (λ c. c == 34) (b ∷ name) ≡ cond (b == 34) 1 0 + count_by (λ c. c == 34) name = sum_by-cons (λ c. cond (c == 34) 1 0) b name in
+    let spelled : length (flat_map (doubled 34) (b ∷ name)) ≡ cond (b == 34) 1 0 + (1 + length (flat_map (doubled 34) name)) =
+    byte_length (b == 34) b (flat_map (doubled 34) name) in
+    let quotes : count_by (λ c. c == 34) (b ∷ name) ≡ cond (b == 34) 1 0 + count_by (λ c. c == 34) name =
+    sum_by-cons (λ c. cond (c == 34) 1 0) b name in
     omega (arith, spelled, quotes, quoted_length name)
 
-pub name_length_quoted : (name : List ℕ) → bytes_eq name (codes "*") ≡ false → length (name_spelling name) ≡ length name + count_by (λ b. b == 34) name + 2
+pub name_length_quoted : (name : List ℕ) → bytes_eq name (codes "*") ≡ false
+    → length (name_spelling name) ≡ length name + count_by (λ b. b == 34) name + 2
 name_length_quoted name e =
-    ap (λ t. length (if t then codes "*" else quoted 34 name)) e ∙ omega (arith, length-append (flat_map (doubled 34) name) (34 ∷ []), quoted_length name)
+    ap (λ t. length (if t then codes "*" else quoted 34 name)) e
+    ∙ omega (arith, length-append (flat_map (doubled 34) name) (34 ∷ []), quoted_length name)
 
 -- each with a comma and a space, which the last has not
-pub names_length_is : (name : List ℕ) (names : List (List ℕ)) → length (names_spelling (name ∷ names)) + 2 ≡ sum_by (λ n. length (name_spelling n) + 2) (name ∷ names)
+pub names_length_is : (name : List ℕ) (names : List (List ℕ))
+    → length (names_spelling (name ∷ names)) + 2 ≡ sum_by (λ n. length (name_spelling n) + 2) (name ∷ names)
 names_length_is name [] = omega arith
 names_length_is name (next ∷ names) =
     let rest = names_spelling (next ∷ names) in
-    let spelled : length (names_spelling (name ∷ next ∷ names)) ≡ length (name_spelling name ++ codes ", ") + length rest = length-append (name_spelling name ++ codes ", ") rest in
-    let lengths : sum_by (λ n. length (name_spelling n) + 2) (name ∷ next ∷ names) ≡ length (name_spelling name) + 2 + sum_by (λ n. length (name_spelling n) + 2) (next ∷ names) = sum_by-cons (λ n. length (name_spelling n) + 2) name (next ∷ names) in
+    let spelled : length (names_spelling (name ∷ next ∷ names)) ≡ length (name_spelling name ++ codes ", ") + length rest =
+    length-append (name_spelling name ++ codes ", ") rest in
+    let lengths : sum_by (λ n. length (name_spelling n) + 2) (name ∷ next ∷ names) ≡ length (name_spelling name) + 2 + sum_by
+    (λ n. length (name_spelling n) + 2) (next ∷ names) = sum_by-cons (λ n. length (name_spelling n) + 2) name (next ∷ names) in
     omega (arith, spelled, lengths, length-append (name_spelling name) (codes ", "), names_length_is next names)
 
 pub spelling_length_is : (m : Method) (n : ℕ) (names : List (List ℕ)) → 0 < length names
-    → length (spelling (record { method = m; number = n; names = names })) ≡ sum_by (λ n. length (name_spelling n) + 2) names + (length (method_spelling m) + length (decimal n) + 2)
+    → length (spelling (record { method = m; number = n; names = names })) ≡ sum_by (λ n. length (name_spelling n) + 2) names +
+    (length (method_spelling m) + length (decimal n) + 2)
 spelling_length_is m n [] l = absurd (omega arith)
 spelling_length_is m n (name ∷ names) l =
     let k = method_spelling m in
     let d = decimal n in
     let s = names_spelling (name ∷ names) in
-    omega (arith, length-append (k ++ codes " " ++ d ++ codes " (" ++ s) (codes ")"), length-append (k ++ codes " " ++ d ++ codes " (") s, length-append (k ++ codes " " ++ d) (codes " ("), length-append (k ++ codes " ") d, length-append k (codes " "), names_length_is name names)
+    omega (
+      arith,
+      length-append (k ++ codes " " ++ d ++ codes " (" ++ s) (codes ")"),
+      length-append
+          (k ++ codes " " ++ d ++ codes " (") s,
+      length-append (k ++ codes " " ++ d) (codes " ("),
+      length-append
+          (k ++ codes " ") d,
+      length-append k (codes " "),
+      names_length_is name names,
+    )

@@ -19,7 +19,8 @@ names_some [] names n = absurd n
 names_some (token ∷ []) names n = rw n.1 (omega arith)
 names_some (token ∷ comma ∷ tokens) names n = rw n.2.1 (omega arith)
 
-pub says_some : (tokens : List Token) (m : Method) (number : Token) (names : List (List ℕ)) → Says tokens m (Some number) names → 0 < length names
+pub says_some : (tokens : List Token) (m : Method) (number : Token) (names : List (List ℕ)) → Says tokens m (Some number) names
+    → 0 < length names
 says_some tokens m number names (inl c) = names_some c.1.inside names c.1.are_names
 says_some tokens m number names (inr c) = names_some c.are_counted.inside names c.are_counted.are_names
 
@@ -46,24 +47,34 @@ same_listing a b d e f = same_parts a.method b.method a.number b.number a.names 
 pub spells_one : (text : List ℕ) (a b : Listing) → Spells text a → Spells text b → a ≡ b
 spells_one text a b p q =
     let e = reads_as_one list_class list_token 0 text p.tokens q.tokens p.reads q.reads in
-    let s = say_same q.tokens a.method b.method p.number q.number a.names b.names (subst (λ (ts : List Token). Says ts a.method p.number a.names) e p.says) q.says in
-    same_listing a b s.same_method (p.value ∙ ap (λ n. value_of n a.names) s.same_number ∙ ap (value_of q.number) s.same_names ∙ sym q.value) s.same_names
+    let s = say_same q.tokens a.method b.method p.number q.number a.names b.names
+    (subst (λ (ts : List Token). Says ts a.method p.number a.names) e p.says) q.says in
+    same_listing a b s.same_method (p.value ∙ ap (λ n. value_of n a.names) s.same_number ∙ ap (value_of q.number) s.same_names
+    ∙ sym q.value) s.same_names
 
 pub reads_one_list : (text : List ℕ) (a b : Listing) → SaysList text a → SaysList text b → a ≡ b
 reads_one_list text a b p q = spells_one text a b p.spells q.spells
 
 -- ---- what is refused is not read
 
-leaves_unread : (text : List ℕ) (list : Listing) (place index : ℕ) (tokens : List Token) → SaysList text list → Leaves text place index tokens → ⊥
+leaves_unread : (text : List ℕ) (list : Listing) (place index : ℕ) (tokens : List Token) → SaysList text list
+    → Leaves text place index tokens → ⊥
 leaves_unread text list place index tokens r l =
     let s = r.spells in
-    l.stops.refused (list.method, s.number, list.names, subst (λ (ts : List Token). Says ts list.method s.number list.names) (reads_as_one list_class list_token 0 text s.tokens tokens s.reads l.reads) s.says)
+    l.stops.refused (
+      list.method,
+      s.number,
+      list.names,
+      subst (λ (ts : List Token). Says ts list.method s.number list.names)
+          (reads_as_one list_class list_token 0 text s.tokens tokens s.reads l.reads) s.says,
+    )
 
 number_read : (text : List ℕ) (list : Listing) (place n : ℕ) → SaysList text list → SaysNumber text place n → (0 < n) × (n ≤ NUMBER_LIMIT)
 number_read text list place n r s =
     let p = r.spells in
     let e = reads_as_one list_class list_token 0 text p.tokens s.tokens p.reads s.reads in
-    let same = say_same s.tokens list.method s.m p.number (Some s.number) list.names s.names (subst (λ (ts : List Token). Says ts list.method p.number list.names) e p.says) s.says in
+    let same = say_same s.tokens list.method s.m p.number (Some s.number) list.names s.names
+    (subst (λ (ts : List Token). Says ts list.method p.number list.names) e p.says) s.says in
     let is : list.number ≡ n = p.value ∙ ap (λ a. value_of a list.names) same.same_number ∙ sym s.value in
     let some : 0 < length list.names = rw same.same_names (says_some s.tokens s.m s.number s.names s.says) in
     subst (λ (k : ℕ). (0 < k) × (k ≤ NUMBER_LIMIT)) is (demands_number list.names list.method list.number some r.is_listing.demands)
@@ -83,6 +94,7 @@ refused_unread text list fault.Memory r s = refl
 
 -- ---- the number of a list
 
-pub says_number_kind : (tokens : List Token) (m : Method) (number : Token) (names : List (List ℕ)) → Says tokens m (Some number) names → number.kind ≡ kind.Number
+pub says_number_kind : (tokens : List Token) (m : Method) (number : Token) (names : List (List ℕ)) → Says tokens m (Some number) names
+    → number.kind ≡ kind.Number
 says_number_kind tokens m number names (inl c) = c.1.is_number
 says_number_kind tokens m number names (inr c) = c.are_counted.is_number

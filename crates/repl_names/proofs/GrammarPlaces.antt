@@ -14,12 +14,14 @@ place_past [] i end e = refl
 place_past (head ∷ tokens) zero end e = absurd cc
 place_past (head ∷ tokens) (suc i) end e = place_past tokens i end e
 
-pub open_found : (tokens : List Token) (i : ℕ) (token : Token) → slice_get tokens i ≡ Some token → token.kind ≡ kind.Unclosed → IsOpenAt tokens i
+pub open_found : (tokens : List Token) (i : ℕ) (token : Token) → slice_get tokens i ≡ Some token → token.kind ≡ kind.Unclosed
+    → IsOpenAt tokens i
 open_found [] i token e k = absurd cc
 open_found (head ∷ tokens) zero token e k = let same : head ≡ token = cc in ap (λ t. t.kind) same ∙ k
 open_found (head ∷ tokens) (suc i) token e k = open_found tokens i token e k
 
-pub open_not : (tokens : List Token) (i : ℕ) (token : Token) → slice_get tokens i ≡ Some token → ¬ (token.kind ≡ kind.Unclosed) → ¬ IsOpenAt tokens i
+pub open_not : (tokens : List Token) (i : ℕ) (token : Token) → slice_get tokens i ≡ Some token → ¬ (token.kind ≡ kind.Unclosed)
+    → ¬ IsOpenAt tokens i
 open_not [] i token e k o = absurd cc
 open_not (head ∷ tokens) zero token e k o = let same : head ≡ token = cc in k (sym (ap (λ t. t.kind) same) ∙ o)
 open_not (head ∷ tokens) (suc i) token e k o = open_not tokens i token e k o

@@ -63,20 +63,24 @@ names_pass : (tokens : List Token) (names : List (List ℕ)) → AreNames tokens
 names_pass [] names n = absurd n
 names_pass (token ∷ []) names n = ap (λ o. passes o []) (name_from_comma token.kind n.0)
 names_pass (token ∷ comma ∷ tokens) names n =
-    ap (λ o. passes o (comma ∷ tokens)) (name_from_comma token.kind n.0) ∙ ap (λ k. passes (step state.Name k) tokens) n.1 ∙ names_pass tokens n.2.0 n.2.2
+    ap (λ o. passes o (comma ∷ tokens)) (name_from_comma token.kind n.0) ∙ ap (λ k. passes (step state.Name k) tokens) n.1
+    ∙ names_pass tokens n.2.0 n.2.2
 
-inner_passes : (inside : List Token) (closing : Token) (names : List (List ℕ)) → AreNames inside names → closing.kind ≡ kind.Closing → passes (Some state.Opened) (inside ++ closing ∷ []) ≡ true
+inner_passes : (inside : List Token) (closing : Token) (names : List (List ℕ)) → AreNames inside names → closing.kind ≡ kind.Closing
+    → passes (Some state.Opened) (inside ++ closing ∷ []) ≡ true
 inner_passes [] closing names n e = absurd n
 inner_passes (token ∷ []) closing names n e =
     ap (λ o. passes o (closing ∷ [])) (name_from_opened token.kind n.0) ∙ ap (λ k. passes (step state.Inside k) []) e
 inner_passes (token ∷ comma ∷ tokens) closing names n e =
-    ap (λ o. passes o (comma ∷ tokens ++ closing ∷ [])) (name_from_opened token.kind n.0) ∙ ap (λ k. passes (step state.Inside k) (tokens ++ closing ∷ [])) n.1 ∙ inner_passes tokens closing n.2.0 n.2.2 e
+    ap (λ o. passes o (comma ∷ tokens ++ closing ∷ [])) (name_from_opened token.kind n.0)
+    ∙ ap (λ k. passes (step state.Inside k) (tokens ++ closing ∷ [])) n.1 ∙ inner_passes tokens closing n.2.0 n.2.2 e
 
 nothing_passes : (tokens : List Token) → passes None tokens ≡ true → ⊥
 nothing_passes tokens p = false≢true (sym (passes_none tokens) ∙ p)
 
 -- a number that stands first is a name where no parenthesis opens
-number_as_name : (k : Kind) (tokens : List Token) → passes (step state.Name k) tokens ≡ true → passes (step state.FirstNumber k) tokens ≡ true
+number_as_name : (k : Kind) (tokens : List Token) → passes (step state.Name k) tokens ≡ true
+    → passes (step state.FirstNumber k) tokens ≡ true
 number_as_name kind.Comma tokens p = p
 number_as_name _ tokens p = absurd (nothing_passes tokens p)
 
@@ -84,7 +88,8 @@ first_number : (tokens : List Token) → passes (Some state.Name) tokens ≡ tru
 first_number [] p = refl
 first_number (token ∷ tokens) p = number_as_name token.kind tokens p
 
-name_at_start : (k : Kind) (tokens : List Token) → IsName k → passes (Some state.Name) tokens ≡ true → passes (step state.Start k) tokens ≡ true
+name_at_start : (k : Kind) (tokens : List Token) → IsName k → passes (Some state.Name) tokens ≡ true
+    → passes (step state.Start k) tokens ≡ true
 name_at_start k tokens (inl e) p = ap (λ j. passes (step state.Start j) tokens) e ∙ p
 name_at_start k tokens (inr (inl e)) p = ap (λ j. passes (step state.Start j) tokens) e ∙ first_number tokens p
 name_at_start k tokens (inr (inr (inl e))) p = ap (λ j. passes (step state.Start j) tokens) e ∙ p
@@ -93,25 +98,36 @@ name_at_start k tokens (inr (inr (inr e))) p = ap (λ j. passes (step state.Star
 plain_passes : (tokens : List Token) (names : List (List ℕ)) → AreNames tokens names → passes (Some state.Start) tokens ≡ true
 plain_passes [] names n = refl
 plain_passes (token ∷ []) names n = name_at_start token.kind [] n.0 refl
-plain_passes (token ∷ comma ∷ tokens) names n = name_at_start token.kind (comma ∷ tokens) n.0 (ap (λ k. passes (step state.Name k) tokens) n.1 ∙ names_pass tokens n.2.0 n.2.2)
+plain_passes (token ∷ comma ∷ tokens) names n = name_at_start token.kind (comma ∷ tokens) n.0
+    (ap (λ k. passes (step state.Name k) tokens) n.1 ∙ names_pass tokens n.2.0 n.2.2)
 
-counted_passes : (s : State) (tokens : List Token) (number : Token) (names : List (List ℕ)) → (s ≡ state.Start) ⊎ (s ≡ state.Keyword) → AreCounted tokens number names → passes (Some s) tokens ≡ true
+counted_passes : (s : State) (tokens : List Token) (number : Token) (names : List (List ℕ)) → (s ≡ state.Start) ⊎ (s ≡ state.Keyword)
+    → AreCounted tokens number names → passes (Some s) tokens ≡ true
 counted_passes s tokens number names at c =
     let inner = inner_passes c.inside c.closing names c.are_names c.closes in
-    let opened : (t : State) → step t kind.Opening ≡ Some state.Opened → passes (Some t) (c.opening ∷ c.inside ++ c.closing ∷ []) ≡ true = λ t o. ap (λ k. passes (step t k) (c.inside ++ c.closing ∷ [])) c.opens ∙ ap (λ u. passes u (c.inside ++ c.closing ∷ [])) o ∙ inner in
+    let opened : (t : State) → step t kind.Opening ≡ Some state.Opened
+    → passes (Some t) (c.opening ∷ c.inside ++ c.closing ∷ []) ≡ true =
+    λ t o. ap (λ k. passes (step t k) (c.inside ++ c.closing ∷ [])) c.opens ∙ ap (λ u. passes u (c.inside ++ c.closing ∷ [])) o
+    ∙ inner in
     let after = c.opening ∷ c.inside ++ c.closing ∷ [] in
     ap (passes (Some s)) c.parts ∙ ⊎_elim
-    (λ e. ap (λ t. passes (step t number.kind) after) e ∙ ap (λ k. passes (step state.Start k) after) c.is_number ∙ opened state.FirstNumber refl)
-    (λ e. ap (λ t. passes (step t number.kind) after) e ∙ ap (λ k. passes (step state.Keyword k) after) c.is_number ∙ opened state.Number refl)
+    (λ e. ap (λ t. passes (step t number.kind) after) e ∙ ap (λ k. passes (step state.Start k) after) c.is_number
+    ∙ opened state.FirstNumber refl)
+    (λ e. ap (λ t. passes (step t number.kind) after) e ∙ ap (λ k. passes (step state.Keyword k) after) c.is_number
+    ∙ opened state.Number refl)
     at
 
-chosen_passes : (tokens : List Token) (m : Method) (number : Token) (names : List (List ℕ)) → AreChosen tokens m number names → passes (Some state.Start) tokens ≡ true
+chosen_passes : (tokens : List Token) (m : Method) (number : Token) (names : List (List ℕ)) → AreChosen tokens m number names
+    → passes (Some state.Start) tokens ≡ true
 chosen_passes tokens method.First number names c =
-    ap (passes (Some state.Start)) c.parts ∙ ap (λ k. passes (step state.Start k) c.others) c.chooses ∙ counted_passes state.Keyword c.others number names (inr refl) c.are_counted
+    ap (passes (Some state.Start)) c.parts ∙ ap (λ k. passes (step state.Start k) c.others) c.chooses
+    ∙ counted_passes state.Keyword c.others number names (inr refl) c.are_counted
 chosen_passes tokens method.Any number names c =
-    ap (passes (Some state.Start)) c.parts ∙ ap (λ k. passes (step state.Start k) c.others) c.chooses ∙ counted_passes state.Keyword c.others number names (inr refl) c.are_counted
+    ap (passes (Some state.Start)) c.parts ∙ ap (λ k. passes (step state.Start k) c.others) c.chooses
+    ∙ counted_passes state.Keyword c.others number names (inr refl) c.are_counted
 
-says_passes : (tokens : List Token) (m : Method) (number : Option Token) (names : List (List ℕ)) → Says tokens m number names → passes (Some state.Start) tokens ≡ true
+says_passes : (tokens : List Token) (m : Method) (number : Option Token) (names : List (List ℕ)) → Says tokens m number names
+    → passes (Some state.Start) tokens ≡ true
 says_passes tokens m None names (f, inl e) = ap (passes (Some state.Start)) e.0
 says_passes tokens m None names (f, inr n) = plain_passes tokens names n
 says_passes tokens m (Some number) names (inl c) = counted_passes state.Start tokens number names (inl refl) c.1
@@ -122,18 +138,21 @@ said_passes tokens (m, number, names, says) = says_passes tokens m number names 
 
 -- ---- tokens that pass are a list
 
-behind_name : (k : Kind) (tokens : List Token) → passes (step state.Name k) tokens ≡ true → (k ≡ kind.Comma) × (passes (Some state.Comma) tokens ≡ true)
+behind_name : (k : Kind) (tokens : List Token) → passes (step state.Name k) tokens ≡ true
+    → (k ≡ kind.Comma) × (passes (Some state.Comma) tokens ≡ true)
 behind_name kind.Comma tokens p = (refl, p)
 behind_name _ tokens p = absurd (nothing_passes tokens p)
 
-behind_comma : (k : Kind) (tokens : List Token) → passes (step state.Comma k) tokens ≡ true → IsName k × (passes (Some state.Name) tokens ≡ true)
+behind_comma : (k : Kind) (tokens : List Token) → passes (step state.Comma k) tokens ≡ true
+    → IsName k × (passes (Some state.Name) tokens ≡ true)
 behind_comma kind.Word tokens p = (inl refl, p)
 behind_comma kind.Number tokens p = (inr (inl refl), p)
 behind_comma kind.Quoted tokens p = (inr (inr (inl refl)), p)
 behind_comma kind.Star tokens p = (inr (inr (inr refl)), p)
 behind_comma _ tokens p = absurd (nothing_passes tokens p)
 
-behind_opened : (k : Kind) (tokens : List Token) → passes (step state.Opened k) tokens ≡ true → IsName k × (passes (Some state.Inside) tokens ≡ true)
+behind_opened : (k : Kind) (tokens : List Token) → passes (step state.Opened k) tokens ≡ true
+    → IsName k × (passes (Some state.Inside) tokens ≡ true)
 behind_opened kind.Word tokens p = (inl refl, p)
 behind_opened kind.Number tokens p = (inr (inl refl), p)
 behind_opened kind.Quoted tokens p = (inr (inr (inl refl)), p)
@@ -150,11 +169,13 @@ behind_closed : (tokens : List Token) → passes (Some state.Closed) tokens ≡ 
 behind_closed [] p = refl
 behind_closed (token ∷ tokens) p = absurd (nothing_passes tokens p)
 
-behind_keyword : (k : Kind) (tokens : List Token) → passes (step state.Keyword k) tokens ≡ true → (k ≡ kind.Number) × (passes (Some state.Number) tokens ≡ true)
+behind_keyword : (k : Kind) (tokens : List Token) → passes (step state.Keyword k) tokens ≡ true
+    → (k ≡ kind.Number) × (passes (Some state.Number) tokens ≡ true)
 behind_keyword kind.Number tokens p = (refl, p)
 behind_keyword _ tokens p = absurd (nothing_passes tokens p)
 
-behind_number : (k : Kind) (tokens : List Token) → passes (step state.Number k) tokens ≡ true → (k ≡ kind.Opening) × (passes (Some state.Opened) tokens ≡ true)
+behind_number : (k : Kind) (tokens : List Token) → passes (step state.Number k) tokens ≡ true
+    → (k ≡ kind.Opening) × (passes (Some state.Opened) tokens ≡ true)
 behind_number kind.Opening tokens p = (refl, p)
 behind_number _ tokens p = absurd (nothing_passes tokens p)
 
@@ -164,7 +185,8 @@ behind_first_number kind.Comma tokens p = inl p
 behind_first_number kind.Opening tokens p = inr (refl, p)
 behind_first_number _ tokens p = absurd (nothing_passes tokens p)
 
-names_behind : (token : Token) (tokens : List Token) → IsName token.kind → passes (Some state.Name) tokens ≡ true → (names : List (List ℕ)) × AreNames (token ∷ tokens) names
+names_behind : (token : Token) (tokens : List Token) → IsName token.kind → passes (Some state.Name) tokens ≡ true
+    → (names : List (List ℕ)) × AreNames (token ∷ tokens) names
 names_behind token [] n p = (token.text ∷ [], (n, refl))
 names_behind token (comma ∷ []) n p = absurd (false≢true (behind_name comma.kind [] p).1)
 names_behind token (comma ∷ next ∷ tokens) n p =
@@ -182,7 +204,8 @@ record AreInner (tokens : List Token) : Type 0 where
   are_names : AreNames inside names
   closes : closing.kind ≡ kind.Closing
 
-inner_behind : (token : Token) (tokens : List Token) → IsName token.kind → passes (Some state.Inside) tokens ≡ true → AreInner (token ∷ tokens)
+inner_behind : (token : Token) (tokens : List Token) → IsName token.kind → passes (Some state.Inside) tokens ≡ true
+    → AreInner (token ∷ tokens)
 inner_behind token [] n p = absurd (false≢true p)
 inner_behind token (closing ∷ []) n p =
     ⊎_elim
@@ -209,7 +232,8 @@ inner_opened : (tokens : List Token) → passes (Some state.Opened) tokens ≡ t
 inner_opened [] p = absurd (false≢true p)
 inner_opened (token ∷ tokens) p = let h = behind_opened token.kind tokens p in inner_behind token tokens h.0 h.1
 
-counted_from : (number opening : Token) (tokens : List Token) → number.kind ≡ kind.Number → opening.kind ≡ kind.Opening → passes (Some state.Opened) tokens ≡ true
+counted_from : (number opening : Token) (tokens : List Token) → number.kind ≡ kind.Number → opening.kind ≡ kind.Opening
+    → passes (Some state.Opened) tokens ≡ true
     → (names : List (List ℕ)) × AreCounted (number ∷ opening ∷ tokens) number names
 counted_from number opening tokens is opens p =
     let r = inner_opened tokens p in (
@@ -229,7 +253,8 @@ counted_from number opening tokens is opens p =
 plain_said : (token : Token) (tokens : List Token) → IsName token.kind → passes (Some state.Name) tokens ≡ true → IsSaid (token ∷ tokens)
 plain_said token tokens n p = let r = names_behind token tokens n p in (method.First, None, r.0, (refl, inr r.1))
 
-number_said : (token : Token) (tokens : List Token) → token.kind ≡ kind.Number → passes (Some state.FirstNumber) tokens ≡ true → IsSaid (token ∷ tokens)
+number_said : (token : Token) (tokens : List Token) → token.kind ≡ kind.Number → passes (Some state.FirstNumber) tokens ≡ true
+    → IsSaid (token ∷ tokens)
 number_said token [] e p = plain_said token [] (inr (inl e)) refl
 number_said token (second ∷ tokens) e p =
     ⊎_elim
@@ -237,7 +262,8 @@ number_said token (second ∷ tokens) e p =
     (λ q. let r = counted_from token second tokens e q.0 q.1 in (method.First, Some token, r.0, inl (refl, r.1)))
     (behind_first_number second.kind tokens p)
 
-keyword_said : (m : Method) (token : Token) (tokens : List Token) → token.kind ≡ keyword m → passes (Some state.Keyword) tokens ≡ true → IsSaid (token ∷ tokens)
+keyword_said : (m : Method) (token : Token) (tokens : List Token) → token.kind ≡ keyword m → passes (Some state.Keyword) tokens ≡ true
+    → IsSaid (token ∷ tokens)
 keyword_said m token [] e p = absurd (false≢true p)
 keyword_said m token (number ∷ []) e p = absurd (false≢true (behind_keyword number.kind [] p).1)
 keyword_said m token (number ∷ opening ∷ tokens) e p =
@@ -246,7 +272,8 @@ keyword_said m token (number ∷ opening ∷ tokens) e p =
     let r = counted_from number opening tokens h.0 g.0 g.1 in
     (m, Some number, r.0, inr (record { chosen = token; others = number ∷ opening ∷ tokens; parts = refl; chooses = e; are_counted = r.1 }))
 
-first_said : (k : Kind) (token : Token) (tokens : List Token) → token.kind ≡ k → passes (step state.Start k) tokens ≡ true → IsSaid (token ∷ tokens)
+first_said : (k : Kind) (token : Token) (tokens : List Token) → token.kind ≡ k → passes (step state.Start k) tokens ≡ true
+    → IsSaid (token ∷ tokens)
 first_said kind.Number token tokens e p = number_said token tokens e p
 first_said kind.First token tokens e p = keyword_said method.First token tokens e p
 first_said kind.Any token tokens e p = keyword_said method.Any token tokens e p
@@ -288,19 +315,27 @@ finish_passes state.Closed = refl
 
 -- a list of the grammar goes on with tokens that lead to a state
 goes_on : (front : List Token) (s : State) → goes (Some state.Start) front ≡ Some s → Begins IsSaid front
-goes_on front s g = (finish s, passes_said (front ++ finish s) (passes_after (Some state.Start) front (finish s) ∙ ap (λ o. passes o (finish s)) g ∙ finish_passes s))
+goes_on front s g = (
+  finish s,
+  passes_said (front ++ finish s) (passes_after (Some state.Start) front (finish s)
+      ∙ ap (λ o. passes o (finish s)) g ∙ finish_passes s),
+)
 
 -- and none with tokens that lead to none
 goes_nowhere : (front : List Token) → goes (Some state.Start) front ≡ None → ¬ Begins IsSaid front
-goes_nowhere front g b = nothing_passes b.0 (ap (λ o. passes o b.0) (sym g) ∙ sym (passes_after (Some state.Start) front b.0) ∙ said_passes (front ++ b.0) b.1)
+goes_nowhere front g b = nothing_passes b.0 (ap (λ o. passes o b.0) (sym g) ∙ sym (passes_after (Some state.Start) front b.0)
+    ∙ said_passes (front ++ b.0) b.1)
 
-pub goes_more : (tokens : List Token) (i : ℕ) (token : Token) (s : State) → goes (Some state.Start) (take i tokens) ≡ Some s → i < length tokens → get_or tokens i token ≡ token
+pub goes_more : (tokens : List Token) (i : ℕ) (token : Token) (s : State) → goes (Some state.Start) (take i tokens) ≡ Some s
+    → i < length tokens → get_or tokens i token ≡ token
     → goes (Some state.Start) (take (i + 1) tokens) ≡ step s token.kind
 goes_more tokens i token s g l e =
-    ap (goes (Some state.Start)) (take_more tokens i token l ∙ ap (λ t. take i tokens ++ t ∷ []) e) ∙ goes_after (Some state.Start) (take i tokens) (token ∷ []) ∙ ap (λ o. goes o (token ∷ [])) g
+    ap (goes (Some state.Start)) (take_more tokens i token l ∙ ap (λ t. take i tokens ++ t ∷ []) e)
+    ∙ goes_after (Some state.Start) (take i tokens) (token ∷ []) ∙ ap (λ o. goes o (token ∷ [])) g
 
 -- the walk stops at a token
-pub stops_at : (tokens : List Token) (i : ℕ) (token : Token) (s : State) → goes (Some state.Start) (take i tokens) ≡ Some s → i < length tokens → get_or tokens i token ≡ token
+pub stops_at : (tokens : List Token) (i : ℕ) (token : Token) (s : State) → goes (Some state.Start) (take i tokens) ≡ Some s
+    → i < length tokens → get_or tokens i token ≡ token
     → step s token.kind ≡ None → StopsAt IsSaid tokens i
 stops_at tokens i token s g l e none =
     let stops : ¬ Begins IsSaid (take (i + 1) tokens) = goes_nowhere (take (i + 1) tokens) (goes_more tokens i token s g l e ∙ none) in
@@ -313,9 +348,11 @@ stops_at tokens i token s g l e none =
 
 -- the walk comes to the end
 passes_end : (tokens : List Token) (s : State) → goes (Some state.Start) tokens ≡ Some s → passes (Some state.Start) tokens ≡ may_end s
-passes_end tokens s g = ap (passes (Some state.Start)) (sym (append-nil tokens)) ∙ passes_after (Some state.Start) tokens [] ∙ ap (λ o. passes o []) g
+passes_end tokens s g = ap (passes (Some state.Start)) (sym (append-nil tokens)) ∙ passes_after (Some state.Start) tokens []
+    ∙ ap (λ o. passes o []) g
 
-pub stops_at_end : (tokens : List Token) (s : State) → goes (Some state.Start) tokens ≡ Some s → may_end s ≡ false → StopsAt IsSaid tokens (length tokens)
+pub stops_at_end : (tokens : List Token) (s : State) → goes (Some state.Start) tokens ≡ Some s → may_end s ≡ false
+    → StopsAt IsSaid tokens (length tokens)
 stops_at_end tokens s g e = record {
   within = omega arith;
   refused = λ said. false≢true (sym (passes_end tokens s g ∙ e) ∙ said_passes tokens said);
@@ -326,5 +363,6 @@ stops_at_end tokens s g e = record {
 pub said_at_end : (tokens : List Token) (s : State) → goes (Some state.Start) tokens ≡ Some s → may_end s ≡ true → IsSaid tokens
 said_at_end tokens s g e = passes_said tokens (passes_end tokens s g ∙ e)
 
-pub at_end : (tokens : List Token) (i : ℕ) (s : State) → goes (Some state.Start) (take i tokens) ≡ Some s → length tokens ≤ i → goes (Some state.Start) tokens ≡ Some s
+pub at_end : (tokens : List Token) (i : ℕ) (s : State) → goes (Some state.Start) (take i tokens) ≡ Some s → length tokens ≤ i
+    → goes (Some state.Start) tokens ≡ Some s
 at_end tokens i s g l = ap (goes (Some state.Start)) (sym (take_all i tokens l)) ∙ g

@@ -4,6 +4,7 @@ pub mod GrammarPlaces
 pub mod GrammarReading
 pub mod GrammarSays
 pub mod GrammarWalk
+pub mod GreatestMet
 pub mod Lists
 pub mod PrintedTokens
 pub mod Printing

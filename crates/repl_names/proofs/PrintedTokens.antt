@@ -38,10 +38,12 @@ token_behind at blanks k text = token_of k text (at + length blanks)
 abbrev IsToken : Kind → List ℕ → List ℕ → List ℕ → Type 0
 IsToken k text spelled behind = IsTokenAs list_class list_token (token_of k text) spelled behind
 
-read_next : (at : ℕ) (blanks spelled behind : List ℕ) (k : Kind) (text : List ℕ) (tokens : List Token) → All (λ c. is_blank (list_class c) ≡ true) blanks
+read_next : (at : ℕ) (blanks spelled behind : List ℕ) (k : Kind) (text : List ℕ) (tokens : List Token)
+    → All (λ c. is_blank (list_class c) ≡ true) blanks
     → IsToken k text spelled behind → Reads (at + length blanks + length spelled) behind tokens
     → Reads at (blanks ++ spelled ++ behind) (token_behind at blanks k text ∷ tokens)
-read_next at blanks spelled behind k text tokens blank is reads = written.read_next list_class list_token at blanks spelled behind (token_of k text) tokens blank is reads
+read_next at blanks spelled behind k text tokens blank is reads = written.read_next list_class list_token at blanks spelled behind
+    (token_of k text) tokens blank is reads
 
 no_blank : All (λ c. is_blank (list_class c) ≡ true) []
 no_blank = written.no_blank list_class
@@ -50,7 +52,8 @@ one_space : All (λ c. is_blank (list_class c) ≡ true) (32 ∷ [])
 one_space = one_blank list_class 32 refl
 
 -- a byte that is a token of its own
-sign_token : (sign : ℕ) (k : Kind) (text behind : List ℕ) → list_class sign ≡ class.Alone → ((place : ℕ) → said (sign_kind sign) place [] ≡ token_of k text place)
+sign_token : (sign : ℕ) (k : Kind) (text behind : List ℕ) → list_class sign ≡ class.Alone
+    → ((place : ℕ) → said (sign_kind sign) place [] ≡ token_of k text place)
     → IsToken k text (sign ∷ []) behind
 sign_token sign k text behind alone means = record { kind = raw.Alone sign; text = []; is = (refl, refl, alone); means = means }
 
@@ -83,9 +86,21 @@ printed_name name behind texts ends = by_test (bytes_eq name (codes "*")) refl
     by_test : (b : Bool) → bytes_eq name (codes "*") ≡ b → IsPrinted name behind
     by_test true e =
         let star : name ≡ codes "*" = (bytes_eq-Decides name (codes "*")).0 e in
-        record { kind_of = kind.Star; is_name = inr (inr (inr refl)); is_token = subst (λ (text : List ℕ). IsToken kind.Star name text behind) (sym (ap (λ b. cond b (codes "*") (quoted 34 name)) e)) (subst (λ (text : List ℕ). IsToken kind.Star text (codes "*") behind) (sym star) (sign_token 42 kind.Star (codes "*") behind refl (λ place. refl))) }
+        record {
+          kind_of = kind.Star;
+          is_name = inr (inr (inr refl));
+          is_token = subst
+              (λ (text : List ℕ). IsToken kind.Star name text behind) (sym (ap (λ b. cond b (codes "*") (quoted 34 name)) e))
+              (subst (λ (text : List ℕ). IsToken kind.Star text (codes "*") behind) (sym star)
+              (sign_token 42 kind.Star (codes "*") behind refl (λ place. refl)));
+        }
     by_test false e =
-        record { kind_of = kind.Quoted; is_name = inr (inr (inl refl)); is_token = subst (λ (text : List ℕ). IsToken kind.Quoted name text behind) (sym (ap (λ b. cond b (codes "*") (quoted 34 name)) e)) (quoted_token name behind texts ends) }
+        record {
+          kind_of = kind.Quoted;
+          is_name = inr (inr (inl refl));
+          is_token = subst (λ (text : List ℕ). IsToken kind.Quoted name text behind)
+              (sym (ap (λ b. cond b (codes "*") (quoted 34 name)) e)) (quoted_token name behind texts ends);
+        }
 
 -- the names, and the parenthesis that closes them
 record ReadsNames (at : ℕ) (bytes : List ℕ) (names : List (List ℕ)) : Type 0 where
@@ -96,7 +111,8 @@ record ReadsNames (at : ℕ) (bytes : List ℕ) (names : List (List ℕ)) : Type
   closes : closing.kind ≡ kind.Closing
 
 -- names behind blanks: a space, but for the first
-read_names : (at : ℕ) (blanks : List ℕ) (names : List (List ℕ)) → All (λ c. is_blank (list_class c) ≡ true) blanks → 0 < length names → All IsText names → ReadsNames at (blanks ++ names_spelling names ++ codes ")") names
+read_names : (at : ℕ) (blanks : List ℕ) (names : List (List ℕ)) → All (λ c. is_blank (list_class c) ≡ true) blanks → 0 < length names
+    → All IsText names → ReadsNames at (blanks ++ names_spelling names ++ codes ")") names
 read_names at blanks [] blank some texts = absurd (omega arith)
 read_names at blanks (name ∷ []) blank some texts =
     let p = printed_name name (codes ")") (All-head IsText name [] texts) refl in
@@ -104,23 +120,29 @@ read_names at blanks (name ∷ []) blank some texts =
     record {
       inside = token_behind at blanks p.kind_of name ∷ [];
       closing = token_behind end [] kind.Closing [];
-      reads = read_next at blanks (name_spelling name) (codes ")") p.kind_of name (token_behind end [] kind.Closing [] ∷ []) blank p.is_token (read_next end [] (codes ")") [] kind.Closing [] [] no_blank (closing_token []) (read_end list_class list_token (end + 0 + 1)));
+      reads = read_next at blanks (name_spelling name) (codes ")") p.kind_of name
+          (token_behind end [] kind.Closing [] ∷ []) blank p.is_token (read_next end [] (codes ")") [] kind.Closing [] [] no_blank
+          (closing_token []) (read_end list_class list_token (end + 0 + 1)));
       are_names = (p.is_name, refl);
       closes = refl;
     }
 read_names at blanks (name ∷ second ∷ names) blank some texts =
     let end : ℕ = at + length blanks + length (name_spelling name) in
-    let others = read_names (end + 0 + 1) (codes " ") (second ∷ names) one_space (omega arith) (All-tail IsText name (second ∷ names) texts) in
+    let others = read_names (end + 0 + 1) (codes " ") (second ∷ names) one_space (omega arith)
+    (All-tail IsText name (second ∷ names) texts) in
     let rest : List ℕ = codes " " ++ names_spelling (second ∷ names) ++ codes ")" in
     let p = printed_name name (44 ∷ rest) (All-head IsText name (second ∷ names) texts) refl in
     let comma : Token = token_behind end [] kind.Comma [] in
-    let parts : blanks ++ name_spelling name ++ 44 ∷ rest ≡ blanks ++ names_spelling (name ∷ second ∷ names) ++ codes ")" = simp append_assoc in
-    let reads_comma : Reads end (44 ∷ rest) (comma ∷ others.inside ++ others.closing ∷ []) = read_next end [] (codes ",") rest kind.Comma [] (others.inside ++ others.closing ∷ []) no_blank (comma_token rest) others.reads in
+    let parts : blanks ++ name_spelling name ++ 44 ∷ rest ≡ blanks ++ names_spelling (name ∷ second ∷ names) ++ codes ")" =
+    simp append_assoc in
+    let reads_comma : Reads end (44 ∷ rest) (comma ∷ others.inside ++ others.closing ∷ []) =
+    read_next end [] (codes ",") rest kind.Comma [] (others.inside ++ others.closing ∷ []) no_blank (comma_token rest) others.reads in
     record {
       inside = token_behind at blanks p.kind_of name ∷ comma ∷ others.inside;
       closing = others.closing;
       reads = subst (λ bytes. Reads at bytes (token_behind at blanks p.kind_of name ∷ comma ∷ others.inside ++ others.closing ∷ [])) parts
-          (read_next at blanks (name_spelling name) (44 ∷ rest) p.kind_of name (comma ∷ others.inside ++ others.closing ∷ []) blank p.is_token reads_comma);
+          (read_next at blanks (name_spelling name) (44 ∷ rest) p.kind_of name
+          (comma ∷ others.inside ++ others.closing ∷ []) blank p.is_token reads_comma);
       are_names = (p.is_name, refl, (second ∷ names, refl, others.are_names));
       closes = others.closes;
     }
@@ -179,7 +201,8 @@ read_number n behind small =
     let some = decimal_nonempty n small in
     let all = digits_are_ascii digits (decimal_is_IsNumeral n small).0.1 in
     let first : is_ascii_digit (get_or digits 0 0) ≡ true = all 0 0 some in
-    let passes = All-weaker (λ c. is_ascii_digit c ≡ true) (λ c. is_digit (list_class c) ≡ true) (λ c e. ap is_digit (digit_is c e)) digits all in
+    let passes = All-weaker (λ c. is_ascii_digit c ≡ true) (λ c. is_digit (list_class c) ≡ true)
+    (λ c e. ap is_digit (digit_is c e)) digits all in
     let texts : IsText digits = All-weaker (λ c. is_ascii_digit c ≡ true) (λ c. (0 < c) × (c < 256)) digit_in_text digits all in
     record {
       kind = raw.Number;
@@ -189,7 +212,8 @@ read_number n behind small =
     }
 
 -- a list with names is a keyword, a number and the names in parentheses
-spells_some : (list : Listing) (names : List (List ℕ)) → list.names ≡ names → 0 < length names → All IsText names → list.number < 2 ^ 64 → Spells (method_spelling list.method ++ codes " " ++ decimal list.number ++ codes " (" ++ names_spelling names ++ codes ")") list
+spells_some : (list : Listing) (names : List (List ℕ)) → list.names ≡ names → 0 < length names → All IsText names → list.number < 2 ^ 64
+    → Spells (method_spelling list.method ++ codes " " ++ decimal list.number ++ codes " (" ++ names_spelling names ++ codes ")") list
 spells_some list names is some texts small =
     let word : List ℕ = method_spelling list.method in
     let digits : List ℕ = decimal list.number in
@@ -201,10 +225,17 @@ spells_some list names is some texts small =
     let chosen : Token = token_behind 0 [] (keyword list.method) word in
     let tail : List ℕ = names_spelling names ++ codes ")" in
     let counted : List Token = number ∷ opening ∷ inner.inside ++ inner.closing ∷ [] in
-    let reads_opening : Reads after_number (codes " (" ++ tail) (opening ∷ inner.inside ++ inner.closing ∷ []) = read_next after_number (codes " ") (codes "(") tail kind.Opening [] (inner.inside ++ inner.closing ∷ []) one_space (opening_token tail) inner.reads in
-    let reads_number : Reads after_word (codes " " ++ digits ++ (codes " (" ++ tail)) counted = read_next after_word (codes " ") digits (codes " (" ++ tail) kind.Number digits (opening ∷ inner.inside ++ inner.closing ∷ []) one_space (read_number list.number (40 ∷ tail) small) reads_opening in
-    let reads_word : Reads 0 (word ++ (codes " " ++ digits ++ (codes " (" ++ tail))) (chosen ∷ counted) = read_next 0 [] word (codes " " ++ digits ++ (codes " (" ++ tail)) (keyword list.method) word counted no_blank (read_keyword list.method (digits ++ (codes " (" ++ tail))) reads_number in
-    let parts : word ++ (codes " " ++ digits ++ (codes " (" ++ tail)) ≡ word ++ codes " " ++ digits ++ codes " (" ++ names_spelling names ++ codes ")" = simp append_assoc in
+    let reads_opening : Reads after_number (codes " (" ++ tail) (opening ∷ inner.inside ++ inner.closing ∷ []) =
+    read_next after_number (codes " ") (codes "(") tail kind.Opening [] (inner.inside ++ inner.closing ∷ []) one_space
+    (opening_token tail) inner.reads in
+    let reads_number : Reads after_word (codes " " ++ digits ++ (codes " (" ++ tail)) counted =
+    read_next after_word (codes " ") digits (codes " (" ++ tail) kind.Number digits
+    (opening ∷ inner.inside ++ inner.closing ∷ []) one_space (read_number list.number (40 ∷ tail) small) reads_opening in
+    let reads_word : Reads 0 (word ++ (codes " " ++ digits ++ (codes " (" ++ tail))) (chosen ∷ counted) =
+    read_next 0 [] word (codes " " ++ digits ++ (codes " (" ++ tail)) (keyword list.method) word counted no_blank
+    (read_keyword list.method (digits ++ (codes " (" ++ tail))) reads_number in
+    let parts : word ++ (codes " " ++ digits ++
+    (codes " (" ++ tail)) ≡ word ++ codes " " ++ digits ++ codes " (" ++ names_spelling names ++ codes ")" = simp append_assoc in
     record {
       tokens = chosen ∷ counted;
       number = Some number;
@@ -214,12 +245,22 @@ spells_some list names is some texts small =
         others = counted;
         parts = refl;
         chooses = refl;
-        are_counted = record { opening = opening; inside = inner.inside; closing = inner.closing; parts = refl; is_number = refl; opens = refl; are_names = subst (AreNames inner.inside) (sym is) inner.are_names; closes = inner.closes };
+        are_counted = record {
+          opening = opening;
+          inside = inner.inside;
+          closing = inner.closing;
+          parts = refl;
+          is_number = refl;
+          opens = refl;
+          are_names = subst (AreNames inner.inside) (sym is) inner.are_names;
+          closes = inner.closes;
+        };
       });
       value = sym (decimal_is_IsNumeral list.number small).1;
     }
 
-spells : (list : Listing) (names : List (List ℕ)) → list.names ≡ names → All IsText names → Demands names list.method list.number → Spells (spelling_of list names) list
+spells : (list : Listing) (names : List (List ℕ)) → list.names ≡ names → All IsText names → Demands names list.method list.number
+    → Spells (spelling_of list names) list
 spells list [] is texts demands = record {
   tokens = [];
   number = None;

@@ -11,18 +11,21 @@ pub record IsFirstMatch (entries : List (List ℕ)) (name : List ℕ) (place : �
   pub matches : HoldsAt (Matches name) entries place
   pub none_before : AllWithin (λ entry. ¬ Matches name entry) entries 0 place
 
-pub priority_from_place : (entries : List (List ℕ)) (name : List ℕ) (place : ℕ) → IsFirstMatch entries name place → IsPriority entries name (place + 1)
+pub priority_from_place : (entries : List (List ℕ)) (name : List ℕ) (place : ℕ) → IsFirstMatch entries name place
+    → IsPriority entries name (place + 1)
 priority_from_place entries name place h =
     let within : place < length entries = h.within in
     let size : length (take place entries) ≡ place = length-take-le place entries (omega arith) in
-    let split : entries ≡ take place entries ++ get_or entries place [] ∷ drop (place + 1) entries = sym (take-append-drop place entries) ∙ ap (λ x. take place entries ++ x) (drop_more entries place [] within) in
+    let split : entries ≡ take place entries ++ get_or entries place [] ∷ drop (place + 1) entries = sym (take-append-drop place entries)
+    ∙ ap (λ x. take place entries ++ x) (drop_more entries place [] within) in
     inr (
       take place entries,
       get_or entries place [],
       drop (place + 1) entries,
       split,
       ap (λ n. n + 1) (sym size),
-      λ k d l. let below : k < place = omega arith in subst (λ entry. ¬ Matches name entry) (sym (get_or-take place entries k d below)) (h.none_before k d (omega arith) below),
+      λ k d l. let below : k < place = omega arith in subst (λ entry. ¬ Matches name entry) (sym (get_or-take place entries k d below))
+          (h.none_before k d (omega arith) below),
       h.matches [],
     )
 

@@ -15,12 +15,18 @@ use Rattle.repl_names.proofs.Lists.{met_for_both}
 
 -- ---- earlier positions
 
-met_by_below : (me : Method) (number : ℕ) (cs : List Candidate) (m : Mode) (earlier end : ℕ) → earlier ≤ end → MetBy me number cs m end → MetBy me number cs m earlier
+met_by_below : (me : Method) (number : ℕ) (cs : List Candidate) (m : Mode) (earlier end : ℕ) → earlier ≤ end → MetBy me number cs m end
+    → MetBy me number cs m earlier
 met_by_below method.Any number cs m earlier end le h = let falls = reach_falls m earlier end cs le in omega arith
-met_by_below method.First number cs m earlier end le h = record { enough = h.enough; first = λ k d l r. let at = h.first k d l r in omega arith }
+met_by_below method.First number cs m earlier end le h = record {
+  enough = h.enough;
+  first = λ k d l r. let at = h.first k d l r in omega arith;
+}
 
-pub stays_met_below : (list : Listing) (sessions : List Candidate) (m : Mode) (earlier end : ℕ) → earlier ≤ end → Met list sessions m end → Met list sessions m earlier
-stays_met_below list sessions m earlier end le = met_for_both list.names list (candidates sessions) (candidates sessions) m end earlier (met_by_below list.method list.number (candidates sessions) m earlier end le)
+pub stays_met_below : (list : Listing) (sessions : List Candidate) (m : Mode) (earlier end : ℕ) → earlier ≤ end → Met list sessions m end
+    → Met list sessions m earlier
+stays_met_below list sessions m earlier end le = met_for_both list.names list (candidates sessions) (candidates sessions) m end earlier
+    (met_by_below list.method list.number (candidates sessions) m earlier end le)
 
 -- ---- forward
 
@@ -42,20 +48,24 @@ forward_before c d e f ce df =
     ∙ ap (λ s. nat_lt d.priority c.priority || (d.priority == c.priority && nat_lt s e.session)) df.session
     ∙ ap (λ s. nat_lt d.priority c.priority || (d.priority == c.priority && nat_lt d.session s)) ce.session
 
-zip_cond : (b : Bool) (c d : Candidate) (cs ds : List Candidate) → Forward c d → AllZip Forward cs ds → AllZip Forward (cond b (c ∷ cs) cs) (cond b (d ∷ ds) ds)
+zip_cond : (b : Bool) (c d : Candidate) (cs ds : List Candidate) → Forward c d → AllZip Forward cs ds
+    → AllZip Forward (cond b (c ∷ cs) cs) (cond b (d ∷ ds) ds)
 zip_cond true c d cs ds f rest = (f, rest)
 zip_cond false c d cs ds f rest = rest
 
-forward_candidates : (old new : List Candidate) → AllZip Forward old new → All (λ c. 0 < c.flushed) old → AllZip Forward (candidates old) (candidates new)
+forward_candidates : (old new : List Candidate) → AllZip Forward old new → All (λ c. 0 < c.flushed) old
+    → AllZip Forward (candidates old) (candidates new)
 forward_candidates [] [] zip some = zip
 forward_candidates [] (d ∷ ds) zip some = absurd zip
 forward_candidates (c ∷ cs) [] zip some = absurd zip
 forward_candidates (c ∷ cs) (d ∷ ds) zip some =
     let rest = forward_candidates cs ds zip.1 (All-tail (λ e. 0 < e.flushed) c cs some) in
     let same = forward_counts c d zip.0 (All-head (λ e. 0 < e.flushed) c cs some) in
-    subst (λ b. AllZip Forward (cond (counts c) (c ∷ candidates cs) (candidates cs)) (cond b (d ∷ candidates ds) (candidates ds))) (sym same) (zip_cond (counts c) c d (candidates cs) (candidates ds) zip.0 rest)
+    subst (λ b. AllZip Forward (cond (counts c) (c ∷ candidates cs) (candidates cs)) (cond b (d ∷ candidates ds) (candidates ds)))
+    (sym same) (zip_cond (counts c) c d (candidates cs) (candidates ds) zip.0 rest)
 
-count_forward : (p q : Candidate → Bool) (old new : List Candidate) → AllZip Forward old new → ((c d : Candidate) → Forward c d → p c ≡ true → q d ≡ true) → count_by p old ≤ count_by q new
+count_forward : (p q : Candidate → Bool) (old new : List Candidate) → AllZip Forward old new
+    → ((c d : Candidate) → Forward c d → p c ≡ true → q d ≡ true) → count_by p old ≤ count_by q new
 count_forward p q [] [] zip by = omega arith
 count_forward p q [] (d ∷ ds) zip by = absurd zip
 count_forward p q (c ∷ cs) [] zip by = absurd zip
@@ -64,9 +74,11 @@ count_forward p q (c ∷ cs) (d ∷ ds) zip by =
     let rest = count_forward p q cs ds zip.1 by in
     omega (arith, count_cons p c cs, count_cons q d ds)
 
-met_by_forward : (me : Method) (number : ℕ) (old new : List Candidate) (m : Mode) (end : ℕ) → AllZip Forward old new → MetBy me number old m end → MetBy me number new m end
+met_by_forward : (me : Method) (number : ℕ) (old new : List Candidate) (m : Mode) (end : ℕ) → AllZip Forward old new
+    → MetBy me number old m end → MetBy me number new m end
 met_by_forward method.Any number old new m end zip h =
-    let more = count_forward (reaches m end) (reaches m end) old new zip (λ c d f e. let at = reached m end c e in let up = forward_position m c d f in reaches_at m end d (omega arith)) in
+    let more = count_forward (reaches m end) (reaches m end) old new zip
+    (λ c d f e. let at = reached m end c e in let up = forward_position m c d f in reaches_at m end d (omega arith)) in
     omega arith
 met_by_forward method.First number old new m end zip h =
     let size = length_all_zip Forward old new zip in
@@ -76,12 +88,14 @@ met_by_forward method.First number old new m end zip h =
           let was = get_or old k d in
           let is = get_or new k d in
           let f : Forward was is = AllZip-get_or Forward old new k d d zip (omega arith) in
-          let ranks = count_forward (λ e. goes_before e was) (λ e. goes_before e is) old new zip (λ a b g e. forward_before was a is b f g ∙ e) in
+          let ranks = count_forward (λ e. goes_before e was) (λ e. goes_before e is) old new zip
+          (λ a b g e. forward_before was a is b f g ∙ e) in
           let at = h.first k d (omega arith) (omega arith) in
           let up = forward_position m was is f in
           omega arith;
     }
 
-pub stays_met_forward : (list : Listing) (old new : List Candidate) (m : Mode) (end : ℕ) → AllZip Forward old new → All (λ c. 0 < c.flushed) old → Met list old m end → Met list new m end
+pub stays_met_forward : (list : Listing) (old new : List Candidate) (m : Mode) (end : ℕ) → AllZip Forward old new
+    → All (λ c. 0 < c.flushed) old → Met list old m end → Met list new m end
 stays_met_forward list old new m end zip some = met_for_both list.names list (candidates old) (candidates new) m end end
     (met_by_forward list.method list.number (candidates old) (candidates new) m end (forward_candidates old new zip some))

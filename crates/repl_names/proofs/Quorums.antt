@@ -12,7 +12,8 @@ use Rattle.repl_names.specs.Quorum.{position, reaches}
 pub count_cons : {X : Type 0} (p : X → Bool) (x : X) (xs : List X) → count_by p (x ∷ xs) ≡ cond (p x) 1 0 + count_by p xs
 count_cons p x xs = sum_by-cons (λ y. cond (p y) 1 0) x xs
 
-count_cond : {X : Type 0} (p : X → Bool) (b : Bool) (x : X) (xs : List X) → count_by p (cond b (x ∷ xs) xs) ≡ cond (b && p x) 1 0 + count_by p xs
+count_cond : {X : Type 0} (p : X → Bool) (b : Bool) (x : X) (xs : List X)
+    → count_by p (cond b (x ∷ xs) xs) ≡ cond (b && p x) 1 0 + count_by p xs
 count_cond p true x xs = count_cons p x xs
 count_cond p false x xs = omega arith
 
@@ -25,7 +26,8 @@ count_filter p q (x ∷ xs) =
     let step = count_cond p (q x) x (filter q xs) in
     step ∙ ap (λ n. cond (q x && p x) 1 0 + n) rest ∙ sym whole
 
-filter_cond : {X : Type 0} (p : X → Bool) (b : Bool) (x : X) (xs : List X) → filter p (cond b (x ∷ xs) xs) ≡ cond (b && p x) (x ∷ filter p xs) (filter p xs)
+filter_cond : {X : Type 0} (p : X → Bool) (b : Bool) (x : X) (xs : List X)
+    → filter p (cond b (x ∷ xs) xs) ≡ cond (b && p x) (x ∷ filter p xs) (filter p xs)
 filter_cond p true x xs = refl
 filter_cond p false x xs = refl
 
@@ -73,7 +75,8 @@ pub reaches_at : (m : Mode) (end : ℕ) (c : Candidate) → end ≤ position m c
 reaches_at m end c h = ap not (le-ltb (position m c) end h)
 
 -- no more have a later position
-pub reach_falls : (m : Mode) (earlier later : ℕ) (cs : List Candidate) → earlier ≤ later → count_by (reaches m later) cs ≤ count_by (reaches m earlier) cs
+pub reach_falls : (m : Mode) (earlier later : ℕ) (cs : List Candidate) → earlier ≤ later
+    → count_by (reaches m later) cs ≤ count_by (reaches m earlier) cs
 reach_falls m earlier later cs le = count_le (reaches m later) (reaches m earlier) cs
     (λ k d l h. let r = reached m later _ h in reaches_at m earlier _ (omega arith))
 

@@ -1,78 +1,128 @@
--- The order of priority and connection: keys, ranks, and the first candidates.
-use Rattle.std.proofs.Common.{◌≡◌, ℕ, suc, ◌-◌, ◌<◌, ◌≤◌, ◌^◌, Bool, true, false, cond, not, ◌&&◌, nat_lt, ◌==◌, List, [], ◌∷◌, map, length, get_or, min, All, Any, unwrap_or, filter, fold, count_by, refl, sym, ap, subst, ◌⊎◌, inl, inr, ⊎_elim, arith}
+-- The order of priority and connection: places in it, ranks, and the first candidates.
+use Rattle.std.proofs.Common.{◌≡◌, ℕ, suc, ◌-◌, ◌<◌, ◌≤◌, Bool, true, false, cond, not, ◌&&◌, nat_lt, ◌==◌, List, [], ◌∷◌, map, length, get_or, min, All, Any, unwrap_or, filter, fold, count_by, refl, sym, ap, subst, ◌⊎◌, inl, inr, ⊎_elim, arith}
 use Rattle.std.specs.List.{reduce}
-use Rattle.std.proofs.lemmas.Bool.{cases_lt, cases_order, or_cases, or_left, or_right, and_parts, and_from, lt-ltb, le-ltb, ltb-true, ltb-false, eqb-true, eq-eqb, not-true, both_ways, false_from_ne_true}
+use Rattle.std.proofs.lemmas.Bool.{cases_lt, or_cases, and_parts, le-ltb, ltb-true, ltb-false, eqb-true, not-true, both_ways, false_from_ne_true}
+use Rattle.std.proofs.lemmas.Bool.Decides.{nat_tests}
 use Rattle.std.proofs.lemmas.List.Elements.{All-cons, All-nil, All-head, All-tail, All-filter, filter_passes}
 use Rattle.std.proofs.lemmas.List.Sums.{count_by-le-length}
 use Rattle.repl_names.specs.declared.quorum.Mode.{Mode}
 use Rattle.repl_names.specs.declared.quorum.Candidate.{Candidate}
 use Rattle.repl_names.specs.Quorum.{position, goes_before, rank, MetByFirst}
-use Rattle.repl_names.specs.Order.{key, is_within}
+use Rattle.repl_names.specs.Order.{is_up_to, is_within}
 use Rattle.repl_names.proofs.Quorums.{count_le, count_all, count_none}
 
--- ---- keys
+-- ---- places in the order
 
-pub within : (last : ℕ) (c : Candidate) → is_within last c ≡ true → key c ≤ last
-within last c h = ltb-false last (key c) (not-true (nat_lt last (key c)) h)
+-- who goes before has this priority or a better one
+before_up_to : (c d : Candidate) → goes_before d c ≡ true → is_up_to c.priority d ≡ true
+before_up_to c d h = grind (arith, nat_tests)
 
-pub within_at : (last : ℕ) (c : Candidate) → key c ≤ last → is_within last c ≡ true
-within_at last c h = ap not (le-ltb last (key c) h)
+-- before the oldest connection go those of better priority
+before_oldest : (c d : Candidate) → c.session ≡ 0 → goes_before d c ≡ true → d.priority < c.priority
+before_oldest c d z h = grind (arith, nat_tests)
 
-pub within_rises : (earlier later : ℕ) (cs : List Candidate) → earlier ≤ later → count_by (is_within earlier) cs ≤ count_by (is_within later) cs
-within_rises earlier later cs le = count_le (is_within earlier) (is_within later) cs
-    (λ k d l h. let w = within earlier (get_or cs k d) h in within_at later (get_or cs k d) (omega arith))
+up_to_below : (priority : ℕ) (d : Candidate) → d.priority < priority → is_up_to (priority - 1) d ≡ true
+up_to_below priority d h = grind (arith, nat_tests)
 
-pub within_all : (last : ℕ) (cs : List Candidate) → All (λ c. key c ≤ last) cs → count_by (is_within last) cs ≡ length cs
-within_all last cs h = count_all (is_within last) cs (λ k d l. within_at last (get_or cs k d) (h k d l))
+before_within : (c d : Candidate) → 0 < c.session → goes_before d c ≡ true → is_within c.priority (c.session - 1) d ≡ true
+before_within c d some h = grind (arith, nat_tests)
 
--- who goes before has the lesser key
-pub key_before : (c d : Candidate) → c.session < 2 ^ 64 → d.session < 2 ^ 64 → goes_before d c ≡ true → key d < key c
-key_before c d rc rd h = ⊎_elim
-    (λ p. let lt = ltb-true d.priority c.priority p in omega arith)
-    (λ q.
-    let parts = and_parts (d.priority == c.priority) (nat_lt d.session c.session) q in
-    let same = eqb-true d.priority c.priority parts.0 in
-    let lt = ltb-true d.session c.session parts.1 in
-    omega arith)
-    (or_cases (nat_lt d.priority c.priority) (d.priority == c.priority && nat_lt d.session c.session) h)
+within_cases : (priority session : ℕ) (c : Candidate) → is_within priority session c ≡ true
+    → (c.priority < priority) ⊎ ((c.priority ≡ priority) × (c.session ≤ session))
+within_cases priority session c h = ⊎_elim
+    (λ l. inl (ltb-true c.priority priority l))
+    (λ r.
+    let parts = and_parts (c.priority == priority) (not (nat_lt session c.session)) r in
+    inr (eqb-true c.priority priority parts.0, ltb-false session c.session (not-true (nat_lt session c.session) parts.1)))
+    (or_cases (nat_lt c.priority priority) (c.priority == priority && not (nat_lt session c.session)) h)
 
-pub before_by_key : (c d : Candidate) → c.session < 2 ^ 64 → key d < key c → goes_before d c ≡ true
-before_by_key c d rc h = ⊎_elim
-    (λ e. or_right (nat_lt d.priority c.priority) (d.priority == c.priority && nat_lt d.session c.session)
-    (and_from (d.priority == c.priority) (nat_lt d.session c.session) (eq-eqb d.priority c.priority e) (lt-ltb d.session c.session (omega arith))))
-    (λ l. ⊎_elim
-    (λ l. or_left (nat_lt d.priority c.priority) (d.priority == c.priority && nat_lt d.session c.session) (lt-ltb d.priority c.priority l))
-    (λ l. absurd (omega arith))
-    l)
-    (cases_order d.priority c.priority)
+-- who is within goes before one who is not
+within_before : (priority session : ℕ) (c d : Candidate) → is_within priority session c ≡ false → is_within priority session d ≡ true
+    → goes_before d c ≡ true
+within_before priority session c d out h = grind (arith, nat_tests)
 
--- ---- ranks
+-- at the last priority, all are within the greatest session
+pub up_to_within : (priority session : ℕ) (cs : List Candidate) → All (λ c. c.session ≤ session) cs
+    → count_by (is_up_to priority) cs ≤ count_by (is_within priority session) cs
+up_to_within priority session cs h = count_le (is_up_to priority) (is_within priority session) cs
+    (λ k d l e. let low = h k d l in one priority session (get_or cs k d) low e)
+  where
+    one : (priority session : ℕ) (c : Candidate) → c.session ≤ session → is_up_to priority c ≡ true → is_within priority session c ≡ true
+    one priority session c low e = grind (arith, nat_tests)
 
-abbrev pub Ranged : List Candidate → Type 0
-Ranged cs = All (λ c. c.session < 2 ^ 64) cs
+pub up_to_all : (priority : ℕ) (cs : List Candidate) → All (λ c. c.priority ≤ priority) cs → count_by (is_up_to priority) cs ≡ length cs
+up_to_all priority cs h = count_all (is_up_to priority) cs (λ k d l. ap not (le-ltb priority (get_or cs k d).priority (h k d l)))
 
--- those up to the last key are the first
-pub first_within : (cs : List Candidate) (number last : ℕ) (c : Candidate) → Ranged cs → c.session < 2 ^ 64 → 0 < number
-    → ((earlier : ℕ) → earlier < last → count_by (is_within earlier) cs < number) → key c ≤ last → rank cs c < number
-first_within cs number last c ranged rc some least le = ⊎_elim
-    (λ z.
-    let none = count_none (λ d. goes_before d c) cs (λ k d l. false_from_ne_true _ (λ e. let lt = key_before c (get_or cs k d) rc (ranged k d l) e in absurd (omega arith))) in
-    omega arith)
-    (λ p.
-    let fewer = count_le (λ d. goes_before d c) (is_within (key c - 1)) cs (λ k d l e. let lt = key_before c (get_or cs k d) rc (ranged k d l) e in within_at (key c - 1) (get_or cs k d) (omega arith)) in
-    let few = least (key c - 1) (omega arith) in
-    omega arith)
-    (cases_lt (key c) 1)
+pub up_to_rises : (earlier later : ℕ) (cs : List Candidate) → earlier ≤ later
+    → count_by (is_up_to earlier) cs ≤ count_by (is_up_to later) cs
+up_to_rises earlier later cs le = count_le (is_up_to earlier) (is_up_to later) cs (λ k d l h. one earlier later (get_or cs k d) le h)
+  where
+    one : (earlier later : ℕ) (c : Candidate) → earlier ≤ later → is_up_to earlier c ≡ true → is_up_to later c ≡ true
+    one earlier later c le h = grind (arith, nat_tests)
 
--- the first are up to the last key
-pub within_first : (cs : List Candidate) (number last : ℕ) (c : Candidate) → c.session < 2 ^ 64
-    → number ≤ count_by (is_within last) cs → rank cs c < number → key c ≤ last
-within_first cs number last c rc enough h = ⊎_elim
+pub within_rises : (priority earlier later : ℕ) (cs : List Candidate) → earlier ≤ later
+    → count_by (is_within priority earlier) cs ≤ count_by (is_within priority later) cs
+within_rises priority earlier later cs le = count_le (is_within priority earlier) (is_within priority later) cs
+    (λ k d l h. one priority earlier later (get_or cs k d) le h)
+  where
+    one : (priority earlier later : ℕ) (c : Candidate) → earlier ≤ later → is_within priority earlier c ≡ true
+        → is_within priority later c ≡ true
+    one priority earlier later c le h = grind (arith, nat_tests)
+
+-- ---- the last place
+
+-- up to it there are so many, and up to no earlier one
+pub record IsLast (number priority session : ℕ) (cs : List Candidate) : Type 0 where
+  pub enough : number ≤ count_by (is_within priority session) cs
+  pub no_better : (earlier : ℕ) → earlier < priority → count_by (is_up_to earlier) cs < number
+  pub no_older : (earlier : ℕ) → earlier < session → count_by (is_within priority earlier) cs < number
+
+-- those before the oldest connection of a priority are few
+oldest_rank : (cs : List Candidate) (number priority : ℕ) (c : Candidate) → 0 < number → c.session ≡ 0 → c.priority ≡ priority
+    → ((earlier : ℕ) → earlier < priority → count_by (is_up_to earlier) cs < number) → rank cs c < number
+oldest_rank cs number priority c some z same fewer = ⊎_elim
     (λ l.
-    let more = count_le (is_within last) (λ d. goes_before d c) cs (λ k d l' e. let w = within last (get_or cs k d) e in before_by_key c (get_or cs k d) rc (omega arith)) in
-    absurd (omega arith))
-    (λ l. l)
-    (cases_lt last (key c))
+    let none = count_none (λ d. goes_before d c) cs
+    (λ k d l'. false_from_ne_true _ (λ e. let better = before_oldest c (get_or cs k d) z e in absurd (omega arith))) in
+    omega arith)
+    (λ l.
+    let le = count_le (λ d. goes_before d c) (is_up_to (priority - 1)) cs
+    (λ k d l' e. let better = before_oldest c (get_or cs k d) z e in up_to_below priority (get_or cs k d) (omega arith)) in
+    let few = fewer (priority - 1) (omega arith) in
+    omega arith)
+    (cases_lt priority 1)
+
+-- those up to the last place are the first
+pub first_within : (cs : List Candidate) (number priority session : ℕ) (c : Candidate) → IsLast number priority session cs → 0 < number
+    → is_within priority session c ≡ true → rank cs c < number
+first_within cs number priority session c last some h = ⊎_elim
+    (λ better.
+    let le = count_le (λ d. goes_before d c) (is_up_to c.priority) cs (λ k d l e. before_up_to c (get_or cs k d) e) in
+    let few = last.no_better c.priority better in
+    omega arith)
+    (λ at. ⊎_elim
+    (λ z. oldest_rank cs number priority c some (omega arith) at.0 last.no_better)
+    (λ l.
+    let le = count_le (λ d. goes_before d c) (is_within c.priority (c.session - 1)) cs
+    (λ k d l' e. before_within c (get_or cs k d) (omega arith) e) in
+    let few : count_by (is_within c.priority (c.session - 1)) cs < number =
+    subst (λ n. count_by (is_within n (c.session - 1)) cs < number) (sym at.0) (last.no_older (c.session - 1) (omega (arith, at.1))) in
+    omega arith)
+    (cases_lt c.session 1))
+    (within_cases priority session c h)
+
+-- the first are up to the last place
+pub within_first : (cs : List Candidate) (number priority session : ℕ) (c : Candidate) → IsLast number priority session cs
+    → rank cs c < number
+    → is_within priority session c ≡ true
+within_first cs number priority session c last h = by_test (is_within priority session c) refl
+  where
+    by_test : (b : Bool) → is_within priority session c ≡ b → is_within priority session c ≡ true
+    by_test true e = e
+    by_test false e =
+        let more = count_le (is_within priority session) (λ d. goes_before d c) cs
+        (λ k d l i. within_before priority session c (get_or cs k d) e i) in
+        absurd (omega (arith, last.enough))
 
 -- ---- the least of a list
 
@@ -130,28 +180,28 @@ pub all_from_filter : {X : Type 0} (p : X → Bool) (P : X → Type 0) (xs : Lis
 all_from_filter p P [] h = All-nil (λ x. p x ≡ true → P x)
 all_from_filter p P (x ∷ xs) h = all_cond p P x xs (filter p xs) (p x) refl h (all_from_filter p P xs)
 
--- the least position of those up to the last key is one at which the list is met
-pub first_met : (cs : List Candidate) (m : Mode) (number last end : ℕ) → Ranged cs → number ≤ count_by (is_within last) cs
-    → IsLeast (position m) (filter (is_within last) cs) end → MetByFirst number cs m end
-first_met cs m number last end ranged enough least =
-    let size = count_by-le-length (is_within last) cs in
-    let below = all_from_filter (is_within last) (λ c. end ≤ position m c) cs least.below in
+-- the least position of those up to the last place is one at which the list is met
+pub first_met : (cs : List Candidate) (m : Mode) (number priority session end : ℕ) → IsLast number priority session cs
+    → IsLeast (position m) (filter (is_within priority session) cs) end → MetByFirst number cs m end
+first_met cs m number priority session end last least =
+    let size = count_by-le-length (is_within priority session) cs in
+    let below = all_from_filter (is_within priority session) (λ c. end ≤ position m c) cs least.below in
     record {
-      enough = omega arith;
-      first = λ k d l h. below k d l (within_at last (get_or cs k d) (within_first cs number last (get_or cs k d) (ranged k d l) enough h));
+      enough = omega (arith, last.enough);
+      first = λ k d l h. below k d l (within_first cs number priority session (get_or cs k d) last h);
     }
 
 -- and at no later one
-pub first_missed : (cs : List Candidate) (m : Mode) (number last end later : ℕ) → Ranged cs → 0 < number
-    → ((earlier : ℕ) → earlier < last → count_by (is_within earlier) cs < number)
-    → IsLeast (position m) (filter (is_within last) cs) end → end < later → MetByFirst number cs m later → ⊥
-first_missed cs m number last end later ranged some fewer least h met =
-    let kept = filter (is_within last) cs in
+pub first_missed : (cs : List Candidate) (m : Mode) (number priority session end later : ℕ) → IsLast number priority session cs → 0 < number
+    → IsLeast (position m) (filter (is_within priority session) cs) end → end < later → MetByFirst number cs m later → ⊥
+first_missed cs m number priority session end later last some least h met =
+    let test = is_within priority session in
+    let kept = filter test cs in
     let c = least.one.1 in
     let at = λ (P : Candidate → Type 0) (all : All P kept). subst P least.one.3 (all least.one.0 c least.one.2) in
-    let close : key c ≤ last = within last c (at (λ d. is_within last d ≡ true) (filter_passes (is_within last) cs)) in
-    let rc : c.session < 2 ^ 64 = at (λ d. d.session < 2 ^ 64) (All-filter (is_within last) (λ d. d.session < 2 ^ 64) cs ranged) in
-    let reach : rank cs c < number → later ≤ position m c = at (λ d. rank cs d < number → later ≤ position m d) (All-filter (is_within last) (λ d. rank cs d < number → later ≤ position m d) cs met.first) in
-    let past : later ≤ position m c = reach (first_within cs number last c ranged rc some fewer close) in
+    let close : test c ≡ true = at (λ d. test d ≡ true) (filter_passes test cs) in
+    let reach : rank cs c < number → later ≤ position m c = at (λ d. rank cs d < number → later ≤ position m d)
+    (All-filter test (λ d. rank cs d < number → later ≤ position m d) cs met.first) in
+    let past : later ≤ position m c = reach (first_within cs number priority session c last some close) in
     let value : position m c ≡ end = least.one.4 in
     omega arith

@@ -21,7 +21,8 @@ use Rattle.repl_names.proofs.Quorums.{count_cons, count_none, reached}
 abbrev same_session : Candidate → Candidate → Bool
 same_session c d = c.session == d.session
 
-differ_cond : (b : Bool) (c : Candidate) (cs : List Candidate) → All (λ d. d.session ≢ c.session) cs → Differ cs → Differ (cond b (c ∷ cs) cs)
+differ_cond : (b : Bool) (c : Candidate) (cs : List Candidate) → All (λ d. d.session ≢ c.session) cs → Differ cs
+    → Differ (cond b (c ∷ cs) cs)
 differ_cond true c cs apart rest = (apart, rest)
 differ_cond false c cs apart rest = rest
 
@@ -38,7 +39,8 @@ distinct_from_differ : (cs : List Candidate) → Differ cs → IsDistinct same_s
 unfolding IsDistinct
 distinct_from_differ [] h = tt
 distinct_from_differ (c ∷ cs) h =
-    let apart = All-weaker (λ d. d.session ≢ c.session) (λ d. same_session c d ≡ false) (λ d ne. ne_eqb c.session d.session (λ e. ne (sym e))) cs h.0 in
+    let apart = All-weaker (λ d. d.session ≢ c.session) (λ d. same_session c d ≡ false)
+    (λ d ne. ne_eqb c.session d.session (λ e. ne (sym e))) cs h.0 in
     (recursion_from_All (λ d. same_session c d ≡ false) cs apart, distinct_from_differ cs h.1)
 
 differ_from_distinct : (cs : List Candidate) → IsDistinct same_session cs → Differ cs
@@ -89,7 +91,8 @@ taken_size number cs order moved enough = length-take-le number order (omega (ar
 abbrev Taken : ℕ → List Candidate → List Candidate → Mode → ℕ → Type 0
 Taken number cs taken m end = (length taken ≡ number) × Differ taken × All (λ c. Contains cs c × (end ≤ position m c)) taken
 
-taken_by : (me : Method) (number : ℕ) (cs order : List Candidate) (m : Mode) (end : ℕ) → MetBy me number cs m end → IsPermutation (eligible me cs m end) order → InOrder order → Differ cs
+taken_by : (me : Method) (number : ℕ) (cs order : List Candidate) (m : Mode) (end : ℕ) → MetBy me number cs m end
+    → IsPermutation (eligible me cs m end) order → InOrder order → Differ cs
     → Taken number cs (take number order) m end
 taken_by method.Any number cs order m end met moved up differ =
     let able = filter (reaches m end) cs in
@@ -116,14 +119,16 @@ taken_by method.First number cs order m end met moved up differ =
           ((there k d l).0, (there k d l).1 (omega arith)),
     )
 
-taken_for : (names : List (List ℕ)) (list : Listing) (cs counted : List Candidate) (m : Mode) (end : ℕ) → Demands names list.method list.number → Differ cs
+taken_for : (names : List (List ℕ)) (list : Listing) (cs counted : List Candidate) (m : Mode) (end : ℕ)
+    → Demands names list.method list.number → Differ cs
     → MetFor names list cs m end → CountedFor names list cs m end counted → Taken list.number cs counted m end
 taken_for [] list cs counted m end demands differ met taken = subst (λ ds. Taken list.number cs ds m end) (sym taken)
     (sym demands.1, tt, All-nil (λ c. Contains cs c × (end ≤ position m c)))
 taken_for (name ∷ names) list cs counted m end demands differ met taken = subst (λ ds. Taken list.number cs ds m end) (sym taken.3)
     (taken_by list.method list.number cs taken.0 m end met taken.1 taken.2 differ)
 
-pub those_counted : (list : Listing) (sessions counted : List Candidate) (m : Mode) (end : ℕ) → IsListing list → Differ sessions → Met list sessions m end → Counted list sessions m end counted
+pub those_counted : (list : Listing) (sessions counted : List Candidate) (m : Mode) (end : ℕ) → IsListing list → Differ sessions
+    → Met list sessions m end → Counted list sessions m end counted
     → (length counted ≡ list.number) × Differ counted × All (λ c. Contains (candidates sessions) c × (end ≤ position m c)) counted
 those_counted list sessions counted m end is differ met taken =
     taken_for list.names list (candidates sessions) counted m end is.demands (differ_filter counts sessions differ) met taken

@@ -61,7 +61,8 @@ is_said kind.Closing place text = inr (λ e. cc, refl)
 is_said kind.Wrong place text = inr (λ e. cc, refl)
 is_said kind.Unclosed place text = inr (λ e. cc, refl)
 
-said_as : (k : Kind) (place : ℕ) (text : List ℕ) → k ≢ kind.Star → said k place text ≡ (if holds_text text then own k place text else own kind.Wrong place [])
+said_as : (k : Kind) (place : ℕ) (text : List ℕ) → k ≢ kind.Star
+    → said k place text ≡ (if holds_text text then own k place text else own kind.Wrong place [])
 said_as k place text other = elim (is_said k place text) [ inl s ↦ absurd (other s.0) | inr s ↦ s.1 ]
 
 pub said_text : (k : Kind) (place : ℕ) (text : List ℕ) → k ≢ kind.Star → IsText text → said k place text ≡ own k place text
@@ -72,16 +73,19 @@ said_wrong k place text other none = said_as k place text other ∙ cond-false (
 
 -- the same of the parts that the reader has
 
-said_of : (t : RawToken) (k : lexer.Kind) (place : ℕ) (items looked : List ℕ) (l : Kind) → t ≡ record { kind = k; place = place; text = items } → looked ≡ items
+said_of : (t : RawToken) (k : lexer.Kind) (place : ℕ) (items looked : List ℕ) (l : Kind)
+    → t ≡ record { kind = k; place = place; text = items } → looked ≡ items
     → l ≡ kind_of k looked → said l place items ≡ list_token t
 said_of t k place items looked l e f is = ap (λ j. said j place items) (is ∙ ap (kind_of k) f) ∙ ap list_token (sym e)
 
-pub text_token : (t : RawToken) (k : lexer.Kind) (place : ℕ) (items looked text : List ℕ) (l : Kind) → t ≡ record { kind = k; place = place; text = items } → looked ≡ items
+pub text_token : (t : RawToken) (k : lexer.Kind) (place : ℕ) (items looked text : List ℕ) (l : Kind)
+    → t ≡ record { kind = k; place = place; text = items } → looked ≡ items
     → l ≡ kind_of k looked → l ≢ kind.Star → text ≡ items → IsText items → own l place text ≡ list_token t
 text_token t k place items looked text l e f is other same texts =
     ap (own l place) same ∙ sym (said_text l place items other texts) ∙ said_of t k place items looked l e f is
 
-pub wrong_token : (t : RawToken) (k : lexer.Kind) (place : ℕ) (items looked text : List ℕ) (l : Kind) → t ≡ record { kind = k; place = place; text = items } → looked ≡ items
+pub wrong_token : (t : RawToken) (k : lexer.Kind) (place : ℕ) (items looked text : List ℕ) (l : Kind)
+    → t ≡ record { kind = k; place = place; text = items } → looked ≡ items
     → l ≡ kind_of k looked → l ≢ kind.Star → text ≡ [] → ¬ IsText items → own kind.Wrong place text ≡ list_token t
 wrong_token t k place items looked text l e f is other same none =
     ap (own kind.Wrong place) same ∙ sym (said_wrong l place items other none) ∙ said_of t k place items looked l e f is
@@ -93,12 +97,14 @@ digit_class c e = grind (arith, nat_tests)
 
 -- only a number of the lexer is a number
 
-if_number : (b : Bool) (k : Kind) (place : ℕ) (text : List ℕ) (t : Token) → t ≡ (if b then own k place text else own kind.Wrong place []) → t.kind ≡ kind.Number
+if_number : (b : Bool) (k : Kind) (place : ℕ) (text : List ℕ) (t : Token) → t ≡ (if b then own k place text else own kind.Wrong place [])
+    → t.kind ≡ kind.Number
     → (k ≡ kind.Number) × (t.text ≡ text)
 if_number true k place text t e n = (sym (ap (λ (u : Token). u.kind) e) ∙ n, ap (λ (u : Token). u.text) e)
 if_number false k place text t e n = absurd (let wrong : kind.Wrong ≡ kind.Number = sym (ap (λ (u : Token). u.kind) e) ∙ n in cc)
 
-said_number : (k : Kind) (place : ℕ) (text : List ℕ) → (said k place text).kind ≡ kind.Number → (k ≡ kind.Number) × ((said k place text).text ≡ text)
+said_number : (k : Kind) (place : ℕ) (text : List ℕ) → (said k place text).kind ≡ kind.Number
+    → (k ≡ kind.Number) × ((said k place text).text ≡ text)
 said_number k place text n = elim (is_said k place text) [
   | inl s ↦ absurd (let star : kind.Star ≡ kind.Number = sym (ap (λ (u : Token). u.kind) s.1) ∙ n in cc)
   | inr s ↦ if_number (holds_text text) k place text (said k place text) s.1 n
@@ -109,7 +115,9 @@ word_no_number true b e = cc
 word_no_number false true e = cc
 word_no_number false false e = cc
 
-sign_no_number : (a b c d : Bool) → (if a then kind.Star else if b then kind.Comma else if c then kind.Opening else if d then kind.Closing else kind.Wrong) ≡ kind.Number → ⊥
+sign_no_number : (a b c d : Bool)
+    → (if a then kind.Star else if b then kind.Comma else if c then kind.Opening else if d then kind.Closing else kind.Wrong) ≡ kind.Number
+    → ⊥
 sign_no_number true b c d e = cc
 sign_no_number false true c d e = cc
 sign_no_number false false true d e = cc
@@ -117,7 +125,8 @@ sign_no_number false false false true e = cc
 sign_no_number false false false false e = cc
 
 raw_number : (k : lexer.Kind) (text : List ℕ) → kind_of k text ≡ kind.Number → k ≡ raw.Number
-raw_number raw.Word text e = absurd (word_no_number (bytes_eq (map to_ascii_lowercase text) (codes "first")) (bytes_eq (map to_ascii_lowercase text) (codes "any")) e)
+raw_number raw.Word text e = absurd (word_no_number (bytes_eq (map to_ascii_lowercase text) (codes "first"))
+    (bytes_eq (map to_ascii_lowercase text) (codes "any")) e)
 raw_number raw.Number text e = refl
 raw_number (raw.Alone sign) text e = absurd (sign_no_number (sign == 42) (sign == 44) (sign == 40) (sign == 41) e)
 raw_number (raw.Quoted quote) text e = absurd cc
@@ -128,12 +137,14 @@ run_digits : (text behind : List ℕ) → IsToken list_class raw.Number text tex
 run_digits text behind h = All-weaker (λ c. is_digit (list_class c) ≡ true) (λ c. is_ascii_digit c ≡ true) digit_class text
     (run_all list_class class.Digit is_digit text behind refl h.1)
 
-token_digits : (t : RawToken) (spelled behind : List ℕ) → IsToken list_class t.kind t.text spelled behind → (list_token t).kind ≡ kind.Number
+token_digits : (t : RawToken) (spelled behind : List ℕ) → IsToken list_class t.kind t.text spelled behind
+    → (list_token t).kind ≡ kind.Number
     → All (λ c. is_ascii_digit c ≡ true) (list_token t).text
 token_digits t spelled behind is n =
     let number = said_number (kind_of t.kind t.text) t.place t.text n in
     let k = raw_number t.kind t.text number.0 in
-    let run : IsToken list_class raw.Number t.text spelled behind = subst (λ (j : lexer.Kind). IsToken list_class j t.text spelled behind) k is in
+    let run : IsToken list_class raw.Number t.text spelled behind = subst
+    (λ (j : lexer.Kind). IsToken list_class j t.text spelled behind) k is in
     let digits = run_digits spelled behind (refl, run.1) in
     subst (All (λ c. is_ascii_digit c ≡ true)) (sym (number.1 ∙ run.0)) digits
 
@@ -142,10 +153,12 @@ raw_digits : (at : ℕ) (bytes : List ℕ) (tokens : List RawToken) (i : ℕ) (n
 raw_digits at bytes [] i number r e k = absurd cc
 raw_digits at bytes (t ∷ tokens) zero number (behind, place, next, size, others) e k =
     let same : list_token t ≡ number = cc in
-    subst (λ (n : Token). All (λ c. is_ascii_digit c ≡ true) n.text) same (token_digits t next.spelled behind next.is (ap (λ (n : Token). n.kind) same ∙ k))
+    subst (λ (n : Token). All (λ c. is_ascii_digit c ≡ true) n.text) same
+    (token_digits t next.spelled behind next.is (ap (λ (n : Token). n.kind) same ∙ k))
 raw_digits at bytes (t ∷ tokens) (suc i) number (behind, place, next, size, others) e k = raw_digits place behind tokens i number others e k
 
 -- the digits of a number among the tokens of a list
-pub reads_number : (at : ℕ) (bytes : List ℕ) (tokens : List Token) (i : ℕ) (number : Token) → Reads at bytes tokens → slice_get tokens i ≡ Some number
+pub reads_number : (at : ℕ) (bytes : List ℕ) (tokens : List Token) (i : ℕ) (number : Token) → Reads at bytes tokens
+    → slice_get tokens i ≡ Some number
     → number.kind ≡ kind.Number → All (λ c. is_ascii_digit c ≡ true) number.text
 reads_number at bytes tokens i number r e k = raw_digits at bytes r.0 i number r.1 (ap (λ ts. slice_get ts i) (sym r.2) ∙ e) k

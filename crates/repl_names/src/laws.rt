@@ -1,11 +1,11 @@
-ghost use Rattle.std.specs.Prelude.{◌≡◌, ◌≤◌, ◌<◌, ℕ, [], List, length, All, Contains, count_by};
+ghost use Rattle.std.specs.Prelude.{◌≡◌, ◌↔◌, Option, MatchOption, ◌≤◌, ◌<◌, ℕ, [], List, length, All, Contains, count_by};
 ghost use Rattle.std.specs.List.{AllZip};
 ghost use Rattle.repl_names.specs.declared.list.Method.TheVariants as Method;
 ghost use Rattle.repl_names.specs.declared.quorum.Mode.{Mode};
 ghost use Rattle.repl_names.specs.declared.quorum.Candidate.{Candidate};
 ghost use Rattle.repl_names.specs.StandbyList.{Listing, IsListing, spelling};
 ghost use Rattle.repl_names.specs.Grammar.{SaysList};
-ghost use Rattle.repl_names.specs.Quorum.{Met, IsGreatest, Counted, Differ, Forward, candidates, counts, reaches, position};
+ghost use Rattle.repl_names.specs.Quorum.{Met, IsGreatest, IsReleased, Counted, Differ, Forward, candidates, counts, reaches, position};
 
 /// What is printed is read back as the same list.
 pub fn printed_is_read()
@@ -21,6 +21,12 @@ pub fn one_list()
 pub fn met_below()
     ensures { (list : Listing) (sessions : List Candidate) (m : Mode) (earlier end : ℕ) → earlier ≤ end →
         Met list sessions m end → Met list sessions m earlier }
+{}
+
+/// A list that has names is met at a position exactly where `released` is that position or a later one.
+pub fn released_decides()
+    ensures { (list : Listing) (sessions : List Candidate) (m : Mode) (end : ℕ) (released : Option ℕ) → 0 < length list.names →
+        IsReleased list sessions m released → (Met list sessions m end ↔ MatchOption released ⊥ (λ (greatest : ℕ). end ≤ greatest)) }
 {}
 
 /// A standby that moves forward unmeets nothing.

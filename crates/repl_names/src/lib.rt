@@ -5,7 +5,13 @@
 //! refuses any other at the first token with which no list goes on. `print_names` prints the one spelling
 //! of a list, which is read back as that list. `priority` finds the entry that a standby's name matches.
 //! `released` is the greatest position at which a list is met (`Met` in `specs/Quorum.antt`) by what the
-//! standbys have reported. Stands on `repl_text` and `repl_lsn`.
+//! standbys have reported. Stands on `repl_token`, `repl_text` and `repl_lsn`.
+//!
+//! ```text
+//! let list = parse_names(alloc, b"FIRST 1 (berlin, \"new york\")")?;
+//! let place = priority(&list, b"berlin"); // 1
+//! let end = released(&list, &sessions, Mode::Flush); // how far commits are confirmed
+//! ```
 #![tactic(auto)]
 
 mod fault;
@@ -24,7 +30,7 @@ mod token;
 pub use fault::NamesFault;
 pub use laws::{
     any_reached, counted_reach, met_below, met_forward, met_without_names, one_list,
-    printed_is_read,
+    printed_is_read, released_decides,
 };
 pub use list::{Method, NUMBER_LIMIT, NameList, SPELLING_LIMIT, StandbyList};
 pub use matching::priority;

@@ -1,8 +1,8 @@
-ghost use Rattle.std.specs.Prelude.{◌≡◌, []};
+ghost use Rattle.std.specs.Prelude.{◌≡◌, [], IfOk};
 ghost use Rattle.repl_names.specs.StandbyList.{Listing, IsListing};
 
 use repl_text::Text;
-use std::alloc::Global;
+use std::alloc::{AllocError, Global};
 use std::marker::Model;
 
 /// The greatest number of standbys that a list may demand.
@@ -10,6 +10,11 @@ pub const NUMBER_LIMIT: u32 = 2_147_483_647;
 
 /// The most bytes of a list's spelling.
 pub const SPELLING_LIMIT: u64 = 65_536;
+
+// What a list is depends on these numbers.
+const _: () = prove!(NUMBER_LIMIT == 2_147_483_647);
+
+const _: () = prove!(SPELLING_LIMIT == 65_536);
 
 /// Which of the standbys on a list confirm a commit.
 #[derive(Clone, Copy, Debug, PartialEq, Eq)]
@@ -91,6 +96,17 @@ impl StandbyList {
         }
     }
 
+    /// A copy of the list. Takes memory for its names.
+    pub fn copy(&self, alloc: Global) -> Result<StandbyList, AllocError>
+        ensures { IfOk result (λ list. list ≡ self.now) }
+    {
+        let mut names = Vec::new(alloc);
+        for name in self.names().as_slice() {
+            names.push(Text::copied(alloc, name.as_slice())?)?;
+        }
+        Ok(StandbyList::of(self.method, self.number, names))
+    }
+
     /// Which of the standbys confirm a commit.
     pub fn method(&self) -> Method
         ensures { result ≡ self.now.method }
@@ -100,7 +116,8 @@ impl StandbyList {
 
     /// How many of them confirm it: 0 of the list without names, and 1 to 2,147,483,647 of any other.
     pub fn number(&self) -> u32
-        ensures { result ≡ self.now.number }
+        ensures value { result ≡ self.now.number }
+        ensures listing { IsListing self.now }
     {
         self.number
     }

@@ -1,7 +1,7 @@
-ghost use Rattle.std.specs.Prelude.{◌≡◌, ℕ, ◌&&◌, ◌^◌, ◌<◌, ◌≤◌, min, map, filter, length, count_by, All};
+ghost use Rattle.std.specs.Prelude.{◌≡◌, ℕ, ◌&&◌, ◌<◌, ◌≤◌, min, map, filter, length, count_by, All};
 ghost use Rattle.std.specs.List.{reduce};
 ghost use Rattle.repl_names.specs.Quorum.{IsReleased, MetByAny, MetByFirst, candidates, counts, position, reaches};
-ghost use Rattle.repl_names.specs.Order.{key, is_within};
+ghost use Rattle.repl_names.specs.Order.{is_up_to, is_within};
 
 use crate::list::{Method, StandbyList};
 use repl_lsn::Lsn;
@@ -32,9 +32,6 @@ pub struct Candidate {
     pub applied: Lsn,
 }
 
-/// How far apart the keys of neighbouring priorities are: each session's number is below it.
-const PRIORITY_STEP: u128 = 1 << 64;
-
 impl Candidate {
     /// Whether it is on the list and has told what it flushed.
     fn counts(&self) -> bool
@@ -54,17 +51,18 @@ impl Candidate {
         }
     }
 
-    /// Its priority and session as one number: candidates of lesser keys go before it.
-    fn key(&self) -> u128
-        ensures value { result ≡ key self.now }
-        ensures ranged { self.now.session < 2 ^ 64 }
+    /// Whether its priority is this one or a better one.
+    fn is_up_to(&self, priority: u32) -> bool
+        ensures { result ≡ is_up_to priority self.now }
     {
-        let Candidate {
-            priority,
-            session,
-            ..
-        } = *self;
-        u128::from(priority) * PRIORITY_STEP + u128::from(session)
+        self.priority <= priority
+    }
+
+    /// Whether its priority is better, or it is this one and its connection is this one or an older one.
+    fn is_within(&self, priority: u32, session: u64) -> bool
+        ensures { result ≡ is_within priority session self.now }
+    {
+        self.priority < priority || (self.priority == priority && self.session <= session)
     }
 }
 
@@ -76,8 +74,6 @@ pub fn released(list: &StandbyList, sessions: &[Candidate], mode: Mode) -> Optio
     requires { 0 < length list.now.names }
     ensures { IsReleased list.now sessions.now mode result }
 {
-    // A list that has names demands a standby at least.
-    let _names = list.names();
     let number = list.number() as usize;
     if candidates_in(sessions) < number {
         return None;
@@ -139,22 +135,22 @@ fn released_by_first(sessions: &[Candidate], mode: Mode, number: usize) -> Lsn
     ensures met { MetByFirst number (candidates sessions.now) mode result }
     ensures greatest { (later : ℕ) → result < later → ¬ MetByFirst number (candidates sessions.now) mode later }
 {
-    let last = last_key(sessions, number);
-    Lsn(least_position(sessions, mode, last).unwrap_or(0))
+    let priority = last_priority(sessions, number);
+    let session = last_session(sessions, number, priority);
+    Lsn(least_position(sessions, mode, priority, session).unwrap_or(0))
 }
 
-/// The least key that so many of the candidates do not exceed.
-fn last_key(sessions: &[Candidate], number: usize) -> u128
+/// The best priority up to which there are so many candidates.
+fn last_priority(sessions: &[Candidate], number: usize) -> u32
     requires { number ≤ length (candidates sessions.now) }
-    ensures enough { number ≤ count_by (is_within result) (candidates sessions.now) }
-    ensures least { (earlier : ℕ) → earlier < result → count_by (is_within earlier) (candidates sessions.now) < number }
-    ensures ranged { All (λ c. c.session < 2 ^ 64) sessions.now }
+    ensures enough { number ≤ count_by (is_up_to result) (candidates sessions.now) }
+    ensures least { (earlier : ℕ) → earlier < result → count_by (is_up_to earlier) (candidates sessions.now) < number }
 {
     let mut low = 0;
-    let mut high = greatest_key(sessions);
+    let mut high = greatest_priority(sessions);
     while low < high {
         let middle = low + (high - low) / 2;
-        if candidates_within(sessions, middle) >= number {
+        if candidates_up_to(sessions, middle) >= number {
             high = middle;
         } else {
             low = middle + 1;
@@ -163,36 +159,66 @@ fn last_key(sessions: &[Candidate], number: usize) -> u128
     high
 }
 
-/// The greatest key of any session.
-fn greatest_key(sessions: &[Candidate]) -> u128
-    ensures bounded { All (λ c. key c ≤ result) sessions.now }
-    // Without this, keys would not tell the order of sessions.
-    ensures ranged { All (λ c. c.session < 2 ^ 64) sessions.now }
+/// The oldest connection up to which, at this priority and all better ones, there are so many candidates.
+fn last_session(sessions: &[Candidate], number: usize, priority: u32) -> u64
+    requires { number ≤ count_by (is_up_to priority) (candidates sessions.now) }
+    ensures enough { number ≤ count_by (is_within priority result) (candidates sessions.now) }
+    ensures least { (earlier : ℕ) → earlier < result → count_by (is_within priority earlier) (candidates sessions.now) < number }
 {
-    let mut greatest = 0;
-    for c in sessions {
-        greatest = greatest.max(c.key());
+    let mut low = 0;
+    let mut high = greatest_session(sessions);
+    while low < high {
+        let middle = low + (high - low) / 2;
+        if candidates_within(sessions, priority, middle) >= number {
+            high = middle;
+        } else {
+            low = middle + 1;
+        }
     }
-    greatest
+    high
 }
 
-/// How many of the candidates have this key or a lesser one.
-fn candidates_within(sessions: &[Candidate], last: u128) -> usize
-    ensures { result ≡ count_by (is_within last) (candidates sessions.now) }
+/// The greatest priority of any session.
+fn greatest_priority(sessions: &[Candidate]) -> u32
+    ensures { All (λ c. c.priority ≤ result) sessions.now }
+{
+    sessions.iter().map(|c| c.priority).max().unwrap_or(0)
+}
+
+/// The greatest number of any session.
+fn greatest_session(sessions: &[Candidate]) -> u64
+    ensures { All (λ c. c.session ≤ result) sessions.now }
+{
+    sessions.iter().map(|c| c.session).max().unwrap_or(0)
+}
+
+/// How many of the candidates have this priority or a better one.
+fn candidates_up_to(sessions: &[Candidate], priority: u32) -> usize
+    ensures { result ≡ count_by (is_up_to priority) (candidates sessions.now) }
 {
     sessions
         .iter()
-        .filter(|c| c.counts() && c.key() <= last)
+        .filter(|c| c.counts() && c.is_up_to(priority))
         .count()
 }
 
-/// The least position of the candidates that have this key or a lesser one.
-fn least_position(sessions: &[Candidate], mode: Mode, last: u128) -> Option<u64>
-    ensures { result ≡ reduce min (map (position mode) (filter (λ c. counts c && is_within last c) sessions.now)) }
+/// How many of the candidates have a better priority, or this one and this connection or an older one.
+fn candidates_within(sessions: &[Candidate], priority: u32, session: u64) -> usize
+    ensures { result ≡ count_by (is_within priority session) (candidates sessions.now) }
 {
     sessions
         .iter()
-        .filter(|c| c.counts() && c.key() <= last)
+        .filter(|c| c.counts() && c.is_within(priority, session))
+        .count()
+}
+
+/// The least position of the candidates that have a better priority, or this one and this connection or an older one.
+fn least_position(sessions: &[Candidate], mode: Mode, priority: u32, session: u64) -> Option<u64>
+    ensures { result ≡ reduce min (map (position mode) (filter (λ c. counts c && is_within priority session c) sessions.now)) }
+{
+    sessions
+        .iter()
+        .filter(|c| c.counts() && c.is_within(priority, session))
         .map(|c| c.position(mode))
         .min()
 }

@@ -27,7 +27,14 @@ token_first : (class_of : ℕ → Class) (at : ℕ) (spelled behind : List ℕ) 
 token_first class_of at spelled behind k text is rest =
     let token : RawToken = record { kind = k; place = at; text = text } in
     let next : IsNext class_of at (spelled ++ behind) token behind =
-    record { blanks = []; spelled = spelled; parts = refl; blank = All-nil (λ c. is_blank (class_of c) ≡ true); place = omega arith; is = is } in
+    record {
+      blanks = [];
+      spelled = spelled;
+      parts = refl;
+      blank = All-nil (λ c. is_blank (class_of c) ≡ true);
+      place = omega arith;
+      is = is;
+    } in
     let total : at + length spelled + length behind ≡ at + length (spelled ++ behind) = omega (arith, length-append spelled behind) in
     (token ∷ rest.0, (behind, at + length spelled, next, total, rest.1))
 
@@ -67,11 +74,14 @@ record Closed (quote : ℕ) (bytes : List ℕ) : Type 0 where
 abbrev Quotes : ℕ → List ℕ → Type 0
 Quotes quote bytes = Closed quote bytes ⊎ ((text : List ℕ) × (bytes ≡ flat_map (doubled quote) text))
 
-plain_spelled : (quote c : ℕ) (text : List ℕ) → (c == quote) ≡ false → flat_map (doubled quote) (c ∷ text) ≡ c ∷ flat_map (doubled quote) text
-plain_spelled quote c text e = ap (λ piece. piece ++ flat_map (doubled quote) text) (cond-false (c == quote) (quote ∷ quote ∷ []) (c ∷ []) e)
+plain_spelled : (quote c : ℕ) (text : List ℕ) → (c == quote) ≡ false
+    → flat_map (doubled quote) (c ∷ text) ≡ c ∷ flat_map (doubled quote) text
+plain_spelled quote c text e = ap (λ piece. piece ++ flat_map (doubled quote) text)
+    (cond-false (c == quote) (quote ∷ quote ∷ []) (c ∷ []) e)
 
 quote_spelled : (quote : ℕ) (text : List ℕ) → flat_map (doubled quote) (quote ∷ text) ≡ quote ∷ quote ∷ flat_map (doubled quote) text
-quote_spelled quote text = ap (λ piece. piece ++ flat_map (doubled quote) text) (cond-true (quote == quote) (quote ∷ quote ∷ []) (quote ∷ []) (eq-eqb quote quote refl))
+quote_spelled quote text = ap (λ piece. piece ++ flat_map (doubled quote) text)
+    (cond-true (quote == quote) (quote ∷ quote ∷ []) (quote ∷ []) (eq-eqb quote quote refl))
 
 plain_more : (quote c : ℕ) (cs : List ℕ) → (c == quote) ≡ false → Quotes quote cs → Quotes quote (c ∷ cs)
 plain_more quote c cs e (inl h) = inl (record {
@@ -115,19 +125,28 @@ quotes quote (c ∷ d ∷ ds) = elim (truth (c == quote)) [
 abbrev Shorter : (ℕ → Class) → ℕ → Type 0
 Shorter class_of n = (at : ℕ) (bytes : List ℕ) → length bytes < n → Reading class_of at bytes
 
-quoted_first : (class_of : ℕ → Class) (n : ℕ) → Shorter class_of n → (at quote : ℕ) (cs : List ℕ) → class_of quote ≡ class.Quote → length cs < n
+quoted_first : (class_of : ℕ → Class) (n : ℕ) → Shorter class_of n → (at quote : ℕ) (cs : List ℕ) → class_of quote ≡ class.Quote
+    → length cs < n
     → Reading class_of at (quote ∷ cs)
 quoted_first class_of n shorter at quote cs is l = elim (quotes quote cs) [
   | inl h ↦
       let spelled = quoted quote h.text in
-      let parts : quote ∷ cs ≡ spelled ++ h.behind = ap (λ bs. quote ∷ bs) (h.parts ∙ sym (append_assoc (flat_map (doubled quote) h.text) (quote ∷ []) h.behind)) in
-      let below : length h.behind < n = omega (arith, ap length h.parts, length-append (flat_map (doubled quote) h.text) (quote ∷ h.behind)) in
+      let parts : quote ∷ cs ≡ spelled ++ h.behind = ap (λ bs. quote ∷ bs)
+      (h.parts ∙ sym (append_assoc (flat_map (doubled quote) h.text) (quote ∷ []) h.behind)) in
+      let below : length h.behind < n = omega (
+        arith,
+        ap length h.parts,
+        length-append (flat_map (doubled quote) h.text)
+            (quote ∷ h.behind),
+      ) in
       subst (Reading class_of at) (sym parts)
-      (token_first class_of at spelled h.behind (kind.Quoted quote) h.text (is, record { spelled = refl; ends = h.ends }) (shorter (at + length spelled) h.behind below))
+      (token_first class_of at spelled h.behind (kind.Quoted quote) h.text (is, record { spelled = refl; ends = h.ends })
+      (shorter (at + length spelled) h.behind below))
   | inr h ↦ token_whole class_of at (quote ∷ cs) (kind.Unclosed quote) (refl, refl, is, (h.0, ap (λ bs. quote ∷ bs) h.1))
 ]
 
-run_first : (class_of : ℕ → Class) (n : ℕ) → Shorter class_of n → (at c : ℕ) (cs : List ℕ) (begins : Class) (goes_on : Class → Bool) (k : Kind)
+run_first : (class_of : ℕ → Class) (n : ℕ) → Shorter class_of n
+    → (at c : ℕ) (cs : List ℕ) (begins : Class) (goes_on : Class → Bool) (k : Kind)
     → ((bytes behind : List ℕ) → IsRun class_of begins goes_on bytes behind → IsToken class_of k bytes bytes behind) → goes_on begins ≡ true
     → class_of c ≡ begins → length cs < n → Reading class_of at (c ∷ cs)
 run_first class_of n shorter at c cs begins goes_on k token e is l =
@@ -145,12 +164,17 @@ by_class : (class_of : ℕ → Class) (n : ℕ) → Shorter class_of n → (at c
 by_class class_of n shorter at c cs class.Blank e l =
     let rest = shorter (at + 1) cs l in
     (rest.0, blank_first class_of at c cs rest.0 (ap is_blank e) rest.1)
-by_class class_of n shorter at c cs class.Alone e l = token_first class_of at (c ∷ []) cs (kind.Alone c) [] (refl, refl, e) (shorter (at + length (c ∷ [])) cs l)
+by_class class_of n shorter at c cs class.Alone e l = token_first class_of at (c ∷ []) cs (kind.Alone c) [] (refl, refl, e)
+    (shorter (at + length (c ∷ [])) cs l)
 by_class class_of n shorter at c cs class.Quote e l = quoted_first class_of n shorter at c cs e l
-by_class class_of n shorter at c cs class.Letter e l = run_first class_of n shorter at c cs class.Letter is_inside kind.Word (λ bytes behind h. (refl, h)) refl e l
-by_class class_of n shorter at c cs class.Digit e l = run_first class_of n shorter at c cs class.Digit is_digit kind.Number (λ bytes behind h. (refl, h)) refl e l
-by_class class_of n shorter at c cs class.Inner e l = token_whole class_of at (c ∷ cs) kind.Wrong (refl, refl, (c, cs, refl, ap begins_nothing e))
-by_class class_of n shorter at c cs class.Nothing e l = token_whole class_of at (c ∷ cs) kind.Wrong (refl, refl, (c, cs, refl, ap begins_nothing e))
+by_class class_of n shorter at c cs class.Letter e l = run_first class_of n shorter at c cs class.Letter is_inside kind.Word
+    (λ bytes behind h. (refl, h)) refl e l
+by_class class_of n shorter at c cs class.Digit e l = run_first class_of n shorter at c cs class.Digit is_digit kind.Number
+    (λ bytes behind h. (refl, h)) refl e l
+by_class class_of n shorter at c cs class.Inner e l = token_whole class_of at (c ∷ cs) kind.Wrong
+    (refl, refl, (c, cs, refl, ap begins_nothing e))
+by_class class_of n shorter at c cs class.Nothing e l = token_whole class_of at (c ∷ cs) kind.Wrong
+    (refl, refl, (c, cs, refl, ap begins_nothing e))
 
 reading : (class_of : ℕ → Class) (n : ℕ) → Shorter class_of n
 reading class_of zero at bytes l = absurd (omega arith)
@@ -161,5 +185,6 @@ pub has_reading : (class_of : ℕ → Class) (at : ℕ) (bytes : List ℕ) → (
 has_reading class_of at bytes = reading class_of (length bytes + 1) at bytes (omega arith)
 
 -- the same of a language's own tokens
-pub has_reading_as : {A : Type 0} (class_of : ℕ → Class) (meaning : RawToken → A) (at : ℕ) (bytes : List ℕ) → (tokens : List A) × ReadsAs class_of meaning at bytes tokens
+pub has_reading_as : {A : Type 0} (class_of : ℕ → Class) (meaning : RawToken → A) (at : ℕ) (bytes : List ℕ)
+    → (tokens : List A) × ReadsAs class_of meaning at bytes tokens
 has_reading_as class_of meaning at bytes = let h = has_reading class_of at bytes in (map meaning h.0, (h.0, h.1, refl))

@@ -14,21 +14,25 @@ pub record Leads {A : Type 0} (class_of : ℕ → Class) (meaning : RawToken →
 pub leads_none : {A : Type 0} (class_of : ℕ → Class) (meaning : RawToken → A) (text : List ℕ) → Leads class_of meaning text [] 0
 leads_none class_of meaning text = record { raw = []; within = omega arith; leads = λ behind reads. reads; means = refl }
 
-pub leads_more : {A : Type 0} (class_of : ℕ → Class) (meaning : RawToken → A) (text : List ℕ) (tokens : List A) (at : ℕ) (token : RawToken) (end : ℕ)
+pub leads_more : {A : Type 0} (class_of : ℕ → Class) (meaning : RawToken → A) (text : List ℕ) (tokens : List A) (at : ℕ) (token : RawToken)
+    (end : ℕ)
     → Leads class_of meaning text tokens at → IsNext class_of at (drop at text) token (drop end text) → end ≤ length text
     → Leads class_of meaning text (tokens ++ meaning token ∷ []) end
 leads_more class_of meaning text tokens at token end h next within = record {
   raw = h.raw ++ token ∷ [];
   within = within;
   leads = λ behind reads.
-      let total : end + length (drop end text) ≡ at + length (drop at text) = omega (arith, length-drop end text, length-drop at text, h.within) in
-      subst (Reads class_of 0 text) (sym (append_assoc h.raw (token ∷ []) behind)) (h.leads (token ∷ behind) (drop end text, end, next, total, reads));
+      let total : end + length (drop end text) ≡ at + length (drop at text) =
+      omega (arith, length-drop end text, length-drop at text, h.within) in
+      subst (Reads class_of 0 text) (sym (append_assoc h.raw (token ∷ []) behind))
+      (h.leads (token ∷ behind) (drop end text, end, next, total, reads));
   means = ap (λ front. front ++ meaning token ∷ []) h.means ∙ sym (map-append meaning h.raw (token ∷ []));
 }
 
 -- the tokens behind the place
 pub leads_on : {A : Type 0} (class_of : ℕ → Class) (meaning : RawToken → A) (text : List ℕ) (tokens behind : List A) (at : ℕ)
-    → Leads class_of meaning text tokens at → ReadsAs class_of meaning at (drop at text) behind → ReadsAs class_of meaning 0 text (tokens ++ behind)
+    → Leads class_of meaning text tokens at → ReadsAs class_of meaning at (drop at text) behind
+    → ReadsAs class_of meaning 0 text (tokens ++ behind)
 leads_on class_of meaning text tokens behind at h reads = (
   h.raw ++ reads.0,
   h.leads reads.0 reads.1,

@@ -9,27 +9,34 @@ abbrev pub Closes : ℕ → List ℕ → Type 0
 Closes quote [] = Unit {0}
 Closes quote (c ∷ behind) = (c ≡ quote) × EndsBefore (λ b. eqb b quote) behind
 
-pair_spelled : (quote c : ℕ) (cs tail : List ℕ) → c ≡ quote → flat_map (doubled quote) (c ∷ cs) ++ tail ≡ quote ∷ quote ∷ (flat_map (doubled quote) cs ++ tail)
-pair_spelled quote c cs tail e = ap (λ piece. (piece ++ flat_map (doubled quote) cs) ++ tail) (cond-true (eqb c quote) (quote ∷ quote ∷ []) (c ∷ []) (eq-eqb c quote e))
+pair_spelled : (quote c : ℕ) (cs tail : List ℕ) → c ≡ quote
+    → flat_map (doubled quote) (c ∷ cs) ++ tail ≡ quote ∷ quote ∷ (flat_map (doubled quote) cs ++ tail)
+pair_spelled quote c cs tail e = ap (λ piece. (piece ++ flat_map (doubled quote) cs) ++ tail)
+    (cond-true (eqb c quote) (quote ∷ quote ∷ []) (c ∷ []) (eq-eqb c quote e))
 
-byte_spelled : (quote c : ℕ) (cs tail : List ℕ) → c ≢ quote → flat_map (doubled quote) (c ∷ cs) ++ tail ≡ c ∷ (flat_map (doubled quote) cs ++ tail)
-byte_spelled quote c cs tail e = ap (λ piece. (piece ++ flat_map (doubled quote) cs) ++ tail) (cond-false (eqb c quote) (quote ∷ quote ∷ []) (c ∷ []) (ne_eqb c quote e))
+byte_spelled : (quote c : ℕ) (cs tail : List ℕ) → c ≢ quote
+    → flat_map (doubled quote) (c ∷ cs) ++ tail ≡ c ∷ (flat_map (doubled quote) cs ++ tail)
+byte_spelled quote c cs tail e = ap (λ piece. (piece ++ flat_map (doubled quote) cs) ++ tail)
+    (cond-false (eqb c quote) (quote ∷ quote ∷ []) (c ∷ []) (ne_eqb c quote e))
 
 no_pair : (quote : ℕ) (behind rest : List ℕ) → EndsBefore (λ b. eqb b quote) behind → behind ≡ quote ∷ rest → ⊥
 no_pair quote behind rest ends e = true≢false (sym (eq-eqb quote quote refl) ∙ subst (EndsBefore (λ b. eqb b quote)) e ends)
 
 -- what closes a text is not more of it
-no_more : (quote : ℕ) (tail : List ℕ) (c : ℕ) (cs other : List ℕ) → Closes quote tail → tail ≡ flat_map (doubled quote) (c ∷ cs) ++ other → ⊥
+no_more : (quote : ℕ) (tail : List ℕ) (c : ℕ) (cs other : List ℕ) → Closes quote tail → tail ≡ flat_map (doubled quote) (c ∷ cs) ++ other
+    → ⊥
 no_more quote [] c cs other closes e = ⊎_elim
     (λ q. let p = e ∙ pair_spelled quote c cs other q in cc)
     (λ q. let p = e ∙ byte_spelled quote c cs other q in cc)
     (cases_eq c quote)
 no_more quote (q ∷ behind) c cs other closes e = ⊎_elim
-    (λ is. let p = e ∙ pair_spelled quote c cs other is in let rest : behind ≡ quote ∷ (flat_map (doubled quote) cs ++ other) = cc in no_pair quote behind _ closes.1 rest)
+    (λ is. let p = e ∙ pair_spelled quote c cs other is in let rest : behind ≡ quote ∷
+    (flat_map (doubled quote) cs ++ other) = cc in no_pair quote behind _ closes.1 rest)
     (λ no. let p = e ∙ byte_spelled quote c cs other no in let same : c ≡ q = cc in no (same ∙ closes.0))
     (cases_eq c quote)
 
-pub one_text : (quote : ℕ) (a b tail other : List ℕ) → Closes quote tail → Closes quote other → flat_map (doubled quote) a ++ tail ≡ flat_map (doubled quote) b ++ other → (a ≡ b) × (tail ≡ other)
+pub one_text : (quote : ℕ) (a b tail other : List ℕ) → Closes quote tail → Closes quote other
+    → flat_map (doubled quote) a ++ tail ≡ flat_map (doubled quote) b ++ other → (a ≡ b) × (tail ≡ other)
 one_text quote [] [] tail other closes ends e = (refl, e)
 one_text quote [] (d ∷ ds) tail other closes ends e = absurd (no_more quote tail d ds other closes e)
 one_text quote (c ∷ cs) [] tail other closes ends e = absurd (no_more quote other c cs tail ends (sym e))

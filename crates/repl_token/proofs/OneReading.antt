@@ -18,9 +18,11 @@ behind_blanks : (class_of : ℕ → Class) (at : ℕ) (bytes : List ℕ) (t : Ra
     → drop (prefix_len (λ c. is_blank (class_of c)) bytes) bytes ≡ h.spelled ++ b
 behind_blanks class_of at bytes t b h =
     let n : ℕ = prefix_len (λ c. is_blank (class_of c)) bytes in
-    ap (drop n) (h.parts ∙ append_assoc h.blanks h.spelled b) ∙ drop_at h.blanks (h.spelled ++ b) n (sym (blanks_len class_of at bytes t b h))
+    ap (drop n) (h.parts ∙ append_assoc h.blanks h.spelled b)
+    ∙ drop_at h.blanks (h.spelled ++ b) n (sym (blanks_len class_of at bytes t b h))
 
-one_next : (class_of : ℕ → Class) (at : ℕ) (bytes : List ℕ) (t u : RawToken) (b d : List ℕ) → IsNext class_of at bytes t b → IsNext class_of at bytes u d
+one_next : (class_of : ℕ → Class) (at : ℕ) (bytes : List ℕ) (t u : RawToken) (b d : List ℕ) → IsNext class_of at bytes t b
+    → IsNext class_of at bytes u d
     → (t ≡ u) × (b ≡ d)
 one_next class_of at bytes t u b d g h =
     let whole : g.spelled ++ b ≡ h.spelled ++ d = sym (behind_blanks class_of at bytes t b g) ∙ behind_blanks class_of at bytes u d h in
@@ -36,17 +38,20 @@ no_token class_of at bytes t b blank h =
     let test = λ (c : ℕ). is_blank (class_of c) in
     let begins = token_begins class_of t.kind t.text h.spelled b h.is in
     let all : prefix_len test bytes ≡ length bytes = ap (prefix_len test) (sym (append-nil bytes)) ∙ run_len test bytes [] blank tt in
-    let size : length bytes ≡ length h.blanks + length (h.spelled ++ b) = ap length (h.parts ∙ append_assoc h.blanks h.spelled b) ∙ length-append h.blanks (h.spelled ++ b) in
+    let size : length bytes ≡ length h.blanks + length (h.spelled ++ b) = ap length (h.parts ∙ append_assoc h.blanks h.spelled b)
+    ∙ length-append h.blanks (h.spelled ++ b) in
     omega (arith, all, size, blanks_len class_of at bytes t b h, begins.0)
 
-pub reads_one : (class_of : ℕ → Class) (at : ℕ) (bytes : List ℕ) (a b : List RawToken) → Reads class_of at bytes a → Reads class_of at bytes b → a ≡ b
+pub reads_one : (class_of : ℕ → Class) (at : ℕ) (bytes : List ℕ) (a b : List RawToken) → Reads class_of at bytes a
+    → Reads class_of at bytes b → a ≡ b
 reads_one class_of at bytes [] [] g h = refl
 reads_one class_of at bytes [] (u ∷ us) g h = absurd (no_token class_of at bytes u h.0 g h.2)
 reads_one class_of at bytes (t ∷ ts) [] g h = absurd (no_token class_of at bytes t g.0 h g.2)
 reads_one class_of at bytes (t ∷ ts) (u ∷ us) g h =
     let same = one_next class_of at bytes t u g.0 h.0 g.2 h.2 in
     let place : h.1 ≡ g.1 = omega (arith, g.3, h.3, ap length same.1) in
-    let reads : Reads class_of g.1 g.0 us = subst (λ (p : ℕ). Reads class_of p g.0 us) place (subst (λ (cs : List ℕ). Reads class_of h.1 cs us) (sym same.1) h.4) in
+    let reads : Reads class_of g.1 g.0 us = subst (λ (p : ℕ). Reads class_of p g.0 us) place
+    (subst (λ (cs : List ℕ). Reads class_of h.1 cs us) (sym same.1) h.4) in
     let more = reads_one class_of g.1 g.0 ts us g.4 reads in
     λ i. same.0 i ∷ more i
 

@@ -53,7 +53,8 @@ ReadBy class_of class.Digit c cs o = o ≡ run_read kind.Number (λ b. is_digit 
 ReadBy class_of class.Inner c cs o = o ≡ outcome kind.Wrong [] []
 ReadBy class_of class.Nothing c cs o = o ≡ outcome kind.Wrong [] []
 
-one_read : (class_of : ℕ → Class) (k : Class) (c : ℕ) (cs : List ℕ) (o p : Outcome) → ReadBy class_of k c cs o → ReadBy class_of k c cs p → o ≡ p
+one_read : (class_of : ℕ → Class) (k : Class) (c : ℕ) (cs : List ℕ) (o p : Outcome) → ReadBy class_of k c cs o → ReadBy class_of k c cs p
+    → o ≡ p
 one_read class_of class.Blank c cs o p g h = absurd g
 one_read class_of class.Alone c cs o p g h = g ∙ sym h
 one_read class_of class.Quote c cs o p g h = one_quoted c cs o p g h
@@ -78,18 +79,21 @@ record Starts (class_of : ℕ → Class) (s b : List ℕ) (o : Outcome) : Type 0
   parts : s ++ b ≡ first ∷ rest
   read : ReadBy class_of (class_of first) first rest o
 
-one_start : (class_of : ℕ → Class) (s b r d : List ℕ) (o p : Outcome) → Starts class_of s b o → Starts class_of r d p → s ++ b ≡ r ++ d → o ≡ p
+one_start : (class_of : ℕ → Class) (s b r d : List ℕ) (o p : Outcome) → Starts class_of s b o → Starts class_of r d p → s ++ b ≡ r ++ d
+    → o ≡ p
 one_start class_of s b r d o p g h e =
     let same : g.first ∷ g.rest ≡ h.first ∷ h.rest = sym g.parts ∙ e ∙ h.parts in
     let first : h.first ≡ g.first = cc in
     let rest : h.rest ≡ g.rest = cc in
     one_read class_of (class_of g.first) g.first g.rest o p g.read
-    (subst (λ (c : ℕ). ReadBy class_of (class_of c) c g.rest p) first (subst (λ (cs : List ℕ). ReadBy class_of (class_of h.first) h.first cs p) rest h.read))
+    (subst (λ (c : ℕ). ReadBy class_of (class_of c) c g.rest p) first (subst
+    (λ (cs : List ℕ). ReadBy class_of (class_of h.first) h.first cs p) rest h.read))
 
 -- ---- each kind of token begins so
 
 -- a first byte of this class
-starts_by : (class_of : ℕ → Class) (k : Class) (c : ℕ) (cs s b : List ℕ) (o : Outcome) → s ++ b ≡ c ∷ cs → class_of c ≡ k → ReadBy class_of k c cs o → Starts class_of s b o
+starts_by : (class_of : ℕ → Class) (k : Class) (c : ℕ) (cs s b : List ℕ) (o : Outcome) → s ++ b ≡ c ∷ cs → class_of c ≡ k
+    → ReadBy class_of k c cs o → Starts class_of s b o
 starts_by class_of k c cs s b o parts e read = record {
   first = c;
   rest = cs;
@@ -97,28 +101,33 @@ starts_by class_of k c cs s b o parts e read = record {
   read = subst (λ (l : Class). ReadBy class_of l c cs o) (sym e) read;
 }
 
-run_is : (class_of : ℕ → Class) (begins : Class) (goes_on : Class → Bool) (k : Kind) (s b : List ℕ) → goes_on begins ≡ true → (h : IsRun class_of begins goes_on s b)
+run_is : (class_of : ℕ → Class) (begins : Class) (goes_on : Class → Bool) (k : Kind) (s b : List ℕ) → goes_on begins ≡ true
+    → (h : IsRun class_of begins goes_on s b)
     → outcome k s b ≡ run_read k (λ c. goes_on (class_of c)) (h.first ∷ h.others ++ b)
 run_is class_of begins goes_on k s b e h =
     let test : ℕ → Bool = λ c. goes_on (class_of c) in
     let n : length s ≡ prefix_len test (s ++ b) = run_size class_of begins goes_on s b e h in
-    sym (ap (run_read k test) (sym (ap (λ t. t ++ b) h.parts)) ∙ (λ i. outcome k (take_at s b (prefix_len test (s ++ b)) n i) (drop_at s b (prefix_len test (s ++ b)) n i)))
+    sym (ap (run_read k test) (sym (ap (λ t. t ++ b) h.parts))
+    ∙ (λ i. outcome k (take_at s b (prefix_len test (s ++ b)) n i) (drop_at s b (prefix_len test (s ++ b)) n i)))
 
-quoted_starts : (class_of : ℕ → Class) (quote : ℕ) (text s b : List ℕ) → class_of quote ≡ class.Quote → IsQuoted quote text s b → Starts class_of s b (outcome (kind.Quoted quote) text b)
+quoted_starts : (class_of : ℕ → Class) (quote : ℕ) (text s b : List ℕ) → class_of quote ≡ class.Quote → IsQuoted quote text s b
+    → Starts class_of s b (outcome (kind.Quoted quote) text b)
 quoted_starts class_of quote text s b is h =
     starts_by class_of class.Quote quote (flat_map (doubled quote) text ++ quote ∷ b) s b (outcome (kind.Quoted quote) text b)
     (ap (λ t. t ++ b) h.spelled ∙ ap (λ rest. quote ∷ rest) (append_assoc (flat_map (doubled quote) text) (quote ∷ []) b))
     is
     (record { text = text; tail = quote ∷ b; spelled = refl; closes = (refl, h.ends); is = refl })
 
-unclosed_starts : (class_of : ℕ → Class) (quote : ℕ) (s : List ℕ) → class_of quote ≡ class.Quote → IsUnclosed quote s → Starts class_of s [] (outcome (kind.Unclosed quote) [] [])
+unclosed_starts : (class_of : ℕ → Class) (quote : ℕ) (s : List ℕ) → class_of quote ≡ class.Quote → IsUnclosed quote s
+    → Starts class_of s [] (outcome (kind.Unclosed quote) [] [])
 unclosed_starts class_of quote s is h =
     starts_by class_of class.Quote quote (flat_map (doubled quote) h.0) s [] (outcome (kind.Unclosed quote) [] [])
     (append-nil s ∙ h.1)
     is
     (record { text = h.0; tail = []; spelled = sym (append-nil (flat_map (doubled quote) h.0)); closes = tt; is = refl })
 
-wrong_read : (class_of : ℕ → Class) (k : Class) (c : ℕ) (cs : List ℕ) → begins_nothing k ≡ true → ReadBy class_of k c cs (outcome kind.Wrong [] [])
+wrong_read : (class_of : ℕ → Class) (k : Class) (c : ℕ) (cs : List ℕ) → begins_nothing k ≡ true
+    → ReadBy class_of k c cs (outcome kind.Wrong [] [])
 wrong_read class_of class.Blank c cs e = absurd cc
 wrong_read class_of class.Alone c cs e = absurd cc
 wrong_read class_of class.Quote c cs e = absurd cc
@@ -136,9 +145,11 @@ wrong_starts class_of s h = record {
 }
 
 -- with the text and the end that the definition says
-starts_as : (class_of : ℕ → Class) (k : Kind) (x y s b d : List ℕ) → x ≡ y → b ≡ d → Starts class_of s d (outcome k y d) → Starts class_of s b (outcome k x b)
+starts_as : (class_of : ℕ → Class) (k : Kind) (x y s b d : List ℕ) → x ≡ y → b ≡ d → Starts class_of s d (outcome k y d)
+    → Starts class_of s b (outcome k x b)
 starts_as class_of k x y s b d e f h =
-    subst (λ (t : List ℕ). Starts class_of s t (outcome k x t)) (sym f) (subst (λ (t : List ℕ). Starts class_of s d (outcome k t d)) (sym e) h)
+    subst (λ (t : List ℕ). Starts class_of s t (outcome k x t)) (sym f)
+    (subst (λ (t : List ℕ). Starts class_of s d (outcome k t d)) (sym e) h)
 
 token_starts : (class_of : ℕ → Class) (k : Kind) (x s b : List ℕ) → IsToken class_of k x s b → Starts class_of s b (outcome k x b)
 token_starts class_of kind.Word x s b h = starts_as class_of kind.Word x s s b b h.0 refl
@@ -151,7 +162,8 @@ token_starts class_of (kind.Alone sign) x s b h = starts_as class_of (kind.Alone
     (starts_by class_of class.Alone sign b s b (outcome (kind.Alone sign) [] b) (ap (λ t. t ++ b) h.1) h.2 refl)
 token_starts class_of (kind.Quoted quote) x s b h = quoted_starts class_of quote x s b h.0 h.1
 token_starts class_of kind.Wrong x s b h = starts_as class_of kind.Wrong x [] s b [] h.0 h.1 (wrong_starts class_of s h.2)
-token_starts class_of (kind.Unclosed quote) x s b h = starts_as class_of (kind.Unclosed quote) x [] s b [] h.0 h.1 (unclosed_starts class_of quote s h.2 h.3)
+token_starts class_of (kind.Unclosed quote) x s b h = starts_as class_of (kind.Unclosed quote) x [] s b [] h.0 h.1
+    (unclosed_starts class_of quote s h.2 h.3)
 
 -- a token is not empty, and begins with no blank
 pub token_begins : (class_of : ℕ → Class) (k : Kind) (x s b : List ℕ) → IsToken class_of k x s b
@@ -159,12 +171,15 @@ pub token_begins : (class_of : ℕ → Class) (k : Kind) (x s b : List ℕ) → 
 token_begins class_of k x s b h =
     let start = token_starts class_of k x s b h in (
       omega (arith, ap length start.parts),
-      subst (EndsBefore (λ c. is_blank (class_of c))) (sym start.parts) (read_no_blank class_of (class_of start.first) start.first start.rest (outcome k x b) start.read),
+      subst (EndsBefore (λ c. is_blank (class_of c))) (sym start.parts)
+          (read_no_blank class_of (class_of start.first) start.first start.rest (outcome k x b) start.read),
     )
 
 -- the same bytes begin with the same token
-pub one_token : (class_of : ℕ → Class) (k l : Kind) (x y s b r d : List ℕ) → IsToken class_of k x s b → IsToken class_of l y r d → s ++ b ≡ r ++ d
+pub one_token : (class_of : ℕ → Class) (k l : Kind) (x y s b r d : List ℕ) → IsToken class_of k x s b → IsToken class_of l y r d
+    → s ++ b ≡ r ++ d
     → (k ≡ l) × (x ≡ y) × (b ≡ d)
 one_token class_of k l x y s b r d g h e =
-    let same = one_start class_of s b r d (outcome k x b) (outcome l y d) (token_starts class_of k x s b g) (token_starts class_of l y r d h) e in
+    let same = one_start class_of s b r d (outcome k x b) (outcome l y d) (token_starts class_of k x s b g)
+    (token_starts class_of l y r d h) e in
     (ap (λ o. o.kind) same, ap (λ o. o.text) same, ap (λ o. o.behind) same)

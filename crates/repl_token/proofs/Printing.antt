@@ -6,7 +6,8 @@ use Rattle.repl_token.specs.Token.{doubled, quoted}
 use Rattle.repl_token.proofs.Quoting.{plain_spelling, quote_spelling, before_quote, no_quote}
 
 -- up to the first quote the bytes spell themselves, and one quote more
-spelled_front : (quote : ℕ) (rest : List ℕ) (n : ℕ) → position (λ c. eqb c quote) rest ≡ Some n → flat_map (doubled quote) rest ≡ (take (n + 1) rest ++ quote ∷ []) ++ flat_map (doubled quote) (drop (n + 1) rest)
+spelled_front : (quote : ℕ) (rest : List ℕ) (n : ℕ) → position (λ c. eqb c quote) rest ≡ Some n
+    → flat_map (doubled quote) rest ≡ (take (n + 1) rest ++ quote ∷ []) ++ flat_map (doubled quote) (drop (n + 1) rest)
 spelled_front quote rest n e =
     let f = doubled quote in
     let b = before_quote quote rest n e in
@@ -23,7 +24,8 @@ spelled_front quote rest n e =
     ∙ ap (λ block. block ++ flat_map f (drop (n + 1) rest)) spelled
 
 -- a step up to the next quote
-pub quote_step : (quote : ℕ) (whole out next rest : List ℕ) (n : ℕ) → position (λ c. eqb c quote) rest ≡ Some n → out ++ flat_map (doubled quote) rest ≡ whole → next ≡ out ++ take (n + 1) rest ++ quote ∷ []
+pub quote_step : (quote : ℕ) (whole out next rest : List ℕ) (n : ℕ) → position (λ c. eqb c quote) rest ≡ Some n
+    → out ++ flat_map (doubled quote) rest ≡ whole → next ≡ out ++ take (n + 1) rest ++ quote ∷ []
     → next ++ flat_map (doubled quote) (drop (n + 1) rest) ≡ whole
 quote_step quote whole out next rest n e h is =
     ap (λ front. front ++ flat_map (doubled quote) (drop (n + 1) rest)) (is ∙ append_assoc out (take (n + 1) rest) (quote ∷ []))
@@ -32,7 +34,8 @@ quote_step quote whole out next rest n e h is =
     ∙ h
 
 -- the last step, where no quote is left
-pub quote_end : (quote : ℕ) (start text out rest : List ℕ) → position (λ c. eqb c quote) rest ≡ None → out ++ flat_map (doubled quote) rest ≡ start ++ quote ∷ flat_map (doubled quote) text
+pub quote_end : (quote : ℕ) (start text out rest : List ℕ) → position (λ c. eqb c quote) rest ≡ None
+    → out ++ flat_map (doubled quote) rest ≡ start ++ quote ∷ flat_map (doubled quote) text
     → out ++ rest ++ quote ∷ [] ≡ start ++ quoted quote text
 quote_end quote start text out rest e h =
     ap (λ back. out ++ back ++ quote ∷ []) (sym (plain_spelling quote rest (no_quote quote rest e)))

@@ -48,7 +48,8 @@ run_len test (c ∷ cs) behind passes ends =
 -- the longest front of a text that begins with a byte of the class
 pub run_front : (class_of : ℕ → Class) (begins : Class) (goes_on : Class → Bool) (text : List ℕ) → goes_on begins ≡ true → 0 < length text
     → class_of (get_or text 0 0) ≡ begins
-    → IsRun class_of begins goes_on (take (prefix_len (λ c. goes_on (class_of c)) text) text) (drop (prefix_len (λ c. goes_on (class_of c)) text) text)
+    → IsRun class_of begins goes_on (take (prefix_len (λ c. goes_on (class_of c)) text) text)
+    (drop (prefix_len (λ c. goes_on (class_of c)) text) text)
 run_front class_of begins goes_on [] e some is = absurd (omega arith)
 run_front class_of begins goes_on (c ∷ cs) e some is =
     let test : ℕ → Bool = λ b. goes_on (class_of b) in
@@ -71,7 +72,8 @@ run_all class_of begins goes_on bytes behind e h =
 -- where a text begins with a run, that is its longest front
 pub run_size : (class_of : ℕ → Class) (begins : Class) (goes_on : Class → Bool) (bytes behind : List ℕ) → goes_on begins ≡ true
     → IsRun class_of begins goes_on bytes behind → length bytes ≡ prefix_len (λ c. goes_on (class_of c)) (bytes ++ behind)
-run_size class_of begins goes_on bytes behind e h = sym (run_len (λ c. goes_on (class_of c)) bytes behind (run_all class_of begins goes_on bytes behind e h) h.ends)
+run_size class_of begins goes_on bytes behind e h = sym (run_len (λ c. goes_on (class_of c)) bytes behind
+    (run_all class_of begins goes_on bytes behind e h) h.ends)
 
 -- bytes that go on, the first of them of the class
 pub run_of : (class_of : ℕ → Class) (begins : Class) (goes_on : Class → Bool) (bytes behind : List ℕ) → 0 < length bytes

@@ -16,7 +16,8 @@ pub record IsTokenAs {A : Type 0} (class_of : ℕ → Class) (meaning : RawToken
   pub means : (place : ℕ) → meaning (record { kind = kind; place = place; text = text }) ≡ token place
 
 -- a token in front of those that were read
-pub read_next : {A : Type 0} (class_of : ℕ → Class) (meaning : RawToken → A) (at : ℕ) (blanks spelled behind : List ℕ) (token : ℕ → A) (tokens : List A)
+pub read_next : {A : Type 0} (class_of : ℕ → Class) (meaning : RawToken → A) (at : ℕ) (blanks spelled behind : List ℕ) (token : ℕ → A)
+    (tokens : List A)
     → All (λ c. is_blank (class_of c) ≡ true) blanks → IsTokenAs class_of meaning token spelled behind
     → ReadsAs class_of meaning (at + length blanks + length spelled) behind tokens
     → ReadsAs class_of meaning at (blanks ++ spelled ++ behind) (token (at + length blanks) ∷ tokens)
@@ -30,7 +31,8 @@ read_next class_of meaning at blanks spelled behind token tokens blank h reads =
         omega (arith, length-append (blanks ++ spelled) behind, length-append blanks spelled),
         reads.1,
       ),
-      ap (λ others. token (at + length blanks) ∷ others) reads.2 ∙ ap (λ first. first ∷ map meaning reads.0) (sym (h.means (at + length blanks))),
+      ap (λ others. token (at + length blanks) ∷ others) reads.2
+          ∙ ap (λ first. first ∷ map meaning reads.0) (sym (h.means (at + length blanks))),
     )
 
 pub no_blank : (class_of : ℕ → Class) → All (λ c. is_blank (class_of c) ≡ true) []

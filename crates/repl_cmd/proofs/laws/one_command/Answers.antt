@@ -1,3 +1,4 @@
+-- The law `one_command`.
 use Rattle.repl_cmd.proofs.Readings.{one_read}
 use Rattle.repl_cmd.proofs.Walking.{says_command}
 use Rattle.repl_cmd.proofs.laws.one_command.Goals as goal

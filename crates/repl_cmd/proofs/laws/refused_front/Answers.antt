@@ -1,3 +1,4 @@
+-- The law `refused_front`.
 use Rattle.repl_cmd.proofs.Readings.{stopped_front}
 use Rattle.repl_cmd.proofs.laws.refused_front.Goals as goal
 

@@ -1,3 +1,4 @@
+-- What `parse_command` needs and ensures.
 use Rattle.std.proofs.Common.{◌∙◌, ap, inl, inr, Err, refl, subst, sym}
 use Rattle.std.proofs.lemmas.Result.{err_from_is_err_and}
 use Rattle.repl_cmd.specs.declared.fault.CmdFault.{CmdFault}
@@ -33,27 +34,32 @@ returns-in_err-state-clause-refused c =
 pub returns-in_err-state-clause-only : goal.returns-in_err-state-clause-only
 returns-in_err-state-clause-only c =
     let p = err_from_is_err_and c.from_residual-in_err-state.result c.from_residual-in_err-state.ensures.1 in
-    here_only c.args.text.now c.from_residual-in_err-state.result c.in_err-state.field-0.0 (p.1 ∙ ap (λ (x : CmdFault). Err x) p.2) (fault_here c)
+    here_only c.args.text.now c.from_residual-in_err-state.result c.in_err-state.field-0.0 (p.1 ∙ ap (λ (x : CmdFault). Err x) p.2)
+    (fault_here c)
 
 pub returns-in-Some-finish-clause-read : goal.returns-in-Some-finish-clause-read
 returns-in-Some-finish-clause-read c =
     let read = rw c.in_default.is at c.in_ok-token.ensures.read in
-    walked_read c.args.text.now c.loop-state.at c.loop-state.state c.in-Some-finish.command c.loop-state.invariant.walked read (sym c.finish.ensures ∙ c.in-Some-finish.is)
+    walked_read c.args.text.now c.loop-state.at c.loop-state.state c.in-Some-finish.command c.loop-state.invariant.walked read
+    (sym c.finish.ensures ∙ c.in-Some-finish.is)
 
 pub returns-in-Some-finish-clause-only : goal.returns-in-Some-finish-clause-only
 returns-in-Some-finish-clause-only c =
     let read = rw c.in_default.is at c.in_ok-token.ensures.read in
-    let said = walked_read c.args.text.now c.loop-state.at c.loop-state.state c.in-Some-finish.command c.loop-state.invariant.walked read (sym c.finish.ensures ∙ c.in-Some-finish.is) in
+    let said = walked_read c.args.text.now c.loop-state.at c.loop-state.state c.in-Some-finish.command c.loop-state.invariant.walked read
+    (sym c.finish.ensures ∙ c.in-Some-finish.is) in
     read_only c.args.text.now _ c.in-Some-finish.command refl said
 
 pub returns-in-None-clause-refused : goal.returns-in-None-clause-refused
 returns-in-None-clause-refused c =
     let read = rw c.in_default.is at c.in_ok-token.ensures.read in
-    let leaves = walked_ends c.args.text.now c.loop-state.at c.loop-state.state c.loop-state.invariant.walked read (sym c.finish.ensures ∙ c.in-None.is) in
+    let leaves = walked_ends c.args.text.now c.loop-state.at c.loop-state.state c.loop-state.invariant.walked read
+    (sym c.finish.ensures ∙ c.in-None.is) in
     leaves_refused c.args.text.now _ leaves
 
 pub returns-in-None-clause-only : goal.returns-in-None-clause-only
 returns-in-None-clause-only c =
     let read = rw c.in_default.is at c.in_ok-token.ensures.read in
-    let leaves = walked_ends c.args.text.now c.loop-state.at c.loop-state.state c.loop-state.invariant.walked read (sym c.finish.ensures ∙ c.in-None.is) in
+    let leaves = walked_ends c.args.text.now c.loop-state.at c.loop-state.state c.loop-state.invariant.walked read
+    (sym c.finish.ensures ∙ c.in-None.is) in
     here_only c.args.text.now _ _ refl (inr leaves)

@@ -1,3 +1,4 @@
+-- What each turn of the loop in `parse_command` keeps, and that it ends.
 use Rattle.std.proofs.Common.{◌-◌, ◌≤◌, length}
 use Rattle.repl_cmd.proofs.Readings.{IsWalked}
 use Rattle.repl_cmd.proofs.parse.parse_command.Given as goal

@@ -1,3 +1,4 @@
+-- What `print_command` needs and ensures.
 use Rattle.std.proofs.Common.{◌≡◌, List, ℕ, sym, subst, rules}
 use Rattle.repl_cmd.specs.Command.{SaysCommand}
 use Rattle.repl_cmd.specs.Printing.{spelling}

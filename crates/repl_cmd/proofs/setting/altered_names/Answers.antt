@@ -1,3 +1,4 @@
+-- What `altered_names` needs and ensures.
 use Rattle.std.proofs.Common.{◌≡◌, ◌∙◌, ap, rules}
 use Rattle.repl_cmd.specs.Token.{Lexeme}
 use Rattle.repl_cmd.specs.declared.token.Kind.TheVariants as kind

@@ -1,3 +1,4 @@
+-- What `position` needs and ensures.
 use Rattle.std.proofs.lemmas.Result.{IfErr-weaker}
 use Rattle.repl_cmd.specs.declared.state.State.TheVariants as state
 use Rattle.repl_cmd.specs.Walk.{IsStop}

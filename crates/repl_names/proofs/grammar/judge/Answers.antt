@@ -1,3 +1,4 @@
+-- What `judge` needs and ensures.
 use Rattle.std.proofs.Common.{sym, ◌∙◌}
 use Rattle.repl_names.proofs.GrammarWalk.{goes_more, stops_at, stops_at_end, said_at_end, at_end}
 use Rattle.repl_names.proofs.grammar.judge.Goals as goal
@@ -12,8 +13,12 @@ loop-index-preserved c =
 
 pub returns-then-may_end-clause-said : goal.returns-then-may_end-clause-said
 returns-then-may_end-clause-said c =
-    said_at_end c.args.tokens.now c.loop-index.state (at_end c.args.tokens.now c.loop-index.index c.loop-index.state c.loop-index.invariant c.loop-index-test.false) (sym c.may_end.ensures ∙ c.if-may_end.true)
+    said_at_end c.args.tokens.now c.loop-index.state
+    (at_end c.args.tokens.now c.loop-index.index c.loop-index.state c.loop-index.invariant c.loop-index-test.false)
+    (sym c.may_end.ensures ∙ c.if-may_end.true)
 
 pub returns-else-may_end-clause-refused : goal.returns-else-may_end-clause-refused
 returns-else-may_end-clause-refused c =
-    stops_at_end c.args.tokens.now c.loop-index.state (at_end c.args.tokens.now c.loop-index.index c.loop-index.state c.loop-index.invariant c.loop-index-test.false) (sym c.may_end.ensures ∙ c.if-may_end.false)
+    stops_at_end c.args.tokens.now c.loop-index.state
+    (at_end c.args.tokens.now c.loop-index.index c.loop-index.state c.loop-index.invariant c.loop-index-test.false)
+    (sym c.may_end.ensures ∙ c.if-may_end.false)

@@ -1,3 +1,4 @@
+-- What each turn of the loop in `judge` keeps, and that it ends.
 use Rattle.std.proofs.Common.{◌≡◌, take, Some}
 use Rattle.repl_names.specs.declared.grammar.State.TheVariants as state
 use Rattle.repl_names.proofs.GrammarWalk.{goes}

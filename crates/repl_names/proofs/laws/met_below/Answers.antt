@@ -1,3 +1,4 @@
+-- The law `met_below`.
 use Rattle.repl_names.proofs.Progress.{stays_met_below}
 use Rattle.repl_names.proofs.laws.met_below.Goals as goal
 

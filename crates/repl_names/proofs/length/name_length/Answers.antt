@@ -1,3 +1,4 @@
+-- What `name_length` needs and ensures.
 use Rattle.std.proofs.Common.{◌≡◌, false, bytes_eq, codes, arith}
 use Rattle.repl_names.proofs.GrammarLengths.{name_length_quoted}
 use Rattle.repl_names.proofs.length.name_length.Goals as goal

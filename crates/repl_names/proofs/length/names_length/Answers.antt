@@ -1,3 +1,4 @@
+-- What `names_length` needs and ensures.
 use Rattle.std.proofs.Common.{◌+◌, length, ap, subst, ◌∙◌, arith}
 use Rattle.std.proofs.lemmas.List.Sums.{sum_by_more}
 use Rattle.std.proofs.lemmas.List.Elements.{All-more}
@@ -14,5 +15,6 @@ loop-name-preserved c =
     let here = ap (λ n. length (name_spelling n)) (c.as_slice.ensures.value ∙ c.name-item.is) in
     record {
       exact = omega (arith, c.saturating_add-total.ensures, c.saturating_add.ensures, c.name_length.ensures, c.loop-name.invariant.exact, more, here);
-      texts = All-more IsText names i name c.loop-name-test.true c.loop-name.invariant.texts (subst IsText c.name-item.is c.as_slice.ensures.text);
+      texts = All-more IsText names i name c.loop-name-test.true c.loop-name.invariant.texts
+          (subst IsText c.name-item.is c.as_slice.ensures.text);
     }

@@ -1,3 +1,4 @@
+-- What each turn of the loop in `names_length` keeps, and that it ends.
 use Rattle.std.proofs.Common.{◌≡◌, ◌+◌, ◌-◌, ◌^◌, length, min, sum_by, take, All}
 use Rattle.repl_text.specs.Text.{IsText}
 use Rattle.repl_names.specs.StandbyList.{name_spelling}

@@ -1,3 +1,4 @@
+-- What `spelling_length` needs and ensures.
 use Rattle.std.proofs.Common.{◌<◌, length, arith}
 use Rattle.std.proofs.lemmas.Bool.Decides.{nat_tests}
 use Rattle.repl_names.proofs.GrammarLengths.{spelling_length_is}

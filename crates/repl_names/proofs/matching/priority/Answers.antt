@@ -1,3 +1,4 @@
+-- What `priority` needs and ensures.
 use Rattle.std.proofs.Common.{rules, tests, arith}
 use Rattle.std.proofs.lemmas.Iterator.{IsFirst-from_position, YieldsList-from_slice}
 use Rattle.repl_names.specs.StandbyList.{Matches}
@@ -9,7 +10,8 @@ found : (c : goal.In-Some) → IsFirstMatch c.args.list.now.names c.args.name.no
 found c =
     let names = c.args.list.now.names in
     let name = c.args.name.now in
-    let first = IsFirst-from_position _ _ _ (λ entry. Matches name entry) (λ entry. ¬ Matches name entry) c.in-Some.ensures.ran (YieldsList-from_slice names cc) (λ x q k. search (rules, tests)) (λ x q k. search (rules, tests)) in
+    let first = IsFirst-from_position _ _ _ (λ entry. Matches name entry) (λ entry. ¬ Matches name entry) c.in-Some.ensures.ran
+    (YieldsList-from_slice names cc) (λ x q k. search (rules, tests)) (λ x q k. search (rules, tests)) in
     record { within = first.0; matches = first.1; none_before = first.2 }
 
 pub overflow_cast-result : goal.overflow_cast-result

@@ -1,3 +1,4 @@
+-- What `listed` needs and ensures.
 use Rattle.repl_names.proofs.GrammarReading.{listing_of}
 use Rattle.repl_names.proofs.parse.listed.Goals as goal
 

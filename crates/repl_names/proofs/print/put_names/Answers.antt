@@ -1,3 +1,4 @@
+-- What `put_names` needs and ensures.
 use Rattle.std.proofs.Common.{◌≡◌, ◌++◌, codes, get_or, take, ap, ◌∙◌, arith}
 use Rattle.repl_names.specs.StandbyList.{name_spelling, names_spelling}
 use Rattle.repl_names.proofs.Printing.{first_name, next_name}
@@ -13,7 +14,8 @@ loop-i-preserved c =
     let is : name ≡ get_or names i name = cc in
     elim c.if-i-gt0.branch [
       | then-i-gt0+in_ok-extend_from_slice w ↦
-          let comma : c.if-i-gt0.out.items ≡ start ++ names_spelling (take i names) ++ codes ", " = ap (λ o. o.items) w.out-is ∙ w.in_ok-extend_from_slice.ensures.items ∙ ap (λ x. x ++ codes ", ") c.loop-i.invariant in
+          let comma : c.if-i-gt0.out.items ≡ start ++ names_spelling (take i names) ++ codes ", " = ap (λ o. o.items) w.out-is
+          ∙ w.in_ok-extend_from_slice.ensures.items ∙ ap (λ x. x ++ codes ", ") c.loop-i.invariant in
           c.in_ok-put_name.ensures ∙ ap (λ x. x ++ name_spelling name) comma ∙ next_name names i name start (omega arith) (omega arith) is
       | else-i-gt0 w ↦
           let front : c.if-i-gt0.out.items ≡ start ++ names_spelling (take i names) = ap (λ o. o.items) w.out-is ∙ c.loop-i.invariant in

@@ -1,3 +1,4 @@
+-- What each turn of the loop in `put_names` keeps, and that it ends.
 use Rattle.std.proofs.Common.{◌≡◌, ◌++◌, take}
 use Rattle.repl_names.specs.StandbyList.{names_spelling}
 use Rattle.repl_names.proofs.print.put_names.Given as goal

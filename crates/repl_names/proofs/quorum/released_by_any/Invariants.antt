@@ -1,3 +1,4 @@
+-- What each turn of the loop in `released_by_any` keeps, and that it ends.
 use Rattle.std.proofs.Common.{ℕ, ◌-◌, ◌<◌, ◌≤◌, count_by}
 use Rattle.repl_names.specs.Quorum.{candidates, reaches}
 use Rattle.repl_names.proofs.quorum.released_by_any.Given as goal

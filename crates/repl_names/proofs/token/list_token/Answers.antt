@@ -1,3 +1,4 @@
+-- What `list_token` needs and ensures.
 use Rattle.std.proofs.Common.{◌≡◌, ◌≢◌, sym, rules}
 use Rattle.repl_text.specs.Text.{IsText}
 use Rattle.repl_names.specs.declared.token.Kind.TheVariants as kind
@@ -10,7 +11,8 @@ returns-in-Some c =
     let other : c.kind_of.result ≢ kind.Star = search rules in
     let texts : IsText items = search rules in
     let same : c.in-Some.text ≡ items = search rules in
-    text_token c.args.token c.token.inside.kind c.token.inside.place items c.deref.result.now c.in-Some.text c.kind_of.result (sym c.token.view_is) c.deref.ensures.value c.kind_of.ensures other same texts
+    text_token c.args.token c.token.inside.kind c.token.inside.place items c.deref.result.now c.in-Some.text c.kind_of.result
+    (sym c.token.view_is) c.deref.ensures.value c.kind_of.ensures other same texts
 
 pub returns-in_ok-copied-in-None : goal.returns-in_ok-copied-in-None
 returns-in_ok-copied-in-None c =

@@ -1,3 +1,4 @@
+-- What each turn of the loop in `tokens_of` keeps, and that it ends.
 use Rattle.std.proofs.Common.{length, ◌-◌}
 use Rattle.repl_token.proofs.Leading.{Leads}
 use Rattle.repl_names.specs.Token.{list_class, list_token}

@@ -1,3 +1,4 @@
+-- What `saturating_value` needs and ensures.
 use Rattle.std.proofs.Common.{arith}
 use Rattle.std.proofs.lemmas.Int.Digits.{digits_value_more}
 use Rattle.repl_token.proofs.DigitValues.{digit_here}

@@ -1,3 +1,4 @@
+-- What each turn of the loop in `saturating_value` keeps, and that it ends.
 use Rattle.std.proofs.Common.{◌≡◌, ◌-◌, ◌^◌, min, take}
 use Rattle.std.specs.Str.Parse.{digits_value}
 use Rattle.repl_token.proofs.digits.saturating_value.Given as goal

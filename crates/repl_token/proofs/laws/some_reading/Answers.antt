@@ -1,3 +1,4 @@
+-- The law `some_reading`.
 use Rattle.repl_token.proofs.HasReading.{has_reading}
 use Rattle.repl_token.proofs.laws.some_reading.Goals as goal
 

@@ -1,3 +1,4 @@
+-- What `put_quoted` needs and ensures.
 use Rattle.std.proofs.Common.{◌≡◌, ◌+◌, ◌++◌, ◌∷◌, [], take, sym, ◌∙◌, rules, arith}
 use Rattle.std.proofs.lemmas.List.{length-drop, take_rest}
 use Rattle.repl_token.proofs.Quoting.{before_quote}
@@ -23,4 +24,5 @@ pub returns : goal.returns
 returns c =
     let rest = c.loop-place.rest.now in
     let end : c.push-2.new.self.items ≡ c.loop-place.out.items ++ rest ++ c.args.quote ∷ [] = search rules in
-    end ∙ quote_end c.args.quote c.args.out.now.items c.args.text.now c.loop-place.out.items rest (sym c.in_default.ensures) c.loop-place.invariant.spelled
+    end ∙ quote_end c.args.quote c.args.out.now.items c.args.text.now c.loop-place.out.items rest
+    (sym c.in_default.ensures) c.loop-place.invariant.spelled

@@ -1,3 +1,4 @@
+-- What each turn of the loop in `put_quoted` keeps, and that it ends.
 use Rattle.std.proofs.Common.{◌≡◌, ◌≤◌, ◌∷◌, ◌++◌, flat_map, length}
 use Rattle.repl_token.specs.Token.{doubled}
 use Rattle.repl_token.proofs.quotes.put_quoted.Given as goal

@@ -1,3 +1,4 @@
+-- What each turn of the loop in `unquoted` keeps, and that it ends.
 use Rattle.std.proofs.Common.{length, ◌-◌}
 use Rattle.repl_token.proofs.Quoting.{ReadsQuoted}
 use Rattle.repl_token.proofs.quotes.unquoted.Given as goal

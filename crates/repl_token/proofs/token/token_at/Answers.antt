@@ -1,3 +1,4 @@
+-- What `token_at` needs and ensures.
 use Rattle.std.proofs.Common.{sym, ◌∙◌}
 use Rattle.repl_token.proofs.Steps.{word_token, number_token}
 use Rattle.repl_token.proofs.token.token_at.Goals as goal

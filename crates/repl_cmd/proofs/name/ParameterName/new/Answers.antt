@@ -1,3 +1,4 @@
+-- What `new` needs and ensures.
 use Rattle.std.proofs.Common.{subst}
 use Rattle.repl_text.specs.Text.{IsText}
 use Rattle.repl_cmd.proofs.SmallLetters.{lowered_parameter}

@@ -1,16 +1,16 @@
+-- What `last_session` needs and ensures.
 use Rattle.std.proofs.Common.{◌+◌, ◌-◌, ◌≤◌, ◌/◌, arith}
 use Rattle.std.proofs.lemmas.List.Elements.{All-filter}
-use Rattle.repl_names.proofs.Ranks.{within_all, within_rises}
+use Rattle.repl_names.proofs.Ranks.{up_to_within, within_rises}
 use Rattle.repl_names.specs.declared.quorum.Candidate.{Candidate}
-use Rattle.repl_names.specs.Order.{key}
 use Rattle.repl_names.specs.Quorum.{candidates, counts}
-use Rattle.repl_names.proofs.quorum.last_key.Goals as goal
+use Rattle.repl_names.proofs.quorum.last_session.Goals as goal
 
 pub loop-low-init : goal.loop-low-init
 loop-low-init c =
-    let greatest = c.greatest_key-high.result in
-    let bounded = All-filter counts (λ (c' : Candidate). key c' ≤ greatest) c.args.sessions.now c.greatest_key-high.ensures.bounded in
-    let all = within_all greatest (candidates c.args.sessions.now) bounded in
+    let greatest = c.greatest_session-high.result in
+    let bounded = All-filter counts (λ (d : Candidate). d.session ≤ greatest) c.args.sessions.now c.greatest_session-high.ensures in
+    let more = up_to_within c.args.priority greatest (candidates c.args.sessions.now) bounded in
     record {
       ordered = omega arith;
       enough = omega arith;
@@ -22,6 +22,7 @@ loop-low-preserved c = record {
   ordered = omega arith;
   enough = c.loop-low.invariant.enough;
   fewer = λ earlier h.
-      let rises = within_rises earlier (c.loop-low.low + (c.loop-low.high - c.loop-low.low) / 2) (candidates c.args.sessions.now) (omega arith) in
+      let rises = within_rises c.args.priority earlier (c.loop-low.low + (c.loop-low.high - c.loop-low.low) / 2)
+      (candidates c.args.sessions.now) (omega arith) in
       omega (arith, c.candidates_within.ensures);
 }
