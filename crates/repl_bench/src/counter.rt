@@ -1,5 +1,5 @@
 //! A counter under a turn, and under a lock.
-ghost use Rattle.std.specs.Prelude.{◌≡◌, ◌+◌, ◌%◌, ◌^◌};
+ghost use Rattle.std.specs.Prelude.{◌≡◌, ◌+◌, ◌%◌, ◌^◌, true, refl};
 
 use repl_turn::{Machine, Pass, Turn};
 use std::sync::{Mutex, Wait};
@@ -18,10 +18,23 @@ impl Machine for Counter {
 
     ghost steps = { λ x event reply y. (reply ≡ (x.count + event) % 2 ^ 64) × (y.count ≡ reply) };
 
+    ghost Awaited = { Unit {0} };
+
+    ghost awaited = { λ _. tt };
+
+    ghost quiet = { λ _. true };
+
+    // Nobody waits for a change.
+    fn is_quiet(_event: &u64) -> bool {
+        true
+    }
+
     fn act(&mut self, event: u64) -> u64 {
         self.count = self.count.wrapping_add(event);
         self.count
     }
+
+    ghost stays = { λ x event reply y quiet made. refl };
 }
 
 /// Works for so many steps, and replies where that led to.
@@ -37,6 +50,17 @@ impl Machine for Grinder {
 
     ghost steps = { λ x event reply y. y.state ≡ reply };
 
+    ghost Awaited = { Unit {0} };
+
+    ghost awaited = { λ _. tt };
+
+    ghost quiet = { λ _. true };
+
+    // Nobody waits for a change.
+    fn is_quiet(_event: &u64) -> bool {
+        true
+    }
+
     fn act(&mut self, event: u64) -> u64 {
         for step in 0..event {
             self.state = self
@@ -46,6 +70,8 @@ impl Machine for Grinder {
         }
         self.state
     }
+
+    ghost stays = { λ x event reply y quiet made. refl };
 }
 
 /// So many times this event, by one thread, and the pass that made them.

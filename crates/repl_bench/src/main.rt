@@ -8,10 +8,12 @@
 //! many records are whole, where the last one starts and ends, and what is wrong behind it.
 #![tactic(auto)]
 
+mod commit;
 mod counter;
 mod log;
 mod records;
 
+use commit::{Ends, eight_and_standby};
 use counter::{
     Counter, Grinder, four_by_mutex, four_by_turn, one_by_mutex, one_by_turn, two_by_mutex,
     two_by_turn,
@@ -44,8 +46,29 @@ fn run(rt: &(impl Env + Input + AllocGlobal + Threads + Wait + Sync)) -> Option<
     if way.as_str() == "log" {
         return walked(rt.alloc(), &mut rt.reader(), first, second);
     }
+    if way.as_str() == "commit" {
+        return committed(rt, first, second);
+    }
     let number = measured(rt, way.as_str(), first, second)?;
     format!(in rt.alloc(); "{number}").ok()
+}
+
+/// How many commits eight clients made, how many events that took, and how often somebody was woken by a change.
+fn committed(
+    rt: &(impl AllocGlobal + Threads + Wait + Sync),
+    each: u64,
+    steps: u64,
+) -> Option<String> {
+    let (turn, pass) = Turn::new(rt.alloc(), Ends::new(steps)).ok()?;
+    let tally = eight_and_standby(rt, &turn, pass, each, steps);
+    let commits = each.saturating_mul(8);
+    format!(in rt.alloc();
+        "{commits} {} {} {}",
+        tally.events,
+        tally.wakes,
+        tally.noise % 2
+    )
+    .ok()
 }
 
 /// Does what is measured, and answers a number that comes of it.

@@ -8,3 +8,4 @@ pub mod Watches
 pub mod Halves
 pub mod Unions
 pub mod Knowing
+pub mod Endings

@@ -50,6 +50,18 @@ module _ {S E R : Type 0} where
     abbrev pub Legal : TurnId S → List (Entry E R) → Type 0
     Legal turn h = (x : S) × (turn.opening ≡ Some x) × (y : S) × Replays x h y
 
+    -- From x these events lead to y, and this entry, at this place, is a step on the way: the earlier events lead to the state `before`, where the relation gives the entry's reply and the state `after`, from which the later ones go on
+    pub record StepAt (x : S) (h : List (Entry E R)) (y : S) (at : ℕ) (e : Entry E R) : Type 0 where
+      pub earlier : List (Entry E R)
+      pub later : List (Entry E R)
+      pub before : S
+      pub after : S
+      pub whole : h ≡ earlier ++ e ∷ later
+      pub place : length earlier ≡ at
+      pub leads : Replays x earlier before
+      pub made : steps before e.event e.reply after
+      pub goes_on : Replays after later y
+
     -- The pass made one event. The history that it now knows begins with all that it had seen and ends with the event, and what stands in between is of other passes
     pub record Acts (p : Known S E R) (event : E) (reply : R) (at : ℕ) (q : Known S E R) : Type 0 where
       pub between : List (Entry E R)
@@ -72,6 +84,14 @@ module _ {S E R : Type 0} where
       pub calls : mine q ≡ mine p
       pub turn : q.turn ≡ p.turn
       pub numbers : q.numbers ≡ p.numbers
+
+    -- What the pass has seen, and what other passes made behind it, led from the opening state to this one
+    pub record Ends (p : Known S E R) (y : S) : Type 0 where
+      pub opening : S
+      pub opened : p.turn.opening ≡ Some opening
+      pub more : List (Entry E R)
+      pub others : calls_by p.numbers more ≡ []
+      pub leads : Replays opening (p.seen ++ more) y
 
     -- The pass takes in the other: it keeps its number and has seen the longer of what both had seen, with the calls of each
     pub record Joins (p o q : Known S E R) : Type 0 where

@@ -3,22 +3,16 @@ ghost use Rattle.std.specs.Prelude.{◌≡◌, ◌<◌, ◌^◌, Some, [], ◌�
 ghost use Rattle.repl_turn.specs.declared.rule.Stage.TheVariants.{Idle, Waiting, Holding};
 ghost use Rattle.repl_turn.specs.Rule.{IsSameSeat, at_stage, IsHeld, Gives, Watched};
 
+use crate::bell::Patience;
 use crate::machine::Machine;
 use crate::rule::{Draw, Give, Look, Said, Token, Watch};
 use crate::turn::Turn;
-use std::hint;
 use std::snapshot::Snapshot;
 use std::sync::Wait;
 use std::sync::atomic::Ordering::SeqCst;
 
 // No more tickets than this are drawn, so that no word wraps.
 const TICKETS: u64 = 1 << 63;
-
-// How often a thread looks before it sleeps.
-const SPINS: u32 = 100;
-
-// What a thread sleeps on is the low half of a word.
-const LOW_HALF: u64 = 1 << 32;
 
 impl<M: Machine> Turn<M> {
     // Draws the next ticket. Where all are drawn it does not return.
@@ -50,18 +44,29 @@ impl<M: Machine> Turn<M> {
         ensures seat { IsSameSeat token.old token.new }
         ensures held { (x : M) × (token.new.me ≡ (at_stage token.old.me.0 (Holding ticket x), (0, x) ∷ [])) }
     {
-        let mut tries = 0;
+        let mut patience = Patience::new();
         for _ in rt.forever() {
             let served = self.table.shared.load::<Look>(token, 1);
             if served == ticket {
                 return;
             }
-            tries = self.rest(rt, tries, served);
+            if patience.is_over(served) {
+                self.sleep_before(rt, ticket);
+            }
         }
         unreachable!()
     }
 
-    // Gives the turn on, with the machine back in its place, and wakes who sleeps.
+    // Sleeps until the ticket is served. It may return too early.
+    fn sleep_before<R: Wait>(&self, rt: &R, ticket: u64) {
+        let bell = &self.bells[(ticket % 64) as usize];
+        let heard = bell.listen();
+        if self.table.shared.peek(1) != ticket {
+            bell.sleep(rt, heard);
+        }
+    }
+
+    // Gives the turn on, with the machine back in its place.
     pub(crate) fn give<J: Said<M::Event, M::Reply>>(
         &self,
         token: &mut Token<M>,
@@ -75,14 +80,21 @@ impl<M: Machine> Turn<M> {
         ensures gave { Gives M.steps asked.value reply.now token.old.me.0 result token.new.me }
     {
         let _ = asked;
-        let at = self.table.shared.fetch_add::<Give<J>>(token, 1, 1);
-        if self.sleepers.load(SeqCst) > 0 {
-            self.table.shared.wake_all(1);
-        }
-        at
+        self.table.shared.fetch_add::<Give<J>>(token, 1, 1)
     }
 
-    // Looks until the history is longer than this, and returns its length.
+    // Wakes who waits with this ticket, which is served now, and where the event behind which it came was not quiet, who
+    // waits for a change.
+    pub(crate) fn wake(&self, served: u64, quiet: bool) {
+        self.bells[(served % 64) as usize].ring();
+        if !quiet {
+            self.loud.fetch_max(served, SeqCst);
+            self.change.ring();
+        }
+    }
+
+    // Waits until an event was made that is not quiet and that is not among the first `count`, and returns how long the
+    // history is then.
     pub(crate) fn await_change<R: Wait>(&self, rt: &R, token: &mut Token<M>, count: u64) -> u64
         requires seat { token.old.table_id ≡ self.now.table }
         requires idle { token.old.me.0.stage ≡ Idle }
@@ -91,26 +103,31 @@ impl<M: Machine> Turn<M> {
         ensures longer { count < result }
         ensures watched { Watched M.steps token.old.me result token.new.me }
     {
-        let mut tries = 0;
         for _ in rt.forever() {
+            self.sleep_behind(rt, count);
             let found = self.table.shared.load::<Watch>(token, 1);
             if found > count {
                 return found;
             }
-            tries = self.rest(rt, tries, found);
         }
         unreachable!()
     }
 
-    // Waits for a change of word 1, which was `found`: awake at first, and then asleep. Returns how often it waited awake.
-    pub(crate) fn rest<R: Wait>(&self, rt: &R, tries: u32, found: u64) -> u32 {
-        if tries < SPINS {
-            hint::spin_loop();
-            return tries + 1;
+    // Sleeps until a loud event is made behind the first `count`.
+    fn sleep_behind<R: Wait>(&self, rt: &R, count: u64) {
+        let mut patience = Patience::new();
+        for _ in rt.forever() {
+            let loud = self.loud.load(SeqCst);
+            if loud > count {
+                return;
+            }
+            if patience.is_over(loud) {
+                let heard = self.change.listen();
+                if self.loud.load(SeqCst) <= count {
+                    self.change.sleep(rt, heard);
+                }
+            }
         }
-        self.sleepers.fetch_add(1, SeqCst);
-        self.table.shared.park(rt, 1, (found % LOW_HALF) as u32);
-        self.sleepers.fetch_sub(1, SeqCst);
-        tries
+        unreachable!()
     }
 }

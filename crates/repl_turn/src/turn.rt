@@ -1,11 +1,13 @@
 ghost use Rattle.std.specs.Prelude.{◌≡◌, ◌<◌, Some, [], ◌∷◌, IfOk, IfErr};
-ghost use Rattle.repl_turn.specs.History.{Acts, Watches, Joins, Splits};
+ghost use Rattle.repl_turn.specs.History.{Acts, Ends, Joins, Splits, Watches};
 
+use crate::bell::Bell;
 use crate::machine::Machine;
 use crate::pass::Pass;
 use crate::rule::{Christen, Cut, Glue, Merge, OneHistory, View};
 use atomic_table::{Refused, Table};
 use std::alloc::{AllocFailed, Global};
+use std::array;
 use std::marker::{Brand, Model};
 use std::snapshot::Snapshot;
 use std::sync::Wait;
@@ -16,8 +18,12 @@ use std::sync::atomic::AtomicU64;
 #[derive(Drop)]
 pub struct Turn<M: Machine> {
     pub(crate) table: Table<M, View<M, M::Event, M::Reply>, Snapshot<M>, OneHistory, Global>,
-    // How many threads are asleep on word 1, or about to be.
-    pub(crate) sleepers: AtomicU64,
+    // Who waits with a ticket sleeps on the bell with this number modulo 64.
+    pub(crate) bells: [Bell; 64],
+    // Who waits for a change sleeps on this one.
+    pub(crate) change: Bell,
+    // How long the history was behind the last event that was not quiet.
+    pub(crate) loud: AtomicU64,
 }
 
 impl<M: Machine> Model for Turn<M> {
@@ -44,6 +50,12 @@ pub struct NoMemory<M> {
     pub machine: M,
 }
 
+/// An event was under way. No call can be, where the turn is owned, but no contract says so. The machine comes back.
+#[derive(Drop)]
+pub struct Unfinished<M> {
+    pub machine: M,
+}
+
 impl<M: Machine> Turn<M> {
     /// A turn over this machine, and its first pass, which has seen nothing.
     pub fn new(alloc: Global, machine: M) -> Result<(Turn<M>, Pass<M>), NoMemory<M>>
@@ -61,7 +73,9 @@ impl<M: Machine> Turn<M> {
             Ok((table, token)) => {
                 let turn = Turn {
                     table,
-                    sleepers: AtomicU64::new(0),
+                    bells: array::from_fn(|_| Bell::new()),
+                    change: Bell::new(),
+                    loud: AtomicU64::new(0),
                 };
                 Ok((turn, Pass { count: 0, token }))
             }
@@ -75,17 +89,20 @@ impl<M: Machine> Turn<M> {
         }
     }
 
-    /// Waits until no other event is being made, and makes this one.
+    /// Waits until no other event is being made, and makes this one. It wakes who waits for a change, unless it is quiet.
     pub fn act<R: Wait>(&self, rt: &R, pass: &mut Pass<M>, event: M::Event) -> Acted<M::Reply>
         requires { pass.old.turn ≡ self.now }
-        ensures { Acts M.steps pass.old event result.reply result.at pass.new }
+        ensures acts { Acts M.steps pass.old event result.reply result.at pass.new }
+        ensures made { (before : M) × (after : M) × M.steps before event result.reply after }
     {
         let ticket = self.draw(rt, &mut pass.token);
         self.await_turn(rt, &mut pass.token, ticket);
+        let quiet = M::is_quiet(&event);
         let asked = Snapshot::of(&event);
         let reply = pass.token.slot_mut(&self.table.shared, 0).act(event);
         let at = self.give::<Brand>(&mut pass.token, asked, &reply);
         pass.count = at + 1;
+        self.wake(at + 1, quiet);
         Acted { reply, at }
     }
 
@@ -126,7 +143,32 @@ impl<M: Machine> Turn<M> {
         }
     }
 
-    /// Waits until the history is longer than the pass has seen.
+    /// Takes the turn apart, and gives the machine back, in the state to which the whole history led.
+    pub fn into_machine(self, pass: Pass<M>) -> Result<M, Unfinished<M>>
+        requires { pass.turn ≡ self }
+        ensures { IfOk result (λ machine. Ends M.steps pass machine) }
+    {
+        let Turn {
+            table,
+            bells: _,
+            change: _,
+            loud: _,
+        } = self;
+        let Pass { count: _, token } = pass;
+        let mut closed = table.close_with(token);
+        let drawn = closed.word(0);
+        let served = closed.word(1);
+        let machine = closed.take(0);
+        closed.free();
+        if drawn == served {
+            Ok(machine)
+        } else {
+            Err(Unfinished { machine })
+        }
+    }
+
+    /// Waits until an event was made that the pass has not seen and that is not quiet: the history is longer than the pass
+    /// has seen. Quiet events alone end no wait, so that those who wait and look do not wake each other.
     pub fn wait_for_change<R: Wait>(&self, rt: &R, pass: &mut Pass<M>)
         requires { pass.old.turn ≡ self.now }
         ensures { Watches M.steps pass.old pass.new }

@@ -6,8 +6,8 @@ use Rattle.repl_turn.specs.Rule.{at_stage}
 use Rattle.repl_turn.proofs.Knowing.{known, acts_known}
 use Rattle.repl_turn.proofs.turn.Turn.act.Goals as goal
 
-pub returns : goal.returns
-returns g c =
+pub returns-clause-acts : goal.returns-clause-acts
+returns-clause-acts g c =
     let v = c.pass.inside.token.me.0 in
     let held = c.await_turn.ensures.held in
     let u = c.await_turn.new.token.me.0 in
