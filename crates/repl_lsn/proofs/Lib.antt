@@ -23,3 +23,4 @@ pub mod Timelines
 pub mod Relations
 pub mod Equals
 pub mod Holders
+pub mod HistoryNames

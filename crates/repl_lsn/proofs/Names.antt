@@ -48,7 +48,7 @@ piece : (text before part after : List ℕ) (place : ℕ) → text ≡ before ++
 piece text before part after place e p l = ap (λ x. take 8 (drop place x)) e ∙ ap (take 8) (drop_at before (part ++ after) place p)
     ∙ take_at part after 8 l
 
-value_there : (text before after : List ℕ) (place n : ℕ) → n < 2 ^ 32 → text ≡ before ++ (eight n ++ after) → length before ≡ place
+pub value_there : (text before after : List ℕ) (place n : ℕ) → n < 2 ^ 32 → text ≡ before ++ (eight n ++ after) → length before ≡ place
     → number_at text place ≡ n
 value_there text before after place n small e p = ap (digits_value 16) (piece text before (eight n) after place e p (length_eight n small))
     ∙ eight_value n small
@@ -83,7 +83,7 @@ numbers_of size text tli seg h named =
 three_parts : (text : List ℕ) → length text ≤ 24 → text ≡ take 8 (drop 0 text) ++ take 8 (drop 8 text) ++ take 8 (drop 16 text)
 three_parts text long = sym (take_all 24 text long) ∙ take-add 16 8 text ∙ ap (λ x. x ++ take 8 (drop 16 text)) (take-add 8 8 text)
 
-part_is : (text : List ℕ) (place number : ℕ) → IsNumberAt text place number → take 8 (drop place text) ≡ eight number
+pub part_is : (text : List ℕ) (place number : ℕ) → IsNumberAt text place number → take 8 (drop place text) ≡ eight number
 part_is text place number h =
     let long : length (take 8 (drop place text)) ≡ 8 = length-take-le 8 (drop place text) (omega (
       arith,

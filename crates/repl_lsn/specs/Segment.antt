@@ -1,5 +1,5 @@
 -- Segments of the log and the names of its files (PostgreSQL 17 manual, section "WAL Internals").
-use Rattle.std.specs.Prelude.{◌≡◌, ℕ, ◌+◌, ◌*◌, ◌/◌, ◌%◌, ◌^◌, ◌<◌, ◌≤◌, ◌⊎◌, true, List, ◌++◌, length, take, drop, replicate, ◌-◌, codes, All}
+use Rattle.std.specs.Prelude.{◌≡◌, ◌≢◌, ℕ, ◌+◌, ◌*◌, ◌/◌, ◌%◌, ◌^◌, ◌<◌, ◌≤◌, ◌⊎◌, true, List, ◌++◌, length, take, drop, replicate, ◌-◌, codes, All}
 use Rattle.std.specs.Char.{digit_value}
 use Rattle.std.specs.Fmt.{digits}
 use Rattle.std.specs.Str.Parse.{digits_value}
@@ -30,6 +30,31 @@ segment_name size tli seg = eight tli ++ eight (seg / in_four_gib size) ++ eight
 -- the name of a timeline's history
 abbrev pub history_name : ℕ → List ℕ
 history_name tli = eight tli ++ codes ".history"
+
+-- the name of a segment that is not whole, since its timeline was left in it
+abbrev pub partial_name : ℕ → ℕ → ℕ → List ℕ
+partial_name size tli seg = segment_name size tli seg ++ codes ".partial"
+
+-- the text is the name of this timeline's history
+pub record NamesHistory (text : List ℕ) (tli : ℕ) : Type 0 where
+  pub timeline : (0 < tli) × (tli < 2 ^ 32)
+  pub named : text ≡ history_name tli
+
+-- a file of the log's, and its name where segments are so large
+pub data LogFile : Type 0 where
+  segment : ℕ → ℕ → LogFile
+  partial : ℕ → ℕ → LogFile
+  history : ℕ → LogFile
+
+abbrev pub file_name : ℕ → LogFile → List ℕ
+file_name size (segment tli seg) = segment_name size tli seg
+file_name size (partial tli seg) = partial_name size tli seg
+file_name size (history tli) = history_name tli
+
+abbrev pub IsLogFile : ℕ → LogFile → Type 0
+IsLogFile size (segment tli seg) = (0 < tli) × (tli < 2 ^ 32) × Fits size seg
+IsLogFile size (partial tli seg) = (0 < tli) × (tli < 2 ^ 32) × Fits size seg
+IsLogFile size (history tli) = (0 < tli) × (tli < 2 ^ 32)
 
 -- the text is the name of this segment
 pub record Names (size : ℕ) (text : List ℕ) (tli seg : ℕ) : Type 0 where
@@ -82,3 +107,11 @@ pub record LacksDigitFrom (text : List ℕ) (start place : ℕ) : Type 0 where
   pub within : place ≤ length text
   pub before : AreDigits (take (place - start) (drop start text))
   pub none : ¬ AreDigits (take 1 (drop place text)) ⊎ (length text ≡ place)
+
+-- What is wrong with the name of a history: a digit that is wrong or missing, a timeline 0, and what stands behind the
+-- digits.
+abbrev pub IsHistoryNameFault : List ℕ → ℕ → Type 0
+IsHistoryNameFault text place =
+    LacksDigitFrom text 0 place
+    ⊎ ((place ≡ 0) × IsNumberAt text 0 0)
+    ⊎ ((place ≡ 8) × ((tli : ℕ) × (0 < tli) × IsNumberAt text 0 tli) × (drop 8 text ≢ codes ".history"))

@@ -21,6 +21,7 @@
 mod copies;
 mod equality;
 mod fault;
+mod file_names;
 mod history;
 mod history_laws;
 mod history_line;
@@ -36,6 +37,7 @@ mod timeline;
 mod words;
 
 pub use fault::HistoryFault;
+pub use file_names::{history_name, parse_history_name, partial_name};
 pub use history::{HISTORY_LIMIT, History, Line, Part, Parts};
 pub use history_laws::one_history;
 pub use history_lines::{history_text, parse_history};
@@ -47,6 +49,6 @@ pub use path_laws::{
 pub use position::{Lsn, PlaceFault};
 pub use relation::Relation;
 pub use repl_text::Text;
-pub use segment::{SegNo, SegSize, history_name, parse_seg_name, seg_name, seg_of, seg_start};
-pub use segment_laws::one_segment;
+pub use segment::{SegNo, SegSize, parse_seg_name, seg_name, seg_of, seg_start};
+pub use segment_laws::{one_file, one_segment};
 pub use timeline::Tli;

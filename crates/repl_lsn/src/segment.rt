@@ -1,7 +1,7 @@
 ghost use Rattle.std.specs.Prelude.{◌≡◌, ℕ, ◌+◌, ◌*◌, ◌/◌, ◌^◌, ◌<◌, ◌≤◌, length, slice_index, Ok, IfOk, IfErr, string_bytes};
 ghost use Rattle.std.specs.Char.{digit_value};
 ghost use Rattle.std.specs.Option.{SomeIff};
-ghost use Rattle.repl_lsn.specs.Segment.{IsSegSize, Fits, Names, IsNameFault, IsDigit, IsNumberAt, LacksDigitFrom, in_four_gib, segment_name, history_name};
+ghost use Rattle.repl_lsn.specs.Segment.{IsSegSize, Fits, Names, IsNameFault, IsDigit, IsNumberAt, LacksDigitFrom, in_four_gib, segment_name};
 
 use crate::position::{Lsn, PlaceFault};
 use crate::timeline::Tli;
@@ -9,7 +9,7 @@ use std::alloc::{AllocError, Global};
 use std::marker::Model;
 
 /// How many digits write each of the three numbers of a name, and where its second and third number and its end stand.
-const NUMBER_DIGITS: usize = 8;
+pub(crate) const NUMBER_DIGITS: usize = 8;
 
 const HIGH_PLACE: usize = NUMBER_DIGITS;
 
@@ -116,14 +116,6 @@ pub fn seg_name(alloc: Global, tli: Tli, seg: SegNo, size: SegSize) -> Result<St
     format!(in alloc; "{timeline:08X}{high:08X}{low:08X}")
 }
 
-/// The name of the file with the timeline's history. Takes memory for it.
-pub fn history_name(alloc: Global, tli: Tli) -> Result<String, AllocError>
-    ensures { IfOk result (λ name. string_bytes name ≡ history_name tli) }
-{
-    let timeline = tli.0;
-    format!(in alloc; "{timeline:08X}.history")
-}
-
 /// The timeline and the segment that the name of a file with so large segments says.
 ///
 /// A digit that is wrong or missing is refused at its place, a timeline 0 at 0, a third number of 2^32 / `size` or more
@@ -151,7 +143,7 @@ pub fn parse_seg_name(text: &[u8], size: SegSize) -> Result<(Tli, SegNo), PlaceF
 }
 
 /// The number that the eight digits at `start` write. A fault at the first place that has no digit.
-fn number_at(text: &[u8], start: usize) -> Result<u32, PlaceFault>
+pub(crate) fn number_at(text: &[u8], start: usize) -> Result<u32, PlaceFault>
     requires { start ≤ length text.now }
     ensures read { IfOk result (λ number. IsNumberAt text.now start number) }
     ensures refused { IfErr result (λ fault. LacksDigitFrom text.now start fault.place) }

@@ -15,7 +15,7 @@ returns-in-Some c =
     let list : c.as_slice.result.now ≡ path.parents = c.as_slice.ensures ∙ c.parents.ensures.value in
     let found = c.in-Some.ensures.lookup in
     let within : c.in_ok-place.place + 1 < length path.parents =
-        omega (arith, ltb-true (c.in_ok-place.place + 1) (length c.as_slice.result.now) (sym found.0), ap length list) in
+    omega (arith, ltb-true (c.in_ok-place.place + 1) (length c.as_slice.result.now) (sym found.0), ap length list) in
     let at : c.in-Some.next.now ≡ get_or path.parents (c.in_ok-place.place + 1) c.in-Some.next.now =
     found.1 ∙ ap (λ ps. get_or ps (c.in_ok-place.place + 1) c.in-Some.next.now) list in
     stands_next path c.args.tli c.in_ok-place.place c.in-Some.next.now c.in_ok-place.ensures.0 within at
@@ -26,5 +26,5 @@ returns-in-None c =
     let list : c.as_slice.result.now ≡ path.parents = c.as_slice.ensures ∙ c.parents.ensures.value in
     let found = c.in-None.ensures.lookup in
     let last : length path.parents ≤ c.in_ok-place.place + 1 =
-        omega (arith, ltb-false (c.in_ok-place.place + 1) (length c.as_slice.result.now) (sym found.0), ap length list) in
+    omega (arith, ltb-false (c.in_ok-place.place + 1) (length c.as_slice.result.now) (sym found.0), ap length list) in
     subst (IsNext path c.args.tli) (sym c.own.ensures) (stands_last path c.args.tli c.in_ok-place.place c.in_ok-place.ensures.0 last)

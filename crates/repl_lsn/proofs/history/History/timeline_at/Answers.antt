@@ -30,7 +30,7 @@ returns c =
     let path = c.args.self.now in
     let walked = c.loop-part.invariant in
     let none : drop c.loop-part.part-index path.parents ≡ [] =
-        drop_all c.loop-part.part-index path.parents (omega (arith, ap length walked.parents)) in
+    drop_all c.loop-part.part-index path.parents (omega (arith, ap length walked.parents)) in
     let last : Holds walked.origin [] path.own c.own.result walked.origin None = (c.own.ensures, refl, refl) in
     let on : IsOn path c.own.result c.args.at =
     record {
