@@ -12,7 +12,8 @@ pub record Follows {A : Type 0} (d : A) (list : List A) (place : ℕ) (other : L
 pub follows_itself : {A : Type 0} (d : A) (list : List A) (place : ℕ) → Follows d list place list
 follows_itself d list place = record { same = λ i h. refl; long = λ h. h }
 
-pub follows_front : {A : Type 0} (d : A) (list more : List A) (place : ℕ) → place < length list → Follows d list place (take (place + 1) list ++ more)
+pub follows_front : {A : Type 0} (d : A) (list more : List A) (place : ℕ) → place < length list
+    → Follows d list place (take (place + 1) list ++ more)
 follows_front d list more place within =
     let size : length (take (place + 1) list) ≡ place + 1 = length-take-le (place + 1) list (omega arith) in
     record {
@@ -33,8 +34,10 @@ stops_from L d list place within goes_on none = record {
 -- what begins a front of a list of the language begins one
 pub begins_take : {A : Type 0} (L : List A → Type 0) (list : List A) (i j : ℕ) → i ≤ j → Begins L (take j list) → Begins L (take i list)
 begins_take L list i j le b =
-    let parts : take i list ++ drop i (take j list) ≡ take j list = ap (λ front. front ++ drop i (take j list)) (sym (take-take i j list le)) ∙ take-append-drop i (take j list) in
-    (drop i (take j list) ++ b.0, subst L (sym (sym (append_assoc (take i list) (drop i (take j list)) b.0) ∙ ap (λ front. front ++ b.0) parts)) b.1)
+    let parts : take i list ++ drop i (take j list) ≡ take j list =
+        ap (λ front. front ++ drop i (take j list)) (sym (take-take i j list le)) ∙ take-append-drop i (take j list) in
+    (drop i (take j list) ++ b.0, subst L (sym (sym (append_assoc (take i list) (drop i (take j list)) b.0)
+        ∙ ap (λ front. front ++ b.0) parts)) b.1)
 
 -- a list of the language stops nowhere
 pub stops_not : {A : Type 0} (L : List A → Type 0) (list : List A) (place : ℕ) → L list → StopsAt L list place → ⊥
