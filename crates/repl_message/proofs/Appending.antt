@@ -3,13 +3,15 @@ use Rattle.std.proofs.Common.{◌≡◌, ℕ, zero, suc, ◌+◌, ◌<◌, ◌�
 use Rattle.std.specs.List.{All, AllByRecursion}
 use Rattle.std.proofs.lemmas.List.{take_all}
 
-fits_next : {X : Type 0} (P : X → Type 0) (xs : List X) (i : ℕ) (x : X) → i < length xs → x ≡ get_or xs i x → AllByRecursion P (take i xs) → P x → AllByRecursion P (take (suc i) xs)
+fits_next : {X : Type 0} (P : X → Type 0) (xs : List X) (i : ℕ) (x : X) → i < length xs → x ≡ get_or xs i x → AllByRecursion P (take i xs)
+    → P x → AllByRecursion P (take (suc i) xs)
 fits_next P [] i x lt is so_far here = absurd (omega arith)
 fits_next P (y ∷ ys) zero x lt is so_far here = (subst P is here, tt)
 fits_next P (y ∷ ys) (suc i) x lt is so_far here = (so_far.0, fits_next P ys i x (omega arith) is so_far.1 here)
 
 -- one more
-pub fits_more : {X : Type 0} (P : X → Type 0) (xs : List X) (i : ℕ) (x : X) → i < length xs → x ≡ get_or xs i x → AllByRecursion P (take i xs) → P x → AllByRecursion P (take (i + 1) xs)
+pub fits_more : {X : Type 0} (P : X → Type 0) (xs : List X) (i : ℕ) (x : X) → i < length xs → x ≡ get_or xs i x
+    → AllByRecursion P (take i xs) → P x → AllByRecursion P (take (i + 1) xs)
 fits_more P xs i x lt is so_far here = rw add-one (fits_next P xs i x lt is so_far here)
 
 -- what holds of all holds of the one at a place

@@ -58,7 +58,8 @@ pub record Takes (bytes text rest : List ℕ) : Type 0 where
   pub rest_fits : IsBytes rest
 
 pub Takes-then : (a x b y c : List ℕ) → Takes a x b → Takes b y c → Takes a (x ++ y) c
-Takes-then a x b y c p q = record { parts = p.parts ∙ ap (λ (t : List ℕ). x ++ t) q.parts ∙ sym (append_assoc x y c); rest_fits = q.rest_fits }
+Takes-then a x b y c p q = record { parts = p.parts ∙ ap (λ (t : List ℕ). x ++ t) q.parts ∙ sym (append_assoc x y c);
+    rest_fits = q.rest_fits }
 
 -- nothing is left
 pub Takes-all : (bytes text rest : List ℕ) → Takes bytes text rest → rest ≡ [] → bytes ≡ text
@@ -70,10 +71,12 @@ pub ended-cons : {A : Type 0} (entry : A → List ℕ) (x : A) (xs : List A) →
 ended-cons entry x xs = ap (λ (w : List ℕ). w ++ 0 ∷ []) (flat_map-cons entry x xs) ∙ append_assoc (entry x) (flat_map entry xs) (0 ∷ [])
 
 -- an entry and the others, up to a zero byte, and where something else says how many there are
-pub Takes-ended : {A : Type 0} (entry : A → List ℕ) (bytes : List ℕ) (x : A) (mid : List ℕ) (xs : List A) (rest : List ℕ) → Takes bytes (entry x) mid → Takes mid (ended entry xs) rest → Takes bytes (ended entry (x ∷ xs)) rest
+pub Takes-ended : {A : Type 0} (entry : A → List ℕ) (bytes : List ℕ) (x : A) (mid : List ℕ) (xs : List A) (rest : List ℕ)
+    → Takes bytes (entry x) mid → Takes mid (ended entry xs) rest → Takes bytes (ended entry (x ∷ xs)) rest
 Takes-ended entry bytes x mid xs rest p q = rw ended-cons (Takes-then bytes (entry x) mid (ended entry xs) rest p q)
 
-pub Takes-cons : {A : Type 0} (entry : A → List ℕ) (bytes : List ℕ) (x : A) (mid : List ℕ) (xs : List A) (rest : List ℕ) → Takes bytes (entry x) mid → Takes mid (flat_map entry xs) rest → Takes bytes (flat_map entry (x ∷ xs)) rest
+pub Takes-cons : {A : Type 0} (entry : A → List ℕ) (bytes : List ℕ) (x : A) (mid : List ℕ) (xs : List A) (rest : List ℕ)
+    → Takes bytes (entry x) mid → Takes mid (flat_map entry xs) rest → Takes bytes (flat_map entry (x ∷ xs)) rest
 Takes-cons entry bytes x mid xs rest p q = rw flat_map-cons (Takes-then bytes (entry x) mid (flat_map entry xs) rest p q)
 
 -- ---- numbers
@@ -101,10 +104,14 @@ wide32 = record {
 }
 
 pub wide_takes : (w : Width) (limit : ℕ) (wide : IsWide w limit) (bytes : List ℕ) → IsBytes bytes → byte_len w ≤ length bytes
-    → Takes bytes (to_be_bytes w (from_be_bytes w (take (byte_len w) bytes))) (drop (byte_len w) bytes) × (from_be_bytes w (take (byte_len w) bytes) < limit)
+    → Takes bytes (to_be_bytes w (from_be_bytes w (take (byte_len w) bytes))) (drop (byte_len w) bytes)
+        × (from_be_bytes w (take (byte_len w) bytes) < limit)
 wide_takes w limit wide bytes fits long =
-    let front : to_be_bytes w (from_be_bytes w (take (byte_len w) bytes)) ≡ take (byte_len w) bytes = wide.back (take (byte_len w) bytes) (omega (arith, length-take (byte_len w) bytes)) (IsBytes-take (byte_len w) bytes fits) in
-    (record { parts = rw front (sym (take-append-drop (byte_len w) bytes)); rest_fits = IsBytes-drop (byte_len w) bytes fits }, wide.below (take (byte_len w) bytes) (IsBytes-take (byte_len w) bytes fits))
+    let front : to_be_bytes w (from_be_bytes w (take (byte_len w) bytes))
+        ≡ take (byte_len w) bytes = wide.back (take (byte_len w) bytes) (omega (arith, length-take (byte_len w) bytes))
+        (IsBytes-take (byte_len w) bytes fits) in
+    (record { parts = rw front (sym (take-append-drop (byte_len w) bytes)); rest_fits = IsBytes-drop (byte_len w) bytes fits },
+        wide.below (take (byte_len w) bytes) (IsBytes-take (byte_len w) bytes fits))
 
 pub wide_again : (w : Width) (limit : ℕ) (wide : IsWide w limit) (n : ℕ) (rest : List ℕ) → n < limit
     → (from_be_bytes w (take (byte_len w) (to_be_bytes w n ++ rest)) ≡ n) × (drop (byte_len w) (to_be_bytes w n ++ rest) ≡ rest)
@@ -113,14 +120,17 @@ wide_again w limit wide n rest lt =
     (rw (take_at (to_be_bytes w n) rest (byte_len w) len) (wide.again n lt), drop_at (to_be_bytes w n) rest (byte_len w) len)
 
 -- the number in the first two bytes, and what is behind it
-pub int16_takes : (bytes : List ℕ) → IsBytes bytes → 2 ≤ length bytes → Takes bytes (int16 (from_be_bytes w16 (take 2 bytes))) (drop 2 bytes) × (from_be_bytes w16 (take 2 bytes) < 2 ^ 16)
+pub int16_takes : (bytes : List ℕ) → IsBytes bytes → 2 ≤ length bytes
+    → Takes bytes (int16 (from_be_bytes w16 (take 2 bytes))) (drop 2 bytes) × (from_be_bytes w16 (take 2 bytes) < 2 ^ 16)
 int16_takes bytes fits long = wide_takes w16 (2 ^ 16) wide16 bytes fits long
 
-pub int16_again : (n : ℕ) (rest : List ℕ) → n < 2 ^ 16 → (from_be_bytes w16 (take 2 (int16 n ++ rest)) ≡ n) × (drop 2 (int16 n ++ rest) ≡ rest)
+pub int16_again : (n : ℕ) (rest : List ℕ) → n < 2 ^ 16 → (from_be_bytes w16 (take 2 (int16 n ++ rest)) ≡ n)
+    × (drop 2 (int16 n ++ rest) ≡ rest)
 int16_again n rest lt = wide_again w16 (2 ^ 16) wide16 n rest lt
 
 -- the same of the first four bytes
-pub int32_takes : (bytes : List ℕ) → IsBytes bytes → 4 ≤ length bytes → Takes bytes (int32 (number bytes)) (drop 4 bytes) × (number bytes < 2 ^ 32)
+pub int32_takes : (bytes : List ℕ) → IsBytes bytes → 4 ≤ length bytes → Takes bytes (int32 (number bytes)) (drop 4 bytes)
+    × (number bytes < 2 ^ 32)
 int32_takes bytes fits long = wide_takes w32 (2 ^ 32) wide32 bytes fits long
 
 pub int32_again : (n : ℕ) (rest : List ℕ) → n < 2 ^ 32 → (number (int32 n ++ rest) ≡ n) × (drop 4 (int32 n ++ rest) ≡ rest)
@@ -139,22 +149,26 @@ some_of None left x e = absurd cc
 abbrev IsTextByte : ℕ → Type 0
 IsTextByte b = (0 < b) × (b < 256)
 
-at_zero_takes : (bytes text rest : List ℕ) → IsBytes bytes → at_zero bytes ≡ Some (text, rest) → Takes bytes (string text) rest × AllByRecursion IsTextByte text
+at_zero_takes : (bytes text rest : List ℕ) → IsBytes bytes → at_zero bytes ≡ Some (text, rest) → Takes bytes (string text) rest
+    × AllByRecursion IsTextByte text
 at_zero_takes [] text rest fits e = absurd cc
 at_zero_takes (zero ∷ bytes) text rest fits e =
     let same : ([], bytes) ≡ (text, rest) = cc in
-    subst (λ (p : List ℕ × List ℕ). Takes (0 ∷ bytes) (string p.0) p.1 × AllByRecursion IsTextByte p.0) same (record { parts = refl; rest_fits = IsBytes-rest 0 bytes fits }, tt)
+    subst (λ (p : List ℕ × List ℕ). Takes (0 ∷ bytes) (string p.0) p.1 × AllByRecursion IsTextByte p.0) same
+        (record { parts = refl; rest_fits = IsBytes-rest 0 bytes fits }, tt)
 at_zero_takes (suc b ∷ bytes) text rest fits e =
     let m = map_some (at_zero bytes) (λ (parts : List ℕ × List ℕ). (suc b ∷ parts.0, parts.1)) (text, rest) e in
     let t = at_zero_takes bytes m.0.0 m.0.1 (IsBytes-rest (suc b) bytes fits) m.1 in
-    subst (λ (p : List ℕ × List ℕ). Takes (suc b ∷ bytes) (string p.0) p.1 × AllByRecursion IsTextByte p.0) m.2 (record { parts = ap (λ (w : List ℕ). suc b ∷ w) t.0.parts; rest_fits = t.0.rest_fits }, ((omega arith, fits 0), t.1))
+    subst (λ (p : List ℕ × List ℕ). Takes (suc b ∷ bytes) (string p.0) p.1 × AllByRecursion IsTextByte p.0) m.2
+        (record { parts = ap (λ (w : List ℕ). suc b ∷ w) t.0.parts; rest_fits = t.0.rest_fits }, ((omega arith, fits 0), t.1))
 
 at_zero_again : (text rest : List ℕ) → AllByRecursion IsTextByte text → at_zero (string text ++ rest) ≡ Some (text, rest)
 at_zero_again [] rest fits = refl
 at_zero_again (zero ∷ text) rest fits = absurd (omega (arith, fits.0.0))
 at_zero_again (suc b ∷ text) rest fits = rw (at_zero_again text rest fits.1) refl
 
-pub string_takes : (bytes text rest : List ℕ) → IsBytes bytes → string_at bytes ≡ Ok (text, rest) → Takes bytes (string text) rest × IsText text
+pub string_takes : (bytes text rest : List ℕ) → IsBytes bytes → string_at bytes ≡ Ok (text, rest) → Takes bytes (string text) rest
+    × IsText text
 unfolding string_at
 string_takes bytes text rest fits e =
     let t = at_zero_takes bytes text rest fits (some_of (at_zero bytes) (length bytes) (text, rest) e) in
@@ -171,18 +185,21 @@ at_zero_none [] h = refl
 at_zero_none (zero ∷ bytes) h = absurd (omega (arith, h 0 (omega arith)))
 at_zero_none (suc b ∷ bytes) h = rw (at_zero_none bytes (λ k lt. h (suc k) (omega arith))) refl
 
-at_zero_first : (i : ℕ) (bytes : List ℕ) → i < length bytes → get_or bytes i 0 ≡ 0 → ((k : ℕ) → k < i → 0 < get_or bytes k 0) → at_zero bytes ≡ Some (take i bytes, drop (suc i) bytes)
+at_zero_first : (i : ℕ) (bytes : List ℕ) → i < length bytes → get_or bytes i 0 ≡ 0 → ((k : ℕ) → k < i → 0 < get_or bytes k 0)
+    → at_zero bytes ≡ Some (take i bytes, drop (suc i) bytes)
 at_zero_first i [] lt here before = absurd (omega arith)
 at_zero_first zero (zero ∷ bytes) lt here before = refl
 at_zero_first zero (suc b ∷ bytes) lt here before = absurd (omega arith)
 at_zero_first (suc i) (zero ∷ bytes) lt here before = absurd (omega (arith, before 0 (omega arith)))
-at_zero_first (suc i) (suc b ∷ bytes) lt here before = rw (at_zero_first i bytes (omega arith) here (λ k less. before (suc k) (omega arith))) refl
+at_zero_first (suc i) (suc b ∷ bytes) lt here before = rw (at_zero_first i bytes (omega arith) here
+    (λ k less. before (suc k) (omega arith))) refl
 
 pub string_at_none : (bytes : List ℕ) → AllWithin (λ b. 0 < b) bytes 0 (length bytes) → string_at bytes ≡ Err (length bytes)
 unfolding string_at
 string_at_none bytes h = rw (at_zero_none bytes (λ k lt. h k 0 (omega arith) lt)) refl
 
-pub string_at_first : (i : ℕ) (bytes : List ℕ) → i < length bytes → get_or bytes i 0 ≡ 0 → AllWithin (λ b. 0 < b) bytes 0 i → string_at bytes ≡ Ok (take i bytes, drop (i + 1) bytes)
+pub string_at_first : (i : ℕ) (bytes : List ℕ) → i < length bytes → get_or bytes i 0 ≡ 0 → AllWithin (λ b. 0 < b) bytes 0 i
+    → string_at bytes ≡ Ok (take i bytes, drop (i + 1) bytes)
 unfolding string_at
 string_at_first i bytes lt here before =
     let e : i + 1 ≡ suc i = omega arith in
@@ -192,11 +209,13 @@ string_at_first i bytes lt here before =
 pub string_first : (b : ℕ) (bytes text rest : List ℕ) → string_at (suc b ∷ bytes) ≡ Ok (text, rest) → 0 < length text
 unfolding string_at
 string_first b bytes text rest e =
-    let m = map_some (at_zero bytes) (λ (parts : List ℕ × List ℕ). (suc b ∷ parts.0, parts.1)) (text, rest) (some_of (at_zero (suc b ∷ bytes)) (length (suc b ∷ bytes)) (text, rest) e) in
+    let m = map_some (at_zero bytes) (λ (parts : List ℕ × List ℕ). (suc b ∷ parts.0, parts.1)) (text, rest)
+        (some_of (at_zero (suc b ∷ bytes)) (length (suc b ∷ bytes)) (text, rest) e) in
     let same : suc b ∷ m.0.0 ≡ text = ap (λ (p : List ℕ × List ℕ). p.0) m.2 in
     rw (← same) (omega arith)
 
 -- a string that is not empty does not begin with a zero byte
-pub string_begins : (text rest : List ℕ) → 0 < length text → IsText text → (b : ℕ) × (behind : List ℕ) × (string text ++ rest ≡ b ∷ behind) × (0 < b)
+pub string_begins : (text rest : List ℕ) → 0 < length text → IsText text → (b : ℕ) × (behind : List ℕ) × (string text ++ rest ≡ b ∷ behind)
+    × (0 < b)
 string_begins [] rest some fits = absurd (omega arith)
 string_begins (b ∷ text) rest some fits = (b, string text ++ rest, refl, (fits 0 0 (omega arith)).0)

@@ -15,7 +15,8 @@ use Rattle.repl_message.proofs.Spellings.{IsPrefixFree, int16_one, int32_one, st
 use Rattle.repl_message.proofs.EntrySpellings.{pair_one, pair_marked, field_one, column_one, IsShort, all_short, error_field_one, error_field_marked}
 
 -- two whole bodies
-whole_one : {A : Type 0} {Fits : A → Type 0} {spell : A → List ℕ} (free : IsPrefixFree Fits spell) (x y : A) → Fits x → Fits y → spell x ≡ spell y → x ≡ y
+whole_one : {A : Type 0} {Fits : A → Type 0} {spell : A → List ℕ} (free : IsPrefixFree Fits spell) (x y : A) → Fits x → Fits y → spell x
+    ≡ spell y → x ≡ y
 whole_one {A} {Fits} {spell} free x y x_fits y_fits e = (free.one x y [] [] x_fits y_fits (ap (λ (t : List ℕ). t ++ []) e)).0
 
 -- ---- the client's messages
@@ -28,10 +29,12 @@ front_limits (front.CopyFail text) = omega arith
 front_limits front.Terminate = omega arith
 
 front_bodies : (a b : Front) → FitsFront a → FitsFront b → front_kind a ≡ front_kind b → front_body a ≡ front_body b → a ≡ b
-front_bodies (front.Query text) (front.Query other) a_fits b_fits kind body = ap front.Query (whole_one string_one text other a_fits b_fits body)
+front_bodies (front.Query text) (front.Query other) a_fits b_fits kind body =
+    ap front.Query (whole_one string_one text other a_fits b_fits body)
 front_bodies (front.CopyData bytes) (front.CopyData other) a_fits b_fits kind body = ap front.CopyData body
 front_bodies front.CopyDone front.CopyDone a_fits b_fits kind body = refl
-front_bodies (front.CopyFail text) (front.CopyFail other) a_fits b_fits kind body = ap front.CopyFail (whole_one string_one text other a_fits b_fits body)
+front_bodies (front.CopyFail text) (front.CopyFail other) a_fits b_fits kind body =
+    ap front.CopyFail (whole_one string_one text other a_fits b_fits body)
 front_bodies front.Terminate front.Terminate a_fits b_fits kind body = refl
 front_bodies _ _ a_fits b_fits kind body = absurd (omega (arith, kind))
 
@@ -39,7 +42,8 @@ pub fronts_one : (a b : Front) (x y : List ℕ) → IsFront a → IsFront b → 
 fronts_one a b x y a_is b_is e =
     let kind : front_kind a ≡ front_kind b = cc in
     let frame : framed (front_body a) ++ x ≡ framed (front_body b) ++ y = cc in
-    let t = framed_one.one (front_body a) (front_body b) x y (omega (arith, a_is.within, front_limits a)) (omega (arith, b_is.within, front_limits b)) frame in
+    let t = framed_one.one (front_body a) (front_body b) x y (omega (arith, a_is.within, front_limits a))
+        (omega (arith, b_is.within, front_limits b)) frame in
     (front_bodies a b a_is.fits b_is.fits kind t.0, t.1)
 
 -- ---- startup packets
@@ -64,7 +68,8 @@ startup_codes startup.Gss = omega arith
 startup_codes (startup.Cancel pid key) = omega arith
 
 startups_behind : (a b : Startup) → FitsStartup a → FitsStartup b → startup_code a ≡ startup_code b → behind_code a ≡ behind_code b → a ≡ b
-startups_behind (startup.Params pairs) (startup.Params others) a_fits b_fits code behind = ap startup.Params (whole_one (ended_one FitsPair pair pair_one pair_marked) pairs others a_fits b_fits behind)
+startups_behind (startup.Params pairs) (startup.Params others) a_fits b_fits code behind =
+    ap startup.Params (whole_one (ended_one FitsPair pair pair_one pair_marked) pairs others a_fits b_fits behind)
 startups_behind startup.Ssl startup.Ssl a_fits b_fits code behind = refl
 startups_behind startup.Gss startup.Gss a_fits b_fits code behind = refl
 startups_behind (startup.Cancel pid key) (startup.Cancel other secret) a_fits b_fits code behind =
@@ -76,10 +81,12 @@ startups_behind _ _ a_fits b_fits code behind = absurd (omega (arith, code))
 
 startup_bodies : (a b : Startup) → FitsStartup a → FitsStartup b → startup_body a ≡ startup_body b → a ≡ b
 startup_bodies a b a_fits b_fits e =
-    let t = int32_one.one (startup_code a) (startup_code b) (behind_code a) (behind_code b) (startup_codes a) (startup_codes b) (sym (startup_parts a) ∙ e ∙ startup_parts b) in
+    let t = int32_one.one (startup_code a) (startup_code b) (behind_code a) (behind_code b) (startup_codes a) (startup_codes b)
+        (sym (startup_parts a) ∙ e ∙ startup_parts b) in
     startups_behind a b a_fits b_fits t.0 t.1
 
-pub startups_one : (a b : Startup) (x y : List ℕ) → IsStartup a → IsStartup b → startup_spelling a ++ x ≡ startup_spelling b ++ y → (a ≡ b) × (x ≡ y)
+pub startups_one : (a b : Startup) (x y : List ℕ) → IsStartup a → IsStartup b → startup_spelling a ++ x ≡ startup_spelling b ++ y → (a ≡ b)
+    × (x ≡ y)
 startups_one a b x y a_is b_is e =
     let t = framed_one.one (startup_body a) (startup_body b) x y (omega (arith, a_is.within)) (omega (arith, b_is.within)) e in
     (startup_bodies a b a_is.fits b_is.fits t.0, t.1)
@@ -96,8 +103,10 @@ statuses_one Open Open e = refl
 statuses_one Failed Failed e = refl
 statuses_one _ _ e = absurd (omega (arith, e))
 
-columns_short : (m : Back) (cs : List (Option (List ℕ))) → length (back_body m) + 4 ≤ back_limit m → back_body m ≡ counted column cs → AllByRecursion IsShort cs
-columns_short m cs within body = all_short cs (omega (arith, within, back_limits m, ap length body, length-append (int16 (length cs)) (flat_map column cs)))
+columns_short : (m : Back) (cs : List (Option (List ℕ))) → length (back_body m) + 4 ≤ back_limit m → back_body m ≡ counted column cs
+    → AllByRecursion IsShort cs
+columns_short m cs within body = all_short cs (omega (arith, within, back_limits m, ap length body,
+    length-append (int16 (length cs)) (flat_map column cs)))
 
 error_fields_one : IsPrefixFree (AllByRecursion FitsErrorField) (ended error_field)
 error_fields_one = ended_one FitsErrorField error_field error_field_one error_field_marked
@@ -114,21 +123,27 @@ back_bodies (back.BackendKeyData pid key) (back.BackendKeyData other secret) a_i
     let u = whole_one int32_one key secret a_is.fits.1 b_is.fits.1 t.1 in
     let p = t.0 in
     cc
-back_bodies (back.ReadyForQuery status) (back.ReadyForQuery other) a_is b_is kind body = ap back.ReadyForQuery (statuses_one status other (cc))
-back_bodies (back.RowDescription fields) (back.RowDescription others) a_is b_is kind body = ap back.RowDescription (whole_one (counted_one FitsField field field_one) fields others a_is.fits b_is.fits body)
+back_bodies (back.ReadyForQuery status) (back.ReadyForQuery other) a_is b_is kind body =
+    ap back.ReadyForQuery (statuses_one status other (cc))
+back_bodies (back.RowDescription fields) (back.RowDescription others) a_is b_is kind body =
+    ap back.RowDescription (whole_one (counted_one FitsField field field_one) fields others a_is.fits b_is.fits body)
 back_bodies (back.DataRow columns) (back.DataRow others) a_is b_is kind body =
     let a_short = columns_short (back.DataRow columns) columns a_is.within refl in
     let b_short = columns_short (back.DataRow others) others b_is.within refl in
     ap back.DataRow (whole_one (counted_one IsShort column column_one) columns others (a_is.fits.0, a_short) (b_is.fits.0, b_short) body)
-back_bodies (back.CommandComplete tag) (back.CommandComplete other) a_is b_is kind body = ap back.CommandComplete (whole_one string_one tag other a_is.fits b_is.fits body)
-back_bodies (back.ErrorResponse fields) (back.ErrorResponse others) a_is b_is kind body = ap back.ErrorResponse (whole_one error_fields_one fields others a_is.fits b_is.fits body)
-back_bodies (back.NoticeResponse fields) (back.NoticeResponse others) a_is b_is kind body = ap back.NoticeResponse (whole_one error_fields_one fields others a_is.fits b_is.fits body)
+back_bodies (back.CommandComplete tag) (back.CommandComplete other) a_is b_is kind body =
+    ap back.CommandComplete (whole_one string_one tag other a_is.fits b_is.fits body)
+back_bodies (back.ErrorResponse fields) (back.ErrorResponse others) a_is b_is kind body =
+    ap back.ErrorResponse (whole_one error_fields_one fields others a_is.fits b_is.fits body)
+back_bodies (back.NoticeResponse fields) (back.NoticeResponse others) a_is b_is kind body =
+    ap back.NoticeResponse (whole_one error_fields_one fields others a_is.fits b_is.fits body)
 back_bodies (back.CopyData bytes) (back.CopyData other) a_is b_is kind body = ap back.CopyData body
 back_bodies back.CopyDone back.CopyDone a_is b_is kind body = refl
 back_bodies (back.CopyBoth format formats) (back.CopyBoth other others) a_is b_is kind body =
     let first : format ≡ other = cc in
     let behind : counted int16 formats ≡ counted int16 others = cc in
-    let t = whole_one (counted_one (λ f. f < 2 ^ 16) int16 int16_one) formats others (a_is.fits.1, a_is.fits.2) (b_is.fits.1, b_is.fits.2) behind in
+    let t = whole_one (counted_one (λ f. f < 2 ^ 16) int16 int16_one) formats others (a_is.fits.1, a_is.fits.2) (b_is.fits.1, b_is.fits.2)
+        behind in
     cc
 back_bodies _ _ a_is b_is kind body = absurd (omega (arith, kind))
 
@@ -136,12 +151,14 @@ pub backs_one : (a b : Back) (x y : List ℕ) → IsBack a → IsBack b → back
 backs_one a b x y a_is b_is e =
     let kind : back_kind a ≡ back_kind b = cc in
     let frame : framed (back_body a) ++ x ≡ framed (back_body b) ++ y = cc in
-    let t = framed_one.one (back_body a) (back_body b) x y (omega (arith, a_is.within, back_limits a)) (omega (arith, b_is.within, back_limits b)) frame in
+    let t = framed_one.one (back_body a) (back_body b) x y (omega (arith, a_is.within, back_limits a))
+        (omega (arith, b_is.within, back_limits b)) frame in
     (back_bodies a b a_is b_is kind t.0, t.1)
 
 -- ---- streams
 
-streams_one : (a b : List Back) → AllByRecursion IsBack a → AllByRecursion IsBack b → flat_map back_spelling a ≡ flat_map back_spelling b → a ≡ b
+streams_one : (a b : List Back) → AllByRecursion IsBack a → AllByRecursion IsBack b → flat_map back_spelling a ≡ flat_map back_spelling b
+    → a ≡ b
 streams_one [] [] a_are b_are e = refl
 streams_one [] (m ∷ ms) a_are b_are e = absurd cc
 streams_one (m ∷ ms) [] a_are b_are e = absurd cc

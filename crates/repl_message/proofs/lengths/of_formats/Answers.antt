@@ -1,3 +1,4 @@
+-- Each format code has two bytes.
 use Rattle.std.proofs.Common.{arith}
 use Rattle.repl_message.proofs.Counting.{length-formats}
 use Rattle.repl_message.proofs.lengths.of_formats.Goals as goal

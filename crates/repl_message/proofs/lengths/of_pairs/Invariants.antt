@@ -1,3 +1,4 @@
+-- The parameters so far are counted.
 use Rattle.std.proofs.Common.{◌≡◌, ◌+◌, length, take}
 use Rattle.std.specs.List.{flat_map}
 use Rattle.repl_message.specs.Message.{pair}
