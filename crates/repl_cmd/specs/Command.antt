@@ -180,7 +180,8 @@ set_words = Keyword (codes "set") ∷ Keyword (codes "synchronous_commit") ∷ [
 
 -- `ALTER SYSTEM SET synchronous_standby_names =`
 abbrev pub alter_words : List Part
-alter_words = Keyword (codes "alter") ∷ Keyword (codes "system") ∷ Keyword (codes "set") ∷ Keyword (codes "synchronous_standby_names") ∷ Sign kind.Equals ∷ []
+alter_words = Keyword (codes "alter") ∷ Keyword (codes "system") ∷ Keyword (codes "set") ∷ Keyword (codes "synchronous_standby_names") ∷
+    Sign kind.Equals ∷ []
 
 -- the forms of a command
 abbrev pub forms : Command → List (List Part)

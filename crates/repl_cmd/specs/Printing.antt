@@ -29,10 +29,12 @@ abbrev pub spelling : Command → List ℕ
 spelling command.IdentifySystem = codes "IDENTIFY_SYSTEM"
 spelling (command.Show name) = codes "SHOW " ++ quoted 34 name
 spelling (command.TimelineHistory n) = codes "TIMELINE_HISTORY " ++ decimal n
-spelling (command.CreateSlot name temporary reserve) = codes "CREATE_REPLICATION_SLOT " ++ quoted 34 name ++ word_if temporary (codes " TEMPORARY") ++ codes " PHYSICAL" ++ word_if reserve (codes " RESERVE_WAL")
+spelling (command.CreateSlot name temporary reserve) = codes "CREATE_REPLICATION_SLOT " ++ quoted 34 name
+    ++ word_if temporary (codes " TEMPORARY") ++ codes " PHYSICAL" ++ word_if reserve (codes " RESERVE_WAL")
 spelling (command.DropSlot name wait) = codes "DROP_REPLICATION_SLOT " ++ quoted 34 name ++ word_if wait (codes " WAIT")
 spelling (command.ReadSlot name) = codes "READ_REPLICATION_SLOT " ++ quoted 34 name
-spelling (command.StartReplication slot at timeline) = codes "START_REPLICATION " ++ slot_words slot ++ codes "PHYSICAL " ++ position_text at ++ timeline_words timeline
+spelling (command.StartReplication slot at timeline) = codes "START_REPLICATION " ++ slot_words slot ++ codes "PHYSICAL "
+    ++ position_text at ++ timeline_words timeline
 spelling (command.Append xid body) = codes "APPEND " ++ decimal xid ++ codes " " ++ quoted 39 (encode_lower body)
 spelling (command.SetCommit v) = codes "SET synchronous_commit = " ++ setting_word v
 spelling (command.SetNames list) = codes "ALTER SYSTEM SET synchronous_standby_names = " ++ quoted 39 (names.spelling list)

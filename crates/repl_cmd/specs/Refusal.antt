@@ -15,7 +15,8 @@ use Rattle.repl_cmd.specs.Command.{Keyword, Position, OneOf, IsSaid, IsKeyword, 
 
 -- `PHYSICAL`, in whose place `LOGICAL` may stand for PostgreSQL
 abbrev pub WantsPhysical : List Lexeme → Type 0
-WantsPhysical before = (name : List ℕ) × (temporary : Bool) × (slot : Option (List ℕ)) × OneOf (create_words name temporary ∷ start_words slot ∷ []) before
+WantsPhysical before = (name : List ℕ) × (temporary : Bool) × (slot : Option (List ℕ))
+    × OneOf (create_words name temporary ∷ start_words slot ∷ []) before
 
 -- a slot's name
 abbrev pub WantsSlot : List Lexeme → Type 0
@@ -57,9 +58,11 @@ abbrev pub IsSpecial : List Lexeme → Lexeme → CmdFault → Type 0
 IsSpecial before t (fault.Syntax place) = ⊥
 IsSpecial before t (fault.Unsupported what) = IsLeftOut before t what
 IsSpecial before t (fault.BadSlotName place) = (place ≡ t.place) × WantsSlot before × IsNaming t
-IsSpecial before t (fault.BadLsn place) = (place ≡ t.place) × WantsPosition before × IsJudged t × ¬ (WantsPhysical before × IsKeyword (codes "logical") t)
+IsSpecial before t (fault.BadLsn place) = (place ≡ t.place) × WantsPosition before × IsJudged t
+    × ¬ (WantsPhysical before × IsKeyword (codes "logical") t)
 IsSpecial before t (fault.BadNumber place) = (place ≡ t.place) × WantsNumber before × IsJudged t
-IsSpecial before t (fault.BadNames found) = WantsNames before × (t.kind ≡ kind.Text) × names.IsListFault t.text found × (found ≢ names_fault.Memory)
+IsSpecial before t (fault.BadNames found) = WantsNames before × (t.kind ≡ kind.Text) × names.IsListFault t.text found
+    × (found ≢ names_fault.Memory)
 IsSpecial before t fault.Memory = ⊥
 
 -- behind these tokens, this one has this fault, which is of the syntax where it has no other

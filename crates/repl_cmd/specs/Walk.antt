@@ -57,11 +57,14 @@ Moves (state.CreateNamed name) t s =
     (IsKeyword (codes "temporary") t × (s ≡ state.CreateTemporary name)) ⊎ (IsKeyword (codes "physical") t × (s ≡ state.Created name false))
 Moves (state.CreateTemporary name) t s = IsKeyword (codes "physical") t × (s ≡ state.Created name true)
 Moves (state.Created name temporary) t s =
-    (IsKeyword (codes "reserve_wal") t × (s ≡ state.Done (command.CreateSlot name temporary true))) ⊎ ((t.kind ≡ kind.Opening) × (s ≡ state.CreateOpened name temporary))
+    (IsKeyword (codes "reserve_wal") t × (s ≡ state.Done (command.CreateSlot name temporary true)))
+    ⊎ ((t.kind ≡ kind.Opening) × (s ≡ state.CreateOpened name temporary))
 Moves (state.CreateOpened name temporary) t s = IsKeyword (codes "reserve_wal") t × (s ≡ state.CreateOption name temporary)
 Moves (state.CreateOption name temporary) t s =
-    ((t.kind ≡ kind.Closing) × (s ≡ state.Done (command.CreateSlot name temporary true))) ⊎ ((reserve : Bool) × IsFlag reserve t × (s ≡ state.CreateValued name temporary reserve))
-Moves (state.CreateValued name temporary reserve) t s = (t.kind ≡ kind.Closing) × (s ≡ state.Done (command.CreateSlot name temporary reserve))
+    ((t.kind ≡ kind.Closing) × (s ≡ state.Done (command.CreateSlot name temporary true)))
+    ⊎ ((reserve : Bool) × IsFlag reserve t × (s ≡ state.CreateValued name temporary reserve))
+Moves (state.CreateValued name temporary reserve) t s = (t.kind ≡ kind.Closing)
+    × (s ≡ state.Done (command.CreateSlot name temporary reserve))
 Moves state.DropSlot t s = (name : List ℕ) × IsSlot name t × (s ≡ state.Dropped name)
 Moves (state.Dropped name) t s = IsKeyword (codes "wait") t × (s ≡ state.Done (command.DropSlot name true))
 Moves state.ReadSlot t s = (name : List ℕ) × IsSlot name t × (s ≡ state.Done (command.ReadSlot name))
@@ -70,7 +73,8 @@ Moves state.Stream t s =
     ⊎ ((at : ℕ) × IsPosition at t × (s ≡ state.Streamed None at))
 Moves state.StreamSlot t s = (name : List ℕ) × IsSlot name t × (s ≡ state.StreamNamed name)
 Moves (state.StreamNamed name) t s =
-    (IsKeyword (codes "physical") t × (s ≡ state.StreamPhysical (Some name))) ⊎ ((at : ℕ) × IsPosition at t × (s ≡ state.Streamed (Some name) at))
+    (IsKeyword (codes "physical") t × (s ≡ state.StreamPhysical (Some name)))
+    ⊎ ((at : ℕ) × IsPosition at t × (s ≡ state.Streamed (Some name) at))
 Moves (state.StreamPhysical slot) t s = (at : ℕ) × IsPosition at t × (s ≡ state.Streamed slot at)
 Moves (state.Streamed slot at) t s = IsKeyword (codes "timeline") t × (s ≡ state.StreamTimeline slot at)
 Moves (state.StreamTimeline slot at) t s = (n : ℕ) × IsNumber 1 n t × (s ≡ state.Done (command.StartReplication slot at (Some n)))
@@ -157,9 +161,11 @@ abbrev pub IsOwnFault : State → Lexeme → CmdFault → Type 0
 IsOwnFault from t (fault.Syntax place) = ⊥
 IsOwnFault from t (fault.Unsupported what) = LeavesOut from t what
 IsOwnFault from t (fault.BadSlotName place) = (place ≡ t.place) × (wants_slot from ≡ true) × IsNaming t
-IsOwnFault from t (fault.BadLsn place) = (place ≡ t.place) × (wants_position from ≡ true) × IsJudged t × ¬ ((wants_physical from ≡ true) × IsKeyword (codes "logical") t)
+IsOwnFault from t (fault.BadLsn place) = (place ≡ t.place) × (wants_position from ≡ true) × IsJudged t
+    × ¬ ((wants_physical from ≡ true) × IsKeyword (codes "logical") t)
 IsOwnFault from t (fault.BadNumber place) = (place ≡ t.place) × (wants_number from ≡ true) × IsJudged t
-IsOwnFault from t (fault.BadNames found) = (wants_names from ≡ true) × (t.kind ≡ kind.Text) × names.IsListFault t.text found × (found ≢ names_fault.Memory)
+IsOwnFault from t (fault.BadNames found) = (wants_names from ≡ true) × (t.kind ≡ kind.Text) × names.IsListFault t.text found
+    × (found ≢ names_fault.Memory)
 IsOwnFault from t fault.Memory = ⊥
 
 -- the token has this fault, which is of the syntax where it has no other

@@ -30,12 +30,14 @@ pub record IsNoPosition (t : Lexeme) (f : CmdFault) : Type 0 where
 -- no position: where `LOGICAL` stands, that is left out
 pub record IsLogicalOrNone (t : Lexeme) (f : CmdFault) : Type 0 where
   pub none : (at : ℕ) → ¬ IsPosition at t
-  pub fault : (IsKeyword (codes "logical") t × (f ≡ fault.Unsupported unsupported.Logical)) ⊎ ((¬ IsKeyword (codes "logical") t) × IsNoPosition t f)
+  pub fault : (IsKeyword (codes "logical") t × (f ≡ fault.Unsupported unsupported.Logical))
+      ⊎ ((¬ IsKeyword (codes "logical") t) × IsNoPosition t f)
 
 -- no `PHYSICAL`: where `LOGICAL` stands, that is left out
 pub record IsNotPhysical (t : Lexeme) (f : CmdFault) : Type 0 where
   pub none : ¬ IsKeyword (codes "physical") t
-  pub fault : (IsKeyword (codes "logical") t × (f ≡ fault.Unsupported unsupported.Logical)) ⊎ ((¬ IsKeyword (codes "logical") t) × (f ≡ fault.Syntax t.place))
+  pub fault : (IsKeyword (codes "logical") t × (f ≡ fault.Unsupported unsupported.Logical))
+      ⊎ ((¬ IsKeyword (codes "logical") t) × (f ≡ fault.Syntax t.place))
 
 -- the fault of this first word that begins no command
 abbrev pub IsLeftOut : Lexeme → CmdFault → Type 0
@@ -43,7 +45,8 @@ IsLeftOut t f =
     (IsKeyword (codes "base_backup") t × (f ≡ fault.Unsupported unsupported.BaseBackup))
     ⊎ (IsKeyword (codes "upload_manifest") t × (f ≡ fault.Unsupported unsupported.UploadManifest))
     ⊎ (IsKeyword (codes "alter_replication_slot") t × (f ≡ fault.Unsupported unsupported.AlterSlot))
-    ⊎ ((f ≡ fault.Syntax t.place) × (¬ IsKeyword (codes "base_backup") t) × (¬ IsKeyword (codes "upload_manifest") t) × (¬ IsKeyword (codes "alter_replication_slot") t))
+    ⊎ ((f ≡ fault.Syntax t.place) × (¬ IsKeyword (codes "base_backup") t) × (¬ IsKeyword (codes "upload_manifest") t)
+    × (¬ IsKeyword (codes "alter_replication_slot") t))
 
 -- a semicolon is the last token
 abbrev pub is_ended : State → Bool

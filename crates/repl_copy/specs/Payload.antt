@@ -31,8 +31,10 @@ stream_spelling (stream.Keepalive end clock asks) = 107 ∷ int64 end ++ int64 c
 
 -- what a standby sends: its positions, `r`, or feedback, `h`
 abbrev pub reply_spelling : Reply → List ℕ
-reply_spelling (reply.Status written flushed applied clock asks) = 114 ∷ int64 written ++ int64 flushed ++ int64 applied ++ int64 clock ++ flag asks
-reply_spelling (reply.Feedback clock xmin epoch catalog_xmin catalog_epoch) = 104 ∷ int64 clock ++ int32 xmin ++ int32 epoch ++ int32 catalog_xmin ++ int32 catalog_epoch
+reply_spelling (reply.Status written flushed applied clock asks) = 114 ∷ int64 written ++ int64 flushed ++ int64 applied ++ int64 clock
+    ++ flag asks
+reply_spelling (reply.Feedback clock xmin epoch catalog_xmin catalog_epoch) = 104 ∷ int64 clock ++ int32 xmin ++ int32 epoch
+    ++ int32 catalog_xmin ++ int32 catalog_epoch
 
 -- ---- values
 
@@ -43,7 +45,8 @@ IsStream (stream.Keepalive end clock asks) = (end < 2 ^ 64) × (clock < 2 ^ 64)
 
 abbrev pub IsReply : Reply → Type 0
 IsReply (reply.Status written flushed applied clock asks) = (written < 2 ^ 64) × (flushed < 2 ^ 64) × (applied < 2 ^ 64) × (clock < 2 ^ 64)
-IsReply (reply.Feedback clock xmin epoch catalog_xmin catalog_epoch) = (clock < 2 ^ 64) × (xmin < 2 ^ 32) × (epoch < 2 ^ 32) × (catalog_xmin < 2 ^ 32) × (catalog_epoch < 2 ^ 32)
+IsReply (reply.Feedback clock xmin epoch catalog_xmin catalog_epoch) = (clock < 2 ^ 64) × (xmin < 2 ^ 32) × (epoch < 2 ^ 32)
+    × (catalog_xmin < 2 ^ 32) × (catalog_epoch < 2 ^ 32)
 
 -- a server of this project sends no more of its log in one message
 abbrev pub IsSent : Stream → Type 0
@@ -64,12 +67,14 @@ IsFlagged said payload = ((front : List ℕ) × (payload ≡ front ++ said ∷ [
 abbrev pub IsStreamFault : List ℕ → CopyFault → Type 0
 IsStreamFault payload fault.Empty = payload ≡ []
 IsStreamFault payload (fault.Kind kind) = IsOfKind kind payload × (kind ≢ 119) × (kind ≢ 107)
-IsStreamFault payload (fault.Length have) = (have ≡ length payload) × ((IsOfKind 119 payload × (have < 25)) ⊎ (IsOfKind 107 payload × (have ≢ 18)))
+IsStreamFault payload (fault.Length have) = (have ≡ length payload)
+    × ((IsOfKind 119 payload × (have < 25)) ⊎ (IsOfKind 107 payload × (have ≢ 18)))
 IsStreamFault payload (fault.Flag said) = IsOfKind 107 payload × (length payload ≡ 18) × IsFlagged said payload
 
 -- what is wrong with a standby's payload
 abbrev pub IsReplyFault : List ℕ → CopyFault → Type 0
 IsReplyFault payload fault.Empty = payload ≡ []
 IsReplyFault payload (fault.Kind kind) = IsOfKind kind payload × (kind ≢ 114) × (kind ≢ 104)
-IsReplyFault payload (fault.Length have) = (have ≡ length payload) × ((IsOfKind 114 payload × (have ≢ 34)) ⊎ (IsOfKind 104 payload × (have ≢ 25)))
+IsReplyFault payload (fault.Length have) = (have ≡ length payload)
+    × ((IsOfKind 114 payload × (have ≢ 34)) ⊎ (IsOfKind 104 payload × (have ≢ 25)))
 IsReplyFault payload (fault.Flag said) = IsOfKind 114 payload × (length payload ≡ 34) × IsFlagged said payload

@@ -44,7 +44,8 @@ pair p = string p.name ++ string p.value
 
 -- a column of RowDescription
 abbrev pub field : Field → List ℕ
-field f = string f.name ++ (int32 f.table ++ signed16 f.attribute ++ int32 f.type_oid ++ signed16 f.size ++ signed32 f.modifier ++ int16 f.format)
+field f = string f.name ++ (int32 f.table ++ signed16 f.attribute ++ int32 f.type_oid ++ signed16 f.size ++ signed32 f.modifier
+    ++ int16 f.format)
 
 -- a value of DataRow: its length and its bytes, or -1 for a null
 abbrev pub column : Option (List ℕ) → List ℕ

@@ -21,7 +21,8 @@ IsName k = (k ≡ kind.Word) ⊎ (k ≡ kind.Number) ⊎ (k ≡ kind.Quoted) ⊎
 abbrev pub AreNames : List Token → List (List ℕ) → Type 0
 AreNames [] names = ⊥
 AreNames (token ∷ []) names = IsName token.kind × (names ≡ token.text ∷ [])
-AreNames (token ∷ comma ∷ tokens) names = IsName token.kind × (comma.kind ≡ kind.Comma) × ((others : List (List ℕ)) × (names ≡ token.text ∷ others) × AreNames tokens others)
+AreNames (token ∷ comma ∷ tokens) names = IsName token.kind × (comma.kind ≡ kind.Comma)
+    × ((others : List (List ℕ)) × (names ≡ token.text ∷ others) × AreNames tokens others)
 
 -- a number, and names in parentheses
 pub record AreCounted (tokens : List Token) (number : Token) (names : List (List ℕ)) : Type 0 where

@@ -79,7 +79,8 @@ eligible method.First cs m end = cs
 
 abbrev pub CountedFor : List (List ℕ) → Listing → List Candidate → Mode → ℕ → List Candidate → Type 0
 CountedFor [] list cs m end counted = counted ≡ []
-CountedFor names list cs m end counted = (order : List Candidate) × IsPermutation (eligible list.method cs m end) order × InOrder order × (counted ≡ take list.number order)
+CountedFor names list cs m end counted = (order : List Candidate) × IsPermutation (eligible list.method cs m end) order × InOrder order
+    × (counted ≡ take list.number order)
 
 -- those by which the list is met: for FIRST the ones of best priority, for ANY the first, in order of priority
 -- and connection, that have the position; so many as the list demands

@@ -59,4 +59,5 @@ Matches name entry = (entry ≡ codes "*") ⊎ (map to_ascii_lowercase entry ≡
 abbrev pub IsPriority : List (List ℕ) → List ℕ → ℕ → Type 0
 IsPriority entries name priority =
     (priority ≡ 0) × All (λ entry. ¬ Matches name entry) entries
-    ⊎ (before : List (List ℕ)) × (entry : List ℕ) × (after : List (List ℕ)) × (entries ≡ before ++ entry ∷ after) × (priority ≡ length before + 1) × All (λ other. ¬ Matches name other) before × Matches name entry
+    ⊎ (before : List (List ℕ)) × (entry : List ℕ) × (after : List (List ℕ)) × (entries ≡ before ++ entry ∷ after)
+    × (priority ≡ length before + 1) × All (λ other. ¬ Matches name other) before × Matches name entry

@@ -42,7 +42,8 @@ word_kind word =
     else kind.Word
 
 abbrev pub sign_kind : ℕ → Kind
-sign_kind c = if c == 42 then kind.Star else if c == 44 then kind.Comma else if c == 40 then kind.Opening else if c == 41 then kind.Closing else kind.Wrong
+sign_kind c = if c == 42 then kind.Star else if c == 44 then kind.Comma else if c == 40 then kind.Opening else if c == 41 then kind.Closing
+    else kind.Wrong
 
 abbrev pub kind_of : lexer.Kind → List ℕ → Kind
 kind_of raw.Word text = word_kind text
@@ -59,7 +60,8 @@ holds_text text = list_all (λ b. nat_lt 0 b && nat_lt b 256) text
 -- a token of this kind with this text: `*` is the name that it says, and one that holds a zero byte is wrong
 abbrev pub said : Kind → ℕ → List ℕ → Token
 said kind.Star place text = record { kind = kind.Star; place = place; text = codes "*" }
-said k place text = if holds_text text then record { kind = k; place = place; text = text } else record { kind = kind.Wrong; place = place; text = [] }
+said k place text = if holds_text text then record { kind = k; place = place; text = text }
+    else record { kind = kind.Wrong; place = place; text = [] }
 
 -- the token of a list that the lexer's token is
 abbrev pub list_token : RawToken → Token

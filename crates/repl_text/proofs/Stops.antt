@@ -35,9 +35,11 @@ stops_from L d list place within goes_on none = record {
 pub begins_take : {A : Type 0} (L : List A → Type 0) (list : List A) (i j : ℕ) → i ≤ j → Begins L (take j list) → Begins L (take i list)
 begins_take L list i j le b =
     let parts : take i list ++ drop i (take j list) ≡ take j list =
-        ap (λ front. front ++ drop i (take j list)) (sym (take-take i j list le)) ∙ take-append-drop i (take j list) in
-    (drop i (take j list) ++ b.0, subst L (sym (sym (append_assoc (take i list) (drop i (take j list)) b.0)
-        ∙ ap (λ front. front ++ b.0) parts)) b.1)
+    ap (λ front. front ++ drop i (take j list)) (sym (take-take i j list le)) ∙ take-append-drop i (take j list) in (
+      drop i (take j list) ++ b.0,
+      subst L (sym (sym (append_assoc (take i list) (drop i (take j list)) b.0)
+          ∙ ap (λ front. front ++ b.0) parts)) b.1,
+    )
 
 -- a list of the language stops nowhere
 pub stops_not : {A : Type 0} (L : List A → Type 0) (list : List A) (place : ℕ) → L list → StopsAt L list place → ⊥

@@ -56,7 +56,8 @@ IsToken class_of kind.Number text bytes behind = (text ≡ bytes) × IsRun class
 IsToken class_of (kind.Alone sign) text bytes behind = (text ≡ []) × (bytes ≡ sign ∷ []) × (class_of sign ≡ class.Alone)
 IsToken class_of (kind.Quoted quote) text bytes behind = (class_of quote ≡ class.Quote) × IsQuoted quote text bytes behind
 IsToken class_of kind.Wrong text bytes behind = (text ≡ []) × (behind ≡ []) × IsWrong class_of bytes
-IsToken class_of (kind.Unclosed quote) text bytes behind = (text ≡ []) × (behind ≡ []) × (class_of quote ≡ class.Quote) × IsUnclosed quote bytes
+IsToken class_of (kind.Unclosed quote) text bytes behind = (text ≡ []) × (behind ≡ []) × (class_of quote ≡ class.Quote)
+    × IsUnclosed quote bytes
 
 -- after blanks this token stands in these bytes, which begin at this place, and those are behind it
 pub record IsNext (class_of : ℕ → Class) (at : ℕ) (bytes : List ℕ) (token : RawToken) (behind : List ℕ) : Type 0 where

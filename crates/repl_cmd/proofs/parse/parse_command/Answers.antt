@@ -12,7 +12,9 @@ loop-state-preserved c =
     let within = rw c.in-Some.is at c.in_ok-token.ensures.within in
     let read = rw c.in-Some.is at c.in_ok-token.ensures.read in record {
       within = within.1;
-      walked = walked_more c.args.text.now c.loop-state.at c.loop-state.state c.in-Some.token c.in-Some.end c.in_ok-state.state c.loop-state.invariant.walked read within.1 (subst (λ (t : Lexeme). Steps c.loop-state.state t c.in_ok-state.state) c.command_token.ensures c.in_ok-state.ensures.ok);
+      walked = walked_more c.args.text.now c.loop-state.at c.loop-state.state c.in-Some.token c.in-Some.end c.in_ok-state.state
+          c.loop-state.invariant.walked read within.1
+          (subst (λ (t : Lexeme). Steps c.loop-state.state t c.in_ok-state.state) c.command_token.ensures c.in_ok-state.ensures.ok);
     }
 
 -- the fault of the token that stops the walk
@@ -22,7 +24,8 @@ fault_here c =
     let read = rw c.in-Some.is at c.in_ok-token.ensures.read in
     elim c.in_err-state.ensures.err [
       | inl memory ↦ inl memory
-      | inr stop ↦ inr (walked_stops c.args.text.now c.loop-state.at c.loop-state.state c.in-Some.token c.in-Some.end c.in_err-state.field-0.0 c.loop-state.invariant.walked read within.1
+      | inr stop ↦ inr (walked_stops c.args.text.now c.loop-state.at c.loop-state.state c.in-Some.token c.in-Some.end
+          c.in_err-state.field-0.0 c.loop-state.invariant.walked read within.1
           (subst (λ (t : Lexeme). IsStop c.loop-state.state t c.in_err-state.field-0.0) c.command_token.ensures stop))
     ]
 

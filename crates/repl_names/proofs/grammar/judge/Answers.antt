@@ -5,11 +5,13 @@ use Rattle.repl_names.proofs.grammar.judge.Goals as goal
 
 pub returns-in_default-clause-refused : goal.returns-in_default-clause-refused
 returns-in_default-clause-refused c =
-    stops_at c.args.tokens.now c.loop-index.index c.index-tokens-index.result c.loop-index.state c.loop-index.invariant c.loop-index-test.true (sym c.index-tokens-index.is) (sym c.next.ensures ∙ c.in_default.is)
+    stops_at c.args.tokens.now c.loop-index.index c.index-tokens-index.result c.loop-index.state c.loop-index.invariant
+    c.loop-index-test.true (sym c.index-tokens-index.is) (sym c.next.ensures ∙ c.in_default.is)
 
 pub loop-index-preserved : goal.loop-index-preserved
 loop-index-preserved c =
-    goes_more c.args.tokens.now c.loop-index.index c.index-tokens-index.result c.loop-index.state c.loop-index.invariant c.loop-index-test.true (sym c.index-tokens-index.is) ∙ sym c.next.ensures ∙ c.in-Some.is
+    goes_more c.args.tokens.now c.loop-index.index c.index-tokens-index.result c.loop-index.state c.loop-index.invariant
+    c.loop-index-test.true (sym c.index-tokens-index.is) ∙ sym c.next.ensures ∙ c.in-Some.is
 
 pub returns-then-may_end-clause-said : goal.returns-then-may_end-clause-said
 returns-then-may_end-clause-said c =

@@ -14,7 +14,15 @@ loop-name-preserved c =
     let more = sum_by_more (λ n. length (name_spelling n) + 2) names i name c.loop-name-test.true in
     let here = ap (λ n. length (name_spelling n)) (c.as_slice.ensures.value ∙ c.name-item.is) in
     record {
-      exact = omega (arith, c.saturating_add-total.ensures, c.saturating_add.ensures, c.name_length.ensures, c.loop-name.invariant.exact, more, here);
+      exact = omega (
+        arith,
+        c.saturating_add-total.ensures,
+        c.saturating_add.ensures,
+        c.name_length.ensures,
+        c.loop-name.invariant.exact,
+        more,
+        here,
+      );
       texts = All-more IsText names i name c.loop-name-test.true c.loop-name.invariant.texts
           (subst IsText c.name-item.is c.as_slice.ensures.text);
     }

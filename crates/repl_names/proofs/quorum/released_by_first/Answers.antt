@@ -33,8 +33,10 @@ least c =
 
 pub returns-clause-met : goal.returns-clause-met
 returns-clause-met c =
-    first_met (candidates c.args.sessions.now) c.args.mode c.args.number c.last_priority-priority.result c.last_session-session.result c.unwrap_or.result (last c) (least c)
+    first_met (candidates c.args.sessions.now) c.args.mode c.args.number c.last_priority-priority.result c.last_session-session.result
+    c.unwrap_or.result (last c) (least c)
 
 pub returns-clause-greatest : goal.returns-clause-greatest
 returns-clause-greatest c = λ later h.
-    first_missed (candidates c.args.sessions.now) c.args.mode c.args.number c.last_priority-priority.result c.last_session-session.result c.unwrap_or.result later (last c) c.requires.some (least c) h
+    first_missed (candidates c.args.sessions.now) c.args.mode c.args.number c.last_priority-priority.result c.last_session-session.result
+    c.unwrap_or.result later (last c) c.requires.some (least c) h

@@ -19,4 +19,5 @@ returns-in_ok-copied-in-None c =
     let items = c.token.inside.text.items in
     let other : c.kind_of.result ≢ kind.Star = search rules in
     let none : ¬ IsText items = search rules in
-    wrong_token c.args.token c.token.inside.kind c.token.inside.place items c.deref.result.now c.in_ok-copied-in-None.field-0 c.kind_of.result (sym c.token.view_is) c.deref.ensures.value c.kind_of.ensures other c.in_ok-copied-in-None.ensures none
+    wrong_token c.args.token c.token.inside.kind c.token.inside.place items c.deref.result.now c.in_ok-copied-in-None.field-0
+    c.kind_of.result (sym c.token.view_is) c.deref.ensures.value c.kind_of.ensures other c.in_ok-copied-in-None.ensures none

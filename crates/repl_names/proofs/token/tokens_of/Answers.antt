@@ -19,7 +19,8 @@ loop-tokens-preserved c =
     let within : end ≤ length text = search rules in
     subst (λ (tokens : List Token). Leads list_class list_token text tokens end)
     (sym (c.in_ok-push.ensures.items ∙ ap (λ (own : Token). c.loop-tokens.tokens.items ++ own ∷ []) c.in_ok-list_token.ensures))
-    (leads_more list_class list_token text c.loop-tokens.tokens.items c.loop-tokens.at c.in-Some.token end c.loop-tokens.invariant next within)
+    (leads_more list_class list_token text c.loop-tokens.tokens.items c.loop-tokens.at c.in-Some.token end c.loop-tokens.invariant next
+    within)
 
 pub returns : goal.returns
 returns c =

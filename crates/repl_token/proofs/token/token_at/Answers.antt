@@ -6,7 +6,8 @@ use Rattle.repl_token.proofs.token.token_at.Goals as goal
 pub returns-in_ok-copied-in-Letter-clause-is : goal.returns-in_ok-copied-in-Letter-clause-is
 returns-in_ok-copied-in-Letter-clause-is g c =
     let token = c.in_ok-copied-in-Letter.ensures in
-    word_token g.L.Lexicon.class_of _ _ c.args.rest.now c.word_bytes-size.result token.0 token.2 c.word_bytes-size.ensures.count c.requires.some
+    word_token g.L.Lexicon.class_of _ _ c.args.rest.now c.word_bytes-size.result token.0 token.2 c.word_bytes-size.ensures.count
+    c.requires.some
     (sym c.class.ensures ∙ c.in-Letter.is)
 
 pub returns-in_ok-copied-in-Digit-clause-is : goal.returns-in_ok-copied-in-Digit-clause-is

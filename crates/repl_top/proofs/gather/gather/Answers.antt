@@ -22,9 +22,11 @@ loop-preserved g c =
           let read = w.in-Bytes.ensures.reads.moved in
           let room = c.read.new.room in
           let behind : List ℕ = drop c.min-some.result c.loop.room in
-          let items = items_of_same c.match-read.bytes w.extend_from_slice.new.self (c.loop.bytes.items ++ take w.in-Bytes.count (room ++ behind)) w.bytes-is
+          let items = items_of_same c.match-read.bytes w.extend_from_slice.new.self
+          (c.loop.bytes.items ++ take w.in-Bytes.count (room ++ behind)) w.bytes-is
           w.in_ok-extend_from_slice-in-Bytes.ensures.items in
-          let len = len_of_same c.match-read.bytes w.extend_from_slice.new.self (vec_len c.loop.bytes + length (take w.in-Bytes.count (room ++ behind))) w.bytes-is
+          let len = len_of_same c.match-read.bytes w.extend_from_slice.new.self
+          (vec_len c.loop.bytes + length (take w.in-Bytes.count (room ++ behind))) w.bytes-is
           w.in_ok-extend_from_slice-in-Bytes.ensures.len in
           let size : length (take w.in-Bytes.count (room ++ behind)) ≡ w.in-Bytes.count =
           omega (arith, length-take w.in-Bytes.count (room ++ behind), length-append room behind, read.fits) in
