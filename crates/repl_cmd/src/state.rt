@@ -3,7 +3,7 @@ use crate::name::SlotName;
 use repl_lsn::Lsn;
 
 /// How far the tokens of a command have come.
-#[derive(Debug, Drop)]
+#[derive(Drop)]
 pub(crate) enum State {
     /// No token is read.
     Start,

@@ -6,7 +6,7 @@ use repl_token::{Kind as LexerKind, Token as LexerToken};
 use std::marker::Model;
 
 /// What a token of a command is.
-#[derive(Clone, Copy, Debug, PartialEq, Eq)]
+#[derive(Clone, Copy, PartialEq)]
 pub(crate) enum Kind {
     /// Letters, digits and underscores: a keyword, a name, a number or a value.
     Word,
@@ -26,7 +26,7 @@ pub(crate) enum Kind {
 }
 
 /// A token: its kind, the place of its first byte, and what it says, without its quotes.
-#[derive(Debug, Drop)]
+#[derive(Drop)]
 pub(crate) struct Token {
     pub(crate) kind: Kind,
     pub(crate) place: usize,

@@ -1,6 +1,6 @@
 -- Lists of synchronous standbys (PostgreSQL 17 manual, section "Replication", `synchronous_standby_names`),
 -- their one printed spelling, and the entry that a standby's name matches.
-use Rattle.std.specs.Prelude.{◌≡◌, ℕ, ◌+◌, ◌<◌, ◌≤◌, ◌⊎◌, List, [], ◌∷◌, ◌++◌, map, length, bytes_eq, if◌then◌else◌, All, codes, decimal}
+use Rattle.std.specs.Prelude.{◌≡◌, ℕ, ◌+◌, ◌<◌, ◌≤◌, ◌⊎◌, List, [], ◌∷◌, ◌++◌, map, length, bytes_eq, if◌then◌else◌, Bool, ◌||◌, position, option_map, unwrap_or, All, codes, decimal}
 use Rattle.std.specs.Char.{to_ascii_lowercase}
 use Rattle.repl_text.specs.Text.{IsText}
 use Rattle.repl_token.specs.Token.{quoted}
@@ -55,7 +55,15 @@ pub record IsListing (list : Listing) : Type 0 where
 abbrev pub Matches : List ℕ → List ℕ → Type 0
 Matches name entry = (entry ≡ codes "*") ⊎ (map to_ascii_lowercase entry ≡ map to_ascii_lowercase name)
 
+-- the same, as a test
+abbrev pub matches : List ℕ → List ℕ → Bool
+matches name entry = bytes_eq entry (codes "*") || bytes_eq (map to_ascii_lowercase entry) (map to_ascii_lowercase name)
+
 -- the place, from 1, of the first entry that matches the name, or 0 where none does
+abbrev pub priority_of : List (List ℕ) → List ℕ → ℕ
+priority_of entries name = unwrap_or (option_map (λ place. place + 1) (position (matches name) entries)) 0
+
+-- the same, as a relation
 abbrev pub IsPriority : List (List ℕ) → List ℕ → ℕ → Type 0
 IsPriority entries name priority =
     (priority ≡ 0) × All (λ entry. ¬ Matches name entry) entries

@@ -10,7 +10,7 @@ use repl_text::Text;
 use std::alloc::{AllocError, Global};
 
 /// How far tokens have come in the grammar.
-#[derive(Clone, Copy, Debug, PartialEq, Eq)]
+#[derive(Clone, Copy)]
 enum State {
     /// No token is read.
     Start,
@@ -103,7 +103,7 @@ pub(crate) fn judge(tokens: &[Token]) -> Result<(), usize>
 }
 
 /// What the tokens of a list say, but for the names themselves.
-#[derive(Clone, Copy, Debug, PartialEq, Eq)]
+#[derive(Clone, Copy)]
 pub(crate) struct Shape {
     pub(crate) method: Method,
     /// The index of the number, where one is said.

@@ -7,7 +7,7 @@ use repl_token::{Kind as LexerKind, Token as LexerToken, next_token};
 use std::alloc::{AllocError, Global};
 
 /// What a token of a standby list is.
-#[derive(Clone, Copy, Debug, PartialEq, Eq)]
+#[derive(Clone, Copy)]
 pub(crate) enum Kind {
     /// A word that is no keyword.
     Word,
@@ -29,7 +29,7 @@ pub(crate) enum Kind {
 }
 
 /// A token: its kind, the place of its first byte, and the name that it may be.
-#[derive(Debug, Drop)]
+#[derive(Drop)]
 pub(crate) struct Token {
     pub(crate) kind: Kind,
     pub(crate) place: usize,
