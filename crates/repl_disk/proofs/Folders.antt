@@ -12,7 +12,8 @@ pub folder_found : (files : List Stored) (name : List ℕ) → folder_of files n
 folder_found [] name = refl
 folder_found (file ∷ files) name = each (bytes_eq name file.name) (folder_found files name)
   where
-    each : (b : Bool) → folder_of files name ≡ bytes_of (found files name) → cond b (Some file.bytes) (folder_of files name) ≡ bytes_of (cond b (Some file) (found files name))
+    each : (b : Bool) → folder_of files name ≡ bytes_of (found files name)
+        → cond b (Some file.bytes) (folder_of files name) ≡ bytes_of (cond b (Some file) (found files name))
     each true rest = refl
     each false rest = rest
 
@@ -25,7 +26,8 @@ pub certain_is : (files : List Stored) (name : List ℕ) → certain_folder file
 certain_is [] name = refl
 certain_is (file ∷ files) name = each (bytes_eq name file.name) (certain_is files name)
   where
-    each : (b : Bool) → certain_folder files name ≡ certain_found (found files name) → cond b (certain_of file) (certain_folder files name) ≡ certain_found (cond b (Some file) (found files name))
+    each : (b : Bool) → certain_folder files name ≡ certain_found (found files name)
+        → cond b (certain_of file) (certain_folder files name) ≡ certain_found (cond b (Some file) (found files name))
     each true rest = refl
     each false rest = rest
 
@@ -38,8 +40,10 @@ module _ (old new : List Stored) (name : List ℕ) (file : Option Stored) where
       each other false = sym (folder_found old other)
 
   pub certain_changed : Changed old new name file → certain_folder new ≡ put (certain_folder old) name (certain_found file)
-  certain_changed change = fun_ext (λ other. certain_is new other ∙ ap certain_found (change.files other) ∙ each other (bytes_eq other name))
+  certain_changed change = fun_ext
+      (λ other. certain_is new other ∙ ap certain_found (change.files other) ∙ each other (bytes_eq other name))
     where
-      each : (other : List ℕ) (b : Bool) → certain_found (cond b file (found old other)) ≡ cond b (certain_found file) (certain_folder old other)
+      each : (other : List ℕ) (b : Bool)
+          → certain_found (cond b file (found old other)) ≡ cond b (certain_found file) (certain_folder old other)
       each other true = refl
       each other false = sym (certain_is old other)

@@ -15,9 +15,11 @@ sorted [] ordered = tt
 sorted (file ∷ []) ordered = tt
 sorted (file ∷ next ∷ files) ordered = (ordered.0.0, sorted (next ∷ files) ordered.1)
 
-there : (files : List Stored) (name : List ℕ) (k : ℕ) → k < length (names_of files) → get_or (names_of files) k name ≡ name → IsSome (folder_of files name)
+there : (files : List Stored) (name : List ℕ) (k : ℕ) → k < length (names_of files) → get_or (names_of files) k name ≡ name
+    → IsSome (folder_of files name)
 there [] name k within is = absurd (omega arith)
-there (file ∷ files) name zero within is = ap (λ (b : Bool). is_some (cond b (Some file.bytes) (folder_of files name))) (same_name name file.name (sym is))
+there (file ∷ files) name zero within is = ap (λ (b : Bool). is_some (cond b (Some file.bytes) (folder_of files name)))
+    (same_name name file.name (sym is))
 there (file ∷ files) name (suc k) within is = each (bytes_eq name file.name) (there files name k (omega arith) is)
   where
     each : (b : Bool) → IsSome (folder_of files name) → IsSome (cond b (Some file.bytes) (folder_of files name))
@@ -28,10 +30,16 @@ listed : (files : List Stored) (name : List ℕ) → IsSome (folder_of files nam
 listed [] name some = absurd (false≢true some)
 listed (file ∷ files) name some = each (bytes_eq name file.name) (name_same name file.name) (listed files name) some
   where
-    each : (b : Bool) → (b ≡ true → name ≡ file.name) → (IsSome (folder_of files name) → Contains (names_of files) name) → IsSome (cond b (Some file.bytes) (folder_of files name)) → Contains (names_of (file ∷ files)) name
+    each : (b : Bool) → (b ≡ true → name ≡ file.name) → (IsSome (folder_of files name) → Contains (names_of files) name)
+        → IsSome (cond b (Some file.bytes) (folder_of files name)) → Contains (names_of (file ∷ files)) name
     each true same rest some = (0, omega arith, sym (same refl))
     each false same rest some = let later : Contains (names_of files) name = rest some in (suc later.0, omega (arith, later.1), later.2)
 
 pub are_names : (files : List Stored) (names : List (List ℕ)) → AreOrdered files → names ≡ names_of files → AreNames (folder_of files) names
 are_names files names ordered is =
-    subst (λ (l : List (List ℕ)). AreNames (folder_of files) l) (sym is) (record { sorted = sorted files ordered; all = λ name. (λ has. there files name has.0 has.1 has.2, λ some. listed files name some) })
+    subst (λ (l : List (List ℕ)). AreNames (folder_of files) l) (sym is)
+    (record {
+      sorted = sorted files ordered;
+      all = λ name.
+          (λ has. there files name has.0 has.1 has.2, λ some. listed files name some);
+    })

@@ -47,10 +47,12 @@ tells_more Less x y xs ys same later = inr (same, later)
 tells_more Equal x y xs ys same later = λ i. same i ∷ later i
 tells_more Greater x y xs ys same later = inr (sym same, later)
 
-first_tells : (x y : ℕ) (xs ys : List ℕ) → Tells (slice_cmp nat_cmp xs ys) xs ys → Tells (slice_cmp nat_cmp (x ∷ xs) (y ∷ ys)) (x ∷ xs) (y ∷ ys)
+first_tells : (x y : ℕ) (xs ys : List ℕ) → Tells (slice_cmp nat_cmp xs ys) xs ys
+    → Tells (slice_cmp nat_cmp (x ∷ xs) (y ∷ ys)) (x ∷ xs) (y ∷ ys)
 first_tells x y xs ys rest = ⊎_elim same (⊎_elim below above) (cases_order x y)
   where
-    with_first : (o : Ordering) → nat_cmp x y ≡ o → Tells (ordering_then o (slice_cmp nat_cmp xs ys)) (x ∷ xs) (y ∷ ys) → Tells (slice_cmp nat_cmp (x ∷ xs) (y ∷ ys)) (x ∷ xs) (y ∷ ys)
+    with_first : (o : Ordering) → nat_cmp x y ≡ o → Tells (ordering_then o (slice_cmp nat_cmp xs ys)) (x ∷ xs) (y ∷ ys)
+        → Tells (slice_cmp nat_cmp (x ∷ xs) (y ∷ ys)) (x ∷ xs) (y ∷ ys)
     with_first o is tells = subst (λ (o : Ordering). Tells (ordering_then o (slice_cmp nat_cmp xs ys)) (x ∷ xs) (y ∷ ys)) (sym is) tells
 
     same : x ≡ y → Tells (slice_cmp nat_cmp (x ∷ xs) (y ∷ ys)) (x ∷ xs) (y ∷ ys)

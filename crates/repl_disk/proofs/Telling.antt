@@ -21,6 +21,7 @@ written_anew folder name bytes =
     ∙ ap (λ b. put folder name (Some b)) (overwritten_empty bytes)
 
 -- two effects, one after the other
-pub composed : (told : ToldFiles) (f g h : Folder → Folder) → ((folder : Folder) → g (f folder) ≡ h folder) → option_map g (option_map f told) ≡ option_map h told
+pub composed : (told : ToldFiles) (f g h : Folder → Folder) → ((folder : Folder) → g (f folder) ≡ h folder)
+    → option_map g (option_map f told) ≡ option_map h told
 composed None f g h same = refl
 composed (Some folder) f g h same = ap Some (same folder)

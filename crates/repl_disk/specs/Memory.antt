@@ -25,7 +25,8 @@ file_before (Some undo) now = Some (unwritten undo (content now))
 abbrev pub before : Done → Folder → Folder
 before (done.Wrote name at count undo) now = put now (string_bytes name) (file_before undo (now (string_bytes name)))
 before (done.Synced name) now = now
-before (done.Renamed from to taken) now = put (put now (string_bytes to) (option_map (λ bytes. bytes.items) taken)) (string_bytes from) (now (string_bytes to))
+before (done.Renamed from to taken) now = put (put now (string_bytes to) (option_map (λ bytes. bytes.items) taken)) (string_bytes from)
+    (now (string_bytes to))
 before (done.Removed name taken) now = put now (string_bytes name) (Some taken.items)
 
 -- the files before all these calls, of which the latest comes first
@@ -46,11 +47,13 @@ Steps (done.Removed name taken) folder old new = Removes (string_bytes name) old
 -- read, or what the last call makes of an image from before it.
 abbrev pub IsImage : List Done → Folder → Folder → Type 0
 IsImage [] now image = image ≡ now
-IsImage (call ∷ earlier) now image = (image ≡ now) ⊎ ((old : Folder) × IsImage earlier (before call now) old × Steps call (before call now) old image)
+IsImage (call ∷ earlier) now image = (image ≡ now) ⊎
+    ((old : Folder) × IsImage earlier (before call now) old × Steps call (before call now) old image)
 
 -- the same at some moment since so many calls were made
 abbrev pub WasImage : List Done → Folder → ℕ → Folder → Type 0
-WasImage calls now moment image = (later : ℕ) × (later + moment ≤ length calls) × IsImage (drop later calls) (before_all (take later calls) now) image
+WasImage calls now moment image = (later : ℕ) × (later + moment ≤ length calls) × IsImage (drop later calls)
+    (before_all (take later calls) now) image
 
 -- ---- what is certain
 
@@ -59,7 +62,8 @@ abbrev pub certain : List Done → Folder → Folder
 certain [] now = now
 certain (done.Wrote name at count undo ∷ earlier) now = certain earlier (before (done.Wrote name at count undo) now)
 certain (done.Synced name ∷ earlier) now = put (certain earlier now) (string_bytes name) (now (string_bytes name))
-certain (done.Renamed from to taken ∷ earlier) now = moved (certain earlier (before (done.Renamed from to taken) now)) (string_bytes from) (string_bytes to)
+certain (done.Renamed from to taken ∷ earlier) now = moved (certain earlier (before (done.Renamed from to taken) now)) (string_bytes from)
+    (string_bytes to)
 certain (done.Removed name taken ∷ earlier) now = put (certain earlier (before (done.Removed name taken) now)) (string_bytes name) None
 
 -- ---- the disk
@@ -121,11 +125,28 @@ burnt (Some k) = Some (k - 1)
 
 -- with one call more counted, which burns the fuse, and a fault where it is due to fail
 abbrev pub begun : Memory → Bool → Memory
-begun m due = record { files = m.files; calls = m.calls; failing = m.failing; fuse = burnt m.fuse; count = min (m.count + 1) (2 ^ 64 - 1); faults = raised due m.faults; wants = m.wants; lacks = m.lacks }
+begun m due = record {
+  files = m.files;
+  calls = m.calls;
+  failing = m.failing;
+  fuse = burnt m.fuse;
+  count = min (m.count + 1) (2 ^ 64 - 1);
+  faults = raised due m.faults;
+  wants = m.wants;
+  lacks = m.lacks;
+}
 
 -- what it tells and counts
 abbrev pub state_of : Memory → DiskState
-state_of m = record { files = Some (reading m); may_leave = LeavesNow m; moment = length m.calls; left_since = LeftSince m; faults = m.faults; wants = m.wants; lacks = m.lacks }
+state_of m = record {
+  files = Some (reading m);
+  may_leave = LeavesNow m;
+  moment = length m.calls;
+  left_since = LeftSince m;
+  faults = m.faults;
+  wants = m.wants;
+  lacks = m.lacks;
+}
 
 -- a call is counted, fails exactly where it is due, and has no effect where it answers an error
 pub record Counts {A : Type 0} (old new : Memory) (result : Result A DiskError) : Type 0 where

@@ -47,4 +47,5 @@ replaced folder name aside bytes = put (put folder aside None) name (Some bytes)
 -- the files read so as an image may be, where they are told
 abbrev pub IsHalfDone : ToldFiles → ToldFiles → List ℕ → List ℕ → List ℕ → Type 0
 IsHalfDone None now name aside bytes = now ≡ None
-IsHalfDone (Some folder) now name aside bytes = (after : Folder) × (now ≡ Some after) × IsBeforeOrAfter (λ f. f ≡ folder) name aside bytes after
+IsHalfDone (Some folder) now name aside bytes = (after : Folder) × (now ≡ Some after) × IsBeforeOrAfter
+    (λ f. f ≡ folder) name aside bytes after

@@ -14,7 +14,8 @@ put_at folder name x = ap (λ (b : Bool). cond b x (folder name)) ((bytes_eq-Dec
 
 pub put_other : (folder : Folder) (name other : List ℕ) (x : Option (List ℕ)) → (other ≡ name → ⊥) → put folder name x other ≡ folder other
 put_other folder name other x differ =
-    ap (λ (b : Bool). cond b x (folder other)) (false_from_ne_true (bytes_eq other name) (λ test. differ ((bytes_eq-Decides other name).0 test)))
+    ap (λ (b : Bool). cond b x (folder other))
+    (false_from_ne_true (bytes_eq other name) (λ test. differ ((bytes_eq-Decides other name).0 test)))
 
 pub put_same : (folder : Folder) (name : List ℕ) (x : Option (List ℕ)) → x ≡ folder name → put folder name x ≡ folder
 put_same folder name x is = fun_ext (λ other. each other (bytes_eq other name) (bytes_eq-Decides other name).0)
@@ -39,7 +40,8 @@ pub moved_from : (folder : Folder) (from to : List ℕ) → from ≢ to → move
 moved_from folder from to differ = put_other (put folder from None) to from (folder from) differ ∙ put_at folder from None
 
 pub moved_other : (folder : Folder) (from to other : List ℕ) → other ≢ from → other ≢ to → moved folder from to other ≡ folder other
-moved_other folder from to other not_from not_to = put_other (put folder from None) to other (folder from) not_to ∙ put_other folder from other None not_from
+moved_other folder from to other not_from not_to = put_other (put folder from None) to other (folder from) not_to
+    ∙ put_other folder from other None not_from
 
 -- ---- files that a step leaves alone
 
@@ -60,5 +62,6 @@ keeps_remove name = keeps_sync name None
 pub keeps_tear : (name : List ℕ) (at count : ℕ) → KeepsOthers name (Tears name at count)
 keeps_tear name at count before image done other differ = done.others other differ
 
-pub moves_other : (from to other : List ℕ) (before image : Folder) → other ≢ from → other ≢ to → Moves from to before image → image other ≡ before other
+pub moves_other : (from to other : List ℕ) (before image : Folder) → other ≢ from → other ≢ to → Moves from to before image
+    → image other ≡ before other
 moves_other from to other before image not_from not_to done = ap (λ f. f other) done ∙ moved_other before from to other not_from not_to

@@ -38,7 +38,12 @@ undo_of old at count = record { at = min at (length old); cut = take count (drop
 
 -- after a write
 abbrev pub rewritten : Stored → ℕ → List ℕ → Stored
-rewritten file at bytes = record { name = file.name; bytes = overwritten file.bytes at bytes; made = file.made; undos = undo_of file.bytes at (length bytes) ∷ file.undos }
+rewritten file at bytes = record {
+  name = file.name;
+  bytes = overwritten file.bytes at bytes;
+  made = file.made;
+  undos = undo_of file.bytes at (length bytes) ∷ file.undos;
+}
 
 -- made by a first write
 abbrev pub fresh : List ℕ → ℕ → List ℕ → Stored

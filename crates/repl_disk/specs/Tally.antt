@@ -16,7 +16,11 @@ raised false events = events
 
 -- with an event of each kind counted where its test holds
 abbrev pub tallied : Tallied → Bool → Bool → Bool → Tallied
-tallied tally failed wanted lacked = record { faults = raised failed tally.faults; wants = raised wanted tally.wants; lacks = raised lacked tally.lacks }
+tallied tally failed wanted lacked = record {
+  faults = raised failed tally.faults;
+  wants = raised wanted tally.wants;
+  lacks = raised lacked tally.lacks;
+}
 
 -- no count fell
 pub record NoneFell (old new : Tallied) : Type 0 where
@@ -28,4 +32,8 @@ pub none_fell_itself : (tally : Tallied) → NoneFell tally tally
 none_fell_itself tally = record { faults = omega arith; wants = omega arith; lacks = omega arith }
 
 pub none_fell_on : (first second third : Tallied) → NoneFell first second → NoneFell second third → NoneFell first third
-none_fell_on first second third a b = record { faults = omega (arith, a.faults, b.faults); wants = omega (arith, a.wants, b.wants); lacks = omega (arith, a.lacks, b.lacks) }
+none_fell_on first second third a b = record {
+  faults = omega (arith, a.faults, b.faults);
+  wants = omega (arith, a.wants, b.wants);
+  lacks = omega (arith, a.lacks, b.lacks);
+}

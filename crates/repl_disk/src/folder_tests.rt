@@ -104,26 +104,34 @@ fn done(alloc: Global, answer: Result<(), DiskError>) -> Result<String, AllocErr
     }
 }
 
-/// The script's files, opened again.
-const LEFT: [(&str, &[u8]); 3] = [("10", b"\0\0"), ("C", b"new"), ("b.x", b"\0\01")];
-
-/// A folder answers the script as it is written, and who opens it again finds its files there.
-#[test]
-fn a_folder_follows_the_script(rt: HostRuntime) -> Result<(), Fail> {
-    let alloc = rt.alloc();
-    fs::create_dir(&rt, "disk_files")?;
-    let mut disk = FolderDisk::new(rt, "disk_files")?;
+/// The disk answers the script as it is written.
+fn check_script<D: Disk>(rt: &impl Abort, alloc: Global, disk: &mut D) -> Result<(), AllocError> {
     for (ask, expected) in &SCRIPT {
         let _none = disk.size(&mark(alloc, ask)?);
-        assert_eq!(rt; answer(alloc, &mut disk, ask)?.as_str(), *expected);
+        assert_eq!(rt; answer(alloc, disk, ask)?.as_str(), *expected);
     }
+    Ok(())
+}
+
+/// The script's files, as they are left.
+const LEFT: [(&str, &[u8]); 3] = [
+    ("disk_files/10", b"\0\0"),
+    ("disk_files/C", b"new"),
+    ("disk_files/b.x", b"\0\01"),
+];
+
+/// A folder answers the script, and then has its files, for their owner alone. Opening it again changes nothing.
+#[test]
+fn a_folder_follows_the_script(rt: HostRuntime) -> Result<(), Fail> {
+    fs::create_dir(&rt, "disk_files")?;
+    let mut disk = FolderDisk::new(rt, "disk_files")?;
+    check_script(&rt, rt.alloc(), &mut disk)?;
     let _none = disk.size("mark open");
-    let mut again = FolderDisk::new(rt, "disk_files")?;
-    for (name, bytes) in LEFT {
-        let path = format!(in alloc; "disk_files/{name}")?;
-        assert_eq!(rt; fs::read(&rt, path.as_str())?.as_slice(), bytes);
-        assert_eq!(rt; fs::metadata(&rt, path.as_str())?.mode() & 0o777, 0o600);
-        assert_eq!(rt; again.remove(name), Ok(()));
+    let _again = FolderDisk::new(rt, "disk_files")?;
+    for (path, bytes) in LEFT {
+        assert_eq!(rt; fs::read(&rt, path)?.as_slice(), bytes);
+        assert_eq!(rt; fs::metadata(&rt, path)?.mode() & 0o777, 0o600);
+        fs::remove_file(&rt, path)?;
     }
     fs::remove_dir(&rt, "disk_files")?;
     Ok(())
@@ -158,6 +166,9 @@ fn other_folders(rt: HostRuntime) -> Result<(), Fail> {
     assert_eq!(rt; disk.write_at("disk_file", 0, b"a"), Ok(()));
     assert_eq!(rt; fs::read(&rt, "./disk_file")?.as_slice(), b"a".as_slice());
     assert_eq!(rt; disk.remove("disk_file"), Ok(()));
-    assert_eq!(rt; FolderDisk::new(rt, "nowhere").err(), Some(DiskError::Missing));
+    assert_eq!(rt;
+        FolderDisk::new(rt, "nowhere").err(),
+        Some(DiskError::Missing)
+    );
     Ok(())
 }

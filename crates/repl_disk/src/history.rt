@@ -59,12 +59,7 @@ impl History {
     }
 
     /// Copies the file's bytes from `at` on into the front of `room`, and answers how many they are.
-    pub(crate) fn read_at(
-        &self,
-        name: &str,
-        at: u64,
-        room: &mut [u8],
-    ) -> Result<usize, DiskError>
+    pub(crate) fn read_at(&self, name: &str, at: u64, room: &mut [u8]) -> Result<usize, DiskError>
         ensures within { IfOk result (λ n. n ≤ length room.old) }
         ensures read { MatchResult result
             (λ n. ReadsAt (folder_of self.now.files name.now) at n room.old room.new)

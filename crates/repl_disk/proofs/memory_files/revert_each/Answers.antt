@@ -8,4 +8,5 @@ pub loop-file-preserved : goal.loop-file-preserved
 loop-file-preserved c =
     let file : Stored = get_or c.loop-file.file-items c.loop-file.file-index c.file-item.result in
     let within : c.loop-file.file-index < length c.loop-file.file-items = search rules in
-    rw c.revert.ensures (map_over_more reverted c.deref_mut-file-items.result.now c.loop-file.file-items c.loop-file.file-index file (search rules) c.loop-file.invariant (get_or_default c.loop-file.file-items c.loop-file.file-index c.file-item.result file within))
+    rw c.revert.ensures (map_over_more reverted c.deref_mut-file-items.result.now c.loop-file.file-items c.loop-file.file-index file
+    (search rules) c.loop-file.invariant (get_or_default c.loop-file.file-items c.loop-file.file-index c.file-item.result file within))

@@ -12,7 +12,8 @@ remove-requires c =
 pub returns-in-Ok-clause-file : goal.returns-in-Ok-clause-file
 returns-in-Ok-clause-file c =
     let here : IsAt c.args.files.now.items c.args.name.now c.in-Ok.place = at_from c.deref.result.now c.args.files.now.items c.args.name.now c.in-Ok.place c.in-Ok.ensures c.deref.ensures.value in
-    ap (λ (f : Stored). Some f) c.remove.ensures.value ∙ sym (found_at c.args.files.now.items c.args.name.now c.in-Ok.place c.remove.result here)
+    ap (λ (f : Stored). Some f) c.remove.ensures.value ∙ sym
+    (found_at c.args.files.now.items c.args.name.now c.in-Ok.place c.remove.result here)
 
 pub returns-in-Ok-clause-files : goal.returns-in-Ok-clause-files
 returns-in-Ok-clause-files c =
@@ -21,8 +22,11 @@ returns-in-Ok-clause-files c =
 
 pub returns-in-Err-clause-file : goal.returns-in-Err-clause-file
 returns-in-Err-clause-file c =
-    sym (found_none c.args.files.now.items c.args.name.now c.in-Err.field-0 c.requires (stands_from c.deref.result.now c.args.files.now.items c.args.name.now c.in-Err.field-0 c.in-Err.ensures c.deref.ensures.value))
+    sym (found_none c.args.files.now.items c.args.name.now c.in-Err.field-0 c.requires
+    (stands_from c.deref.result.now c.args.files.now.items c.args.name.now c.in-Err.field-0 c.in-Err.ensures c.deref.ensures.value))
 
 pub returns-in-Err-clause-files : goal.returns-in-Err-clause-files
 returns-in-Err-clause-files c =
-    none_changed c.args.files.now.items c.args.name.now (found_none c.args.files.now.items c.args.name.now c.in-Err.field-0 c.requires (stands_from c.deref.result.now c.args.files.now.items c.args.name.now c.in-Err.field-0 c.in-Err.ensures c.deref.ensures.value)) c.requires
+    none_changed c.args.files.now.items c.args.name.now
+    (found_none c.args.files.now.items c.args.name.now c.in-Err.field-0 c.requires
+    (stands_from c.deref.result.now c.args.files.now.items c.args.name.now c.in-Err.field-0 c.in-Err.ensures c.deref.ensures.value)) c.requires

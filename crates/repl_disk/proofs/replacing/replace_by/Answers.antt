@@ -25,8 +25,10 @@ returns-clause-any_moment g c =
     let bytes = c.args.bytes.now in
     let old = (state c.args.disk.now).may_leave in
     where_told _ _ (λ folder told.
-    let wrote = weakened _ _ _ _ (told_so _ folder _ told c.write_aside.ensures.any_moment) (aside_is_before name aside bytes c.requires old) in
+    let wrote = weakened _ _ _ _ (told_so _ folder _ told c.write_aside.ensures.any_moment)
+    (aside_is_before name aside bytes c.requires old) in
     let next = c.in_ok-write_aside.ensures.files ∙ ap (option_map (λ f. put f aside (Some bytes))) told in
     let has = told_so _ folder _ told c.in_ok-write_aside.ensures.durable in
-    let last = leaves_either name aside bytes c.rename.result c.requires old (state c.write_aside.new.disk).may_leave (state c.rename.new.self).may_leave has (told_so _ _ _ next c.rename.ensures.crash) in
+    let last = leaves_either name aside bytes c.rename.result c.requires old (state c.write_aside.new.disk).may_leave
+    (state c.rename.new.self).may_leave has (told_so _ _ _ next c.rename.ensures.crash) in
     goes_on _ (state c.write_aside.new.disk) (state c.rename.new.self) _ wrote c.rename.ensures.ends.time last)

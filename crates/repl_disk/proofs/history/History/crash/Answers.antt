@@ -11,14 +11,19 @@ use Rattle.std.proofs.Common.{filter}
 pub invariant_of-result : goal.invariant_of-result
 invariant_of-result c =
     elim c.if-keep.branch [
-      | then-keep w ↦ tied_now c.if-keep.files.items (map settled c.self.inside.files.items) c.new.result.items c.new.ensures.items (ap (λ v. v.items) w.files-is ∙ w.settle_all.ensures) (settled_ordered c.self.inside.files.items c.self.invariant.0) (settled_tied c.self.inside.files.items)
-      | else-keep w ↦ tied_now c.if-keep.files.items (left c.self.inside.files.items) c.new.result.items c.new.ensures.items (ap (λ v. v.items) w.files-is ∙ w.revert_all.ensures) (reverted_ordered c.self.inside.files.items c.self.invariant.0) (reverted_tied (filter is_kept c.self.inside.files.items))
+      | then-keep w ↦ tied_now c.if-keep.files.items (map settled c.self.inside.files.items) c.new.result.items c.new.ensures.items
+          (ap (λ v. v.items) w.files-is ∙ w.settle_all.ensures) (settled_ordered c.self.inside.files.items c.self.invariant.0)
+          (settled_tied c.self.inside.files.items)
+      | else-keep w ↦ tied_now c.if-keep.files.items (left c.self.inside.files.items) c.new.result.items c.new.ensures.items
+          (ap (λ v. v.items) w.files-is ∙ w.revert_all.ensures) (reverted_ordered c.self.inside.files.items c.self.invariant.0)
+          (reverted_tied (filter is_kept c.self.inside.files.items))
     ]
 
 pub returns-clause-kept : goal.returns-clause-kept
 returns-clause-kept c =
     elim c.if-keep.branch [
-      | then-keep w ↦ (λ keep. ap (λ v. folder_of v.items) w.files-is ∙ ap (λ (l : List Stored). folder_of l) w.settle_all.ensures ∙ settled_folder c.self.inside.files.items ∙ ap (λ (h : Held). folder_of h.files) c.self.view_is)
+      | then-keep w ↦ (λ keep. ap (λ v. folder_of v.items) w.files-is ∙ ap (λ (l : List Stored). folder_of l) w.settle_all.ensures
+          ∙ settled_folder c.self.inside.files.items ∙ ap (λ (h : Held). folder_of h.files) c.self.view_is)
       | else-keep w ↦ (λ keep. absurd (true≢false (sym keep ∙ w.if-keep.false)))
     ]
 
@@ -26,5 +31,7 @@ pub returns-clause-lost : goal.returns-clause-lost
 returns-clause-lost c =
     elim c.if-keep.branch [
       | then-keep w ↦ (λ lose. absurd (true≢false (sym w.if-keep.true ∙ lose)))
-      | else-keep w ↦ (λ lose. ap (λ v. folder_of v.items) w.files-is ∙ ap (λ (l : List Stored). folder_of l) w.revert_all.ensures ∙ reverted_folder c.self.inside.files.items c.self.invariant.0 ∙ sym c.self.invariant.1 ∙ ap (λ (h : Held). certain h.calls (folder_of h.files)) c.self.view_is)
+      | else-keep w ↦ (λ lose. ap (λ v. folder_of v.items) w.files-is ∙ ap (λ (l : List Stored). folder_of l) w.revert_all.ensures
+          ∙ reverted_folder c.self.inside.files.items c.self.invariant.0 ∙ sym c.self.invariant.1 ∙ ap
+          (λ (h : Held). certain h.calls (folder_of h.files)) c.self.view_is)
     ]

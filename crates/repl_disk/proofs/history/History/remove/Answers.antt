@@ -19,14 +19,16 @@ invariant_of-self-2 c =
     let new : Held = record { files = c.take.new.files.items; calls = reverse c.push_reserved.new.self.items } in
     let call : Done = done.Removed c.into_parts-call_name.result.0 c.into_parts-call_name.result.1 in
     let is : found c.self.inside.files.items c.args.name.now ≡ Some c.in-Some.file = sym c.in-Some.ensures.file in
-    let named : string_bytes c.into_parts-call_name.result.0 ≡ c.args.name.now = c.into_parts-call_name.ensures.0 ∙ found_name c.self.inside.files.items c.args.name.now c.in-Some.file is in
+    let named : string_bytes c.into_parts-call_name.result.0 ≡ c.args.name.now = c.into_parts-call_name.ensures.0
+    ∙ found_name c.self.inside.files.items c.args.name.now c.in-Some.file is in
     let pushed : c.push_reserved.new.self.items ≡ c.self.inside.done.items ++ call ∷ [] = search rules in
     (c.take.ensures.files.ordered, removed_tied old new c.into_parts-call_name.result.0 c.into_parts-call_name.result.1 c.args.name.now c.in-Some.file named is c.into_parts-call_name.ensures.1 c.take.ensures.files (one_more c.self.inside.done.items c.push_reserved.new.self.items (reverse c.self.inside.done.items) call pushed refl) c.self.invariant.1)
 
 pub returns-clause-there : goal.returns-clause-there
 returns-clause-there c =
     let is : found c.self.inside.files.items c.args.name.now ≡ Some c.in-Some.file = sym c.in-Some.ensures.file in
-    subst (λ (h : Held). IsSome (folder_of h.files c.args.name.now)) c.self.view_is (in_folder c.self.inside.files.items c.args.name.now c.in-Some.file is)
+    subst (λ (h : Held). IsSome (folder_of h.files c.args.name.now)) c.self.view_is
+    (in_folder c.self.inside.files.items c.args.name.now c.in-Some.file is)
 
 pub returns-clause-done : goal.returns-clause-done
 returns-clause-done c =
@@ -34,7 +36,8 @@ returns-clause-done c =
     let new : Held = record { files = c.take.new.files.items; calls = reverse c.push_reserved.new.self.items } in
     let call : Done = done.Removed c.into_parts-call_name.result.0 c.into_parts-call_name.result.1 in
     let is : found c.self.inside.files.items c.args.name.now ≡ Some c.in-Some.file = sym c.in-Some.ensures.file in
-    let named : string_bytes c.into_parts-call_name.result.0 ≡ c.args.name.now = c.into_parts-call_name.ensures.0 ∙ found_name c.self.inside.files.items c.args.name.now c.in-Some.file is in
+    let named : string_bytes c.into_parts-call_name.result.0 ≡ c.args.name.now = c.into_parts-call_name.ensures.0
+    ∙ found_name c.self.inside.files.items c.args.name.now c.in-Some.file is in
     let pushed : c.push_reserved.new.self.items ≡ c.self.inside.done.items ++ call ∷ [] = search rules in
     subst (λ (h : Held). Did h new (λ folder. put folder c.args.name.now None) (Removes c.args.name.now)) c.self.view_is
     (removed old new c.into_parts-call_name.result.0 c.into_parts-call_name.result.1 c.args.name.now c.in-Some.file named is c.into_parts-call_name.ensures.1 c.take.ensures.files (one_more c.self.inside.done.items c.push_reserved.new.self.items (reverse c.self.inside.done.items) call pushed refl))

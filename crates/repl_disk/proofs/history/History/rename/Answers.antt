@@ -20,7 +20,8 @@ invariant_of-self-2 c =
     let new : Held = record { files = c.put.new.files.items; calls = reverse c.push_reserved.new.self.items } in
     let call : Done = done.Renamed c.rename-call_from.result c.in_ok-call_to.call_to c.in_ok-taken.taken in
     let is : found c.self.inside.files.items c.args.from.now ≡ Some c.in-Some.file = sym c.in-Some.ensures.file in
-    let from_is : string_bytes c.rename-call_from.result ≡ c.args.from.now = c.rename-call_from.ensures.name ∙ found_name c.self.inside.files.items c.args.from.now c.in-Some.file is in
+    let from_is : string_bytes c.rename-call_from.result ≡ c.args.from.now = c.rename-call_from.ensures.name
+    ∙ found_name c.self.inside.files.items c.args.from.now c.in-Some.file is in
     let to_is : string_bytes c.in_ok-call_to.call_to ≡ c.args.to.now = search rules in
     let name_is : string_bytes c.in_ok-name.name ≡ c.args.to.now = search rules in
     let pushed : c.push_reserved.new.self.items ≡ c.self.inside.done.items ++ call ∷ [] = search rules in
@@ -31,7 +32,8 @@ invariant_of-self-2 c =
 pub returns-clause-there : goal.returns-clause-there
 returns-clause-there c =
     let is : found c.self.inside.files.items c.args.from.now ≡ Some c.in-Some.file = sym c.in-Some.ensures.file in
-    subst (λ (h : Held). IsSome (folder_of h.files c.args.from.now)) c.self.view_is (in_folder c.self.inside.files.items c.args.from.now c.in-Some.file is)
+    subst (λ (h : Held). IsSome (folder_of h.files c.args.from.now)) c.self.view_is
+    (in_folder c.self.inside.files.items c.args.from.now c.in-Some.file is)
 
 pub returns-clause-done : goal.returns-clause-done
 returns-clause-done c =
@@ -39,11 +41,13 @@ returns-clause-done c =
     let new : Held = record { files = c.put.new.files.items; calls = reverse c.push_reserved.new.self.items } in
     let call : Done = done.Renamed c.rename-call_from.result c.in_ok-call_to.call_to c.in_ok-taken.taken in
     let is : found c.self.inside.files.items c.args.from.now ≡ Some c.in-Some.file = sym c.in-Some.ensures.file in
-    let from_is : string_bytes c.rename-call_from.result ≡ c.args.from.now = c.rename-call_from.ensures.name ∙ found_name c.self.inside.files.items c.args.from.now c.in-Some.file is in
+    let from_is : string_bytes c.rename-call_from.result ≡ c.args.from.now = c.rename-call_from.ensures.name
+    ∙ found_name c.self.inside.files.items c.args.from.now c.in-Some.file is in
     let to_is : string_bytes c.in_ok-call_to.call_to ≡ c.args.to.now = search rules in
     let name_is : string_bytes c.in_ok-name.name ≡ c.args.to.now = search rules in
     let pushed : c.push_reserved.new.self.items ≡ c.self.inside.done.items ++ call ∷ [] = search rules in
     let steps : Renaming old new c.take.new.files.items c.rename-call_from.result c.in_ok-call_to.call_to c.in_ok-taken.taken c.in-Some.file c.rename-call_from.new.self =
     steps_known old new c.take.new.files.items c.rename-call_from.result c.in_ok-call_to.call_to c.in_ok-taken.taken c.in-Some.file c.rename-call_from.new.self c.args.from.now c.args.to.now from_is to_is is c.take.ensures.files (c.rename-call_from.ensures.file ∙ ap (λ (n : List ℕ). renamed c.in-Some.file n) name_is) c.in_ok-taken.ensures.taken c.in_ok-taken.ensures.ok in
-    subst (λ (h : Held). Did h new (λ folder. moved folder c.args.from.now c.args.to.now) (Moves c.args.from.now c.args.to.now)) c.self.view_is
+    subst (λ (h : Held). Did h new (λ folder. moved folder c.args.from.now c.args.to.now)
+    (Moves c.args.from.now c.args.to.now)) c.self.view_is
     (renamed_call old new c.take.new.files.items c.rename-call_from.result c.in_ok-call_to.call_to c.in_ok-taken.taken c.in-Some.file c.rename-call_from.new.self c.args.from.now c.args.to.now from_is to_is steps (one_more c.self.inside.done.items c.push_reserved.new.self.items (reverse c.self.inside.done.items) call pushed refl))

@@ -11,7 +11,9 @@ pub returns-clause-image : goal.returns-clause-image
 returns-clause-image c =
     let image : IsImage c.self.inside.history.calls (folder_of c.self.inside.history.files) (folder_of c.crash.result.files) =
     ⊎_elim
-    (λ keep. subst (λ (f : Folder). IsImage c.self.inside.history.calls (folder_of c.self.inside.history.files) f) (sym (c.crash.ensures.kept keep)) (reads_as_image c.self.inside.history.calls (folder_of c.self.inside.history.files)))
-    (λ lose. subst (λ (f : Folder). IsImage c.self.inside.history.calls (folder_of c.self.inside.history.files) f) (sym (c.crash.ensures.lost lose)) (certain_image c.self.inside.history.calls (folder_of c.self.inside.history.files)))
+    (λ keep. subst (λ (f : Folder). IsImage c.self.inside.history.calls (folder_of c.self.inside.history.files) f)
+    (sym (c.crash.ensures.kept keep)) (reads_as_image c.self.inside.history.calls (folder_of c.self.inside.history.files)))
+    (λ lose. subst (λ (f : Folder). IsImage c.self.inside.history.calls (folder_of c.self.inside.history.files) f)
+    (sym (c.crash.ensures.lost lose)) (certain_image c.self.inside.history.calls (folder_of c.self.inside.history.files)))
     (cases_Bool c.args.keep) in
     subst (λ (m : Memory). LeavesNow m (folder_of c.crash.result.files)) c.self.view_is image

@@ -10,21 +10,26 @@ pub returns-clause-crash : goal.returns-clause-crash
 returns-clause-crash c =
     (goes c.args.self.now c.self.inside.history c.remove-answer.new.self (λ folder. put folder c.args.name.now None)
     (Removes c.args.name.now) (λ e. DidNot c.self.inside.history c.remove-answer.new.self c.args.name.now e) (λ e not. not.unchanged)
-    c.remove-answer.result c.tell.result (ap held (c.self.view_is ∙ c.begin.ensures.counted)) c.tell.ensures.answer c.remove-answer.ensures.done).0
+    c.remove-answer.result c.tell.result
+    (ap held (c.self.view_is ∙ c.begin.ensures.counted)) c.tell.ensures.answer c.remove-answer.ensures.done).0
 
 pub returns-clause-all : goal.returns-clause-all
 returns-clause-all c =
     (goes c.args.self.now c.self.inside.history c.remove-answer.new.self (λ folder. put folder c.args.name.now None)
     (Removes c.args.name.now) (λ e. DidNot c.self.inside.history c.remove-answer.new.self c.args.name.now e) (λ e not. not.unchanged)
-    c.remove-answer.result c.tell.result (ap held (c.self.view_is ∙ c.begin.ensures.counted)) c.tell.ensures.answer c.remove-answer.ensures.done).2
+    c.remove-answer.result c.tell.result
+    (ap held (c.self.view_is ∙ c.begin.ensures.counted)) c.tell.ensures.answer c.remove-answer.ensures.done).2
 
 pub returns-clause-ends : goal.returns-clause-ends
 returns-clause-ends c =
     let passed : c.begin.result ≡ false = search rules in
     let time = (goes c.args.self.now c.self.inside.history c.remove-answer.new.self (λ folder. put folder c.args.name.now None)
     (Removes c.args.name.now) (λ e. DidNot c.self.inside.history c.remove-answer.new.self c.args.name.now e) (λ e not. not.unchanged)
-    c.remove-answer.result c.tell.result (ap held (c.self.view_is ∙ c.begin.ensures.counted)) c.tell.ensures.answer c.remove-answer.ensures.done).1 in
-    let counts = told_rose c.remove-answer.result c.tell.result (tally_of c.args.self.now) c.self.inside.tally c.tell.new.self (ap tally_of (c.self.view_is ∙ c.begin.ensures.counted ∙ ap (begun c.args.self.now) passed)) c.tell.ensures.counted c.tell.ensures.answer in
+    c.remove-answer.result c.tell.result
+    (ap held (c.self.view_is ∙ c.begin.ensures.counted)) c.tell.ensures.answer c.remove-answer.ensures.done).1 in
+    let counts = told_rose c.remove-answer.result c.tell.result (tally_of c.args.self.now) c.self.inside.tally c.tell.new.self
+    (ap tally_of (c.self.view_is ∙ c.begin.ensures.counted ∙ ap
+    (begun c.args.self.now) passed)) c.tell.ensures.counted c.tell.ensures.answer in
     record {
       time = record { later = time.later; nothing_else = time.nothing_else; keeps = time.keeps };
       faults = counts.0;

@@ -9,22 +9,30 @@ use Rattle.repl_disk.specs.Memory.{DidNot, begun}
 pub returns-clause-crash : goal.returns-clause-crash
 returns-clause-crash c =
     (goes c.args.self.now c.self.inside.history c.rename-answer.new.self (λ folder. moved folder c.args.from.now c.args.to.now)
-    (Moves c.args.from.now c.args.to.now) (λ e. DidNot c.self.inside.history c.rename-answer.new.self c.args.from.now e) (λ e not. not.unchanged)
-    c.rename-answer.result c.tell.result (ap held (c.self.view_is ∙ c.begin.ensures.counted)) c.tell.ensures.answer c.rename-answer.ensures.done).0
+    (Moves c.args.from.now c.args.to.now) (λ e. DidNot c.self.inside.history c.rename-answer.new.self c.args.from.now e)
+    (λ e not. not.unchanged)
+    c.rename-answer.result c.tell.result
+    (ap held (c.self.view_is ∙ c.begin.ensures.counted)) c.tell.ensures.answer c.rename-answer.ensures.done).0
 
 pub returns-clause-all : goal.returns-clause-all
 returns-clause-all c =
     (goes c.args.self.now c.self.inside.history c.rename-answer.new.self (λ folder. moved folder c.args.from.now c.args.to.now)
-    (Moves c.args.from.now c.args.to.now) (λ e. DidNot c.self.inside.history c.rename-answer.new.self c.args.from.now e) (λ e not. not.unchanged)
-    c.rename-answer.result c.tell.result (ap held (c.self.view_is ∙ c.begin.ensures.counted)) c.tell.ensures.answer c.rename-answer.ensures.done).2
+    (Moves c.args.from.now c.args.to.now) (λ e. DidNot c.self.inside.history c.rename-answer.new.self c.args.from.now e)
+    (λ e not. not.unchanged)
+    c.rename-answer.result c.tell.result
+    (ap held (c.self.view_is ∙ c.begin.ensures.counted)) c.tell.ensures.answer c.rename-answer.ensures.done).2
 
 pub returns-clause-ends : goal.returns-clause-ends
 returns-clause-ends c =
     let passed : c.begin.result ≡ false = search rules in
     let time = (goes c.args.self.now c.self.inside.history c.rename-answer.new.self (λ folder. moved folder c.args.from.now c.args.to.now)
-    (Moves c.args.from.now c.args.to.now) (λ e. DidNot c.self.inside.history c.rename-answer.new.self c.args.from.now e) (λ e not. not.unchanged)
-    c.rename-answer.result c.tell.result (ap held (c.self.view_is ∙ c.begin.ensures.counted)) c.tell.ensures.answer c.rename-answer.ensures.done).1 in
-    let counts = told_rose c.rename-answer.result c.tell.result (tally_of c.args.self.now) c.self.inside.tally c.tell.new.self (ap tally_of (c.self.view_is ∙ c.begin.ensures.counted ∙ ap (begun c.args.self.now) passed)) c.tell.ensures.counted c.tell.ensures.answer in
+    (Moves c.args.from.now c.args.to.now) (λ e. DidNot c.self.inside.history c.rename-answer.new.self c.args.from.now e)
+    (λ e not. not.unchanged)
+    c.rename-answer.result c.tell.result
+    (ap held (c.self.view_is ∙ c.begin.ensures.counted)) c.tell.ensures.answer c.rename-answer.ensures.done).1 in
+    let counts = told_rose c.rename-answer.result c.tell.result (tally_of c.args.self.now) c.self.inside.tally c.tell.new.self
+    (ap tally_of (c.self.view_is ∙ c.begin.ensures.counted ∙ ap
+    (begun c.args.self.now) passed)) c.tell.ensures.counted c.tell.ensures.answer in
     record {
       time = record { later = time.later; nothing_else = time.nothing_else; keeps = time.keeps };
       faults = counts.0;
