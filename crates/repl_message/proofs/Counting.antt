@@ -10,14 +10,14 @@ pub flat_map-take_more : {X : Type 0} (f : X → List ℕ) (xs : List X) (i : �
     → flat_map f (take (i + 1) xs) ≡ flat_map f (take i xs) ++ f x
 flat_map-take_more {X} f xs i x lt is =
     ap (λ (ys : List X). flat_map f ys) (take_more xs i x lt) ∙ ap (λ (y : X). flat_map f (take i xs ++ y ∷ [])) (sym is)
-        ∙ sym (flat_map_more f [] (take i xs) x)
+    ∙ sym (flat_map_more f [] (take i xs) x)
 
 pub counted_more : {X : Type 0} (f : X → List ℕ) (xs : List X) (i : ℕ) (x : X) (base sum n more : ℕ) → i < length xs → x ≡ get_or xs i x
     → sum ≡ capped (base + length (flat_map f (take i xs))) → n ≡ capped (length (f x)) → more ≡ min (sum + n) (2 ^ 64 - 1) → more
     ≡ capped (base + length (flat_map f (take (i + 1) xs)))
 counted_more f xs i x base sum n more lt is so_far one added =
     let e : length (flat_map f (take (i + 1) xs)) ≡ length (flat_map f (take i xs)) + length (f x) =
-        ap length (flat_map-take_more f xs i x lt is) ∙ length-append (flat_map f (take i xs)) (f x) in
+    ap length (flat_map-take_more f xs i x lt is) ∙ length-append (flat_map f (take i xs)) (f x) in
     omega arith
 
 pub counted_all : {X : Type 0} (f : X → List ℕ) (xs : List X) (i base sum : ℕ) → length xs ≤ i → sum
@@ -42,4 +42,4 @@ pub added_more : {X : Type 0} (f : X → List ℕ) (xs : List X) (i : ℕ) (x : 
 added_more f xs i x old out new head lt is so_far added =
     added ∙ ap (λ (s : List ℕ). s ++ f x) so_far ∙ append_assoc old (head ++ flat_map f (take i xs)) (f x)
     ∙ ap (λ (s : List ℕ). old ++ s) (append_assoc head (flat_map f (take i xs)) (f x)
-        ∙ ap (λ (s : List ℕ). head ++ s) (sym (flat_map-take_more f xs i x lt is)))
+    ∙ ap (λ (s : List ℕ). head ++ s) (sym (flat_map-take_more f xs i x lt is)))

@@ -18,8 +18,15 @@ same_pair p q name value = λ i. record { name = name i; value = value i }
 same_field : (f g : Field) → f.name ≡ g.name → f.table ≡ g.table → f.attribute ≡ g.attribute → f.type_oid ≡ g.type_oid → f.size ≡ g.size
     → f.modifier ≡ g.modifier → f.format ≡ g.format → f ≡ g
 same_field f g name table attribute type_oid size modifier format =
-    λ i. record { name = name i; table = table i; attribute = attribute i; type_oid = type_oid i; size = size i; modifier = modifier i;
-        format = format i }
+    λ i. record {
+      name = name i;
+      table = table i;
+      attribute = attribute i;
+      type_oid = type_oid i;
+      size = size i;
+      modifier = modifier i;
+      format = format i;
+    }
 
 same_error_field : (f g : ErrorField) → f.code ≡ g.code → f.text ≡ g.text → f ≡ g
 same_error_field f g code text = λ i. record { code = code i; text = text i }
@@ -30,8 +37,8 @@ pub pair_one : IsPrefixFree FitsPair pair
 pair_one = record {
   one = λ p q r s p_fits q_fits e.
       let split : string p.name ++ (string p.value ++ r) ≡ string q.name
-          ++ (string q.value ++ s) = sym (append_assoc (string p.name) (string p.value) r) ∙ e
-          ∙ append_assoc (string q.name) (string q.value) s in
+      ++ (string q.value ++ s) = sym (append_assoc (string p.name) (string p.value) r) ∙ e
+      ∙ append_assoc (string q.name) (string q.value) s in
       let name = string_one.one p.name q.name (string p.value ++ r) (string q.value ++ s) p_fits.name q_fits.name split in
       let value = string_one.one p.value q.value r s p_fits.value q_fits.value name.1 in
       (same_pair p q name.0 value.0, value.1);
@@ -56,7 +63,7 @@ pub field_one : IsPrefixFree FitsField field
 field_one = record {
   one = λ f g r s f_fits g_fits e.
       let name = string_one.one f.name g.name (behind_name f r) (behind_name g s) f_fits.name g_fits.name
-          (sym (field_parts f r) ∙ e ∙ field_parts g s) in
+      (sym (field_parts f r) ∙ e ∙ field_parts g s) in
       let table = int32_one.one f.table g.table _ _ f_fits.table g_fits.table name.1 in
       let attribute = signed16_one.one f.attribute g.attribute _ _ f_fits.attribute g_fits.attribute table.1 in
       let type_oid = int32_one.one f.type_oid g.type_oid _ _ f_fits.type_oid g_fits.type_oid attribute.1 in

@@ -28,4 +28,4 @@ at_err (Err e) p = p
 pub added_three : (old a b c x y z : List ℕ) → a ≡ old ++ x → b ≡ a ++ y → c ≡ b ++ z → c ≡ old ++ (x ++ (y ++ z))
 added_three old a b c x y z first second third =
     third ∙ ap (λ (s : List ℕ). s ++ z) (second ∙ ap (λ (s : List ℕ). s ++ y) first) ∙ append_assoc (old ++ x) y z
-        ∙ append_assoc old x (y ++ z)
+    ∙ append_assoc old x (y ++ z)

@@ -58,8 +58,10 @@ pub record Takes (bytes text rest : List ℕ) : Type 0 where
   pub rest_fits : IsBytes rest
 
 pub Takes-then : (a x b y c : List ℕ) → Takes a x b → Takes b y c → Takes a (x ++ y) c
-Takes-then a x b y c p q = record { parts = p.parts ∙ ap (λ (t : List ℕ). x ++ t) q.parts ∙ sym (append_assoc x y c);
-    rest_fits = q.rest_fits }
+Takes-then a x b y c p q = record {
+  parts = p.parts ∙ ap (λ (t : List ℕ). x ++ t) q.parts ∙ sym (append_assoc x y c);
+  rest_fits = q.rest_fits;
+}
 
 -- nothing is left
 pub Takes-all : (bytes text rest : List ℕ) → Takes bytes text rest → rest ≡ [] → bytes ≡ text
@@ -105,13 +107,14 @@ wide32 = record {
 
 pub wide_takes : (w : Width) (limit : ℕ) (wide : IsWide w limit) (bytes : List ℕ) → IsBytes bytes → byte_len w ≤ length bytes
     → Takes bytes (to_be_bytes w (from_be_bytes w (take (byte_len w) bytes))) (drop (byte_len w) bytes)
-        × (from_be_bytes w (take (byte_len w) bytes) < limit)
+    × (from_be_bytes w (take (byte_len w) bytes) < limit)
 wide_takes w limit wide bytes fits long =
     let front : to_be_bytes w (from_be_bytes w (take (byte_len w) bytes))
-        ≡ take (byte_len w) bytes = wide.back (take (byte_len w) bytes) (omega (arith, length-take (byte_len w) bytes))
-        (IsBytes-take (byte_len w) bytes fits) in
-    (record { parts = rw front (sym (take-append-drop (byte_len w) bytes)); rest_fits = IsBytes-drop (byte_len w) bytes fits },
-        wide.below (take (byte_len w) bytes) (IsBytes-take (byte_len w) bytes fits))
+    ≡ take (byte_len w) bytes = wide.back (take (byte_len w) bytes) (omega (arith, length-take (byte_len w) bytes))
+    (IsBytes-take (byte_len w) bytes fits) in (
+      record { parts = rw front (sym (take-append-drop (byte_len w) bytes)); rest_fits = IsBytes-drop (byte_len w) bytes fits },
+      wide.below (take (byte_len w) bytes) (IsBytes-take (byte_len w) bytes fits),
+    )
 
 pub wide_again : (w : Width) (limit : ℕ) (wide : IsWide w limit) (n : ℕ) (rest : List ℕ) → n < limit
     → (from_be_bytes w (take (byte_len w) (to_be_bytes w n ++ rest)) ≡ n) × (drop (byte_len w) (to_be_bytes w n ++ rest) ≡ rest)
@@ -155,12 +158,12 @@ at_zero_takes [] text rest fits e = absurd cc
 at_zero_takes (zero ∷ bytes) text rest fits e =
     let same : ([], bytes) ≡ (text, rest) = cc in
     subst (λ (p : List ℕ × List ℕ). Takes (0 ∷ bytes) (string p.0) p.1 × AllByRecursion IsTextByte p.0) same
-        (record { parts = refl; rest_fits = IsBytes-rest 0 bytes fits }, tt)
+    (record { parts = refl; rest_fits = IsBytes-rest 0 bytes fits }, tt)
 at_zero_takes (suc b ∷ bytes) text rest fits e =
     let m = map_some (at_zero bytes) (λ (parts : List ℕ × List ℕ). (suc b ∷ parts.0, parts.1)) (text, rest) e in
     let t = at_zero_takes bytes m.0.0 m.0.1 (IsBytes-rest (suc b) bytes fits) m.1 in
     subst (λ (p : List ℕ × List ℕ). Takes (suc b ∷ bytes) (string p.0) p.1 × AllByRecursion IsTextByte p.0) m.2
-        (record { parts = ap (λ (w : List ℕ). suc b ∷ w) t.0.parts; rest_fits = t.0.rest_fits }, ((omega arith, fits 0), t.1))
+    (record { parts = ap (λ (w : List ℕ). suc b ∷ w) t.0.parts; rest_fits = t.0.rest_fits }, ((omega arith, fits 0), t.1))
 
 at_zero_again : (text rest : List ℕ) → AllByRecursion IsTextByte text → at_zero (string text ++ rest) ≡ Some (text, rest)
 at_zero_again [] rest fits = refl
@@ -210,7 +213,7 @@ pub string_first : (b : ℕ) (bytes text rest : List ℕ) → string_at (suc b �
 unfolding string_at
 string_first b bytes text rest e =
     let m = map_some (at_zero bytes) (λ (parts : List ℕ × List ℕ). (suc b ∷ parts.0, parts.1)) (text, rest)
-        (some_of (at_zero (suc b ∷ bytes)) (length (suc b ∷ bytes)) (text, rest) e) in
+    (some_of (at_zero (suc b ∷ bytes)) (length (suc b ∷ bytes)) (text, rest) e) in
     let same : suc b ∷ m.0.0 ≡ text = ap (λ (p : List ℕ × List ℕ). p.0) m.2 in
     rw (← same) (omega arith)
 

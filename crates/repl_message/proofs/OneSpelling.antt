@@ -43,7 +43,7 @@ fronts_one a b x y a_is b_is e =
     let kind : front_kind a ≡ front_kind b = cc in
     let frame : framed (front_body a) ++ x ≡ framed (front_body b) ++ y = cc in
     let t = framed_one.one (front_body a) (front_body b) x y (omega (arith, a_is.within, front_limits a))
-        (omega (arith, b_is.within, front_limits b)) frame in
+    (omega (arith, b_is.within, front_limits b)) frame in
     (front_bodies a b a_is.fits b_is.fits kind t.0, t.1)
 
 -- ---- startup packets
@@ -82,7 +82,7 @@ startups_behind _ _ a_fits b_fits code behind = absurd (omega (arith, code))
 startup_bodies : (a b : Startup) → FitsStartup a → FitsStartup b → startup_body a ≡ startup_body b → a ≡ b
 startup_bodies a b a_fits b_fits e =
     let t = int32_one.one (startup_code a) (startup_code b) (behind_code a) (behind_code b) (startup_codes a) (startup_codes b)
-        (sym (startup_parts a) ∙ e ∙ startup_parts b) in
+    (sym (startup_parts a) ∙ e ∙ startup_parts b) in
     startups_behind a b a_fits b_fits t.0 t.1
 
 pub startups_one : (a b : Startup) (x y : List ℕ) → IsStartup a → IsStartup b → startup_spelling a ++ x ≡ startup_spelling b ++ y → (a ≡ b)
@@ -105,8 +105,13 @@ statuses_one _ _ e = absurd (omega (arith, e))
 
 columns_short : (m : Back) (cs : List (Option (List ℕ))) → length (back_body m) + 4 ≤ back_limit m → back_body m ≡ counted column cs
     → AllByRecursion IsShort cs
-columns_short m cs within body = all_short cs (omega (arith, within, back_limits m, ap length body,
-    length-append (int16 (length cs)) (flat_map column cs)))
+columns_short m cs within body = all_short cs (omega (
+  arith,
+  within,
+  back_limits m,
+  ap length body,
+  length-append (int16 (length cs)) (flat_map column cs),
+))
 
 error_fields_one : IsPrefixFree (AllByRecursion FitsErrorField) (ended error_field)
 error_fields_one = ended_one FitsErrorField error_field error_field_one error_field_marked
@@ -143,7 +148,7 @@ back_bodies (back.CopyBoth format formats) (back.CopyBoth other others) a_is b_i
     let first : format ≡ other = cc in
     let behind : counted int16 formats ≡ counted int16 others = cc in
     let t = whole_one (counted_one (λ f. f < 2 ^ 16) int16 int16_one) formats others (a_is.fits.1, a_is.fits.2) (b_is.fits.1, b_is.fits.2)
-        behind in
+    behind in
     cc
 back_bodies _ _ a_is b_is kind body = absurd (omega (arith, kind))
 
@@ -152,7 +157,7 @@ backs_one a b x y a_is b_is e =
     let kind : back_kind a ≡ back_kind b = cc in
     let frame : framed (back_body a) ++ x ≡ framed (back_body b) ++ y = cc in
     let t = framed_one.one (back_body a) (back_body b) x y (omega (arith, a_is.within, back_limits a))
-        (omega (arith, b_is.within, back_limits b)) frame in
+    (omega (arith, b_is.within, back_limits b)) frame in
     (back_bodies a b a_is b_is kind t.0, t.1)
 
 -- ---- streams

@@ -38,7 +38,7 @@ signed_one : (w : Width) → IsWide w (2 ^ bits w) → IsPrefixFree (FitsSigned 
 signed_one w wide = record {
   one = λ x y r s x_fits y_fits e.
       let t = (wide_one w (2 ^ bits w) wide).one (cast_unsigned w x) (cast_unsigned w y) r s (Fits-lt-pow (Fits-of_z x_fits))
-          (Fits-lt-pow (Fits-of_z y_fits)) e in
+      (Fits-lt-pow (Fits-of_z y_fits)) e in
       (sym (to_z-of_z w x x_fits) ∙ ap (cast_signed w) t.0 ∙ to_z-of_z w y y_fits, t.1);
 }
 
@@ -77,7 +77,7 @@ pub counted_one : {A : Type 0} (Fits : A → Type 0) (entry : A → List ℕ) �
 counted_one Fits entry free = record {
   one = λ xs ys r s xs_fit ys_fit e.
       let t = int16_one.one (length xs) (length ys) (flat_map entry xs ++ r) (flat_map entry ys ++ s) (omega (arith, xs_fit.0))
-          (omega (arith, ys_fit.0)) e in
+      (omega (arith, ys_fit.0)) e in
       entries_one free xs ys r s t.0 xs_fit.1 ys_fit.1 t.1;
 }
 
@@ -91,7 +91,7 @@ end_apart : {A : Type 0} (entry : A → List ℕ) (y : A) (ys : List A) (r s : L
 end_apart entry y ys r s marked e =
     let m = marked (ended entry ys ++ s) in
     let split : ended entry (y ∷ ys) ++ s ≡ entry y ++ (ended entry ys ++ s) = ap (λ (t : List ℕ). t ++ s) (ended-cons entry y ys)
-        ∙ append_assoc (entry y) (ended entry ys) s in
+    ∙ append_assoc (entry y) (ended entry ys) s in
     let all : 0 ∷ r ≡ m.0 ∷ m.1 = e ∙ split ∙ m.2 in
     let first : 0 ≡ m.0 = cc in
     omega (arith, first, m.3)
@@ -105,7 +105,7 @@ ended_lists {A} {Fits} {entry} free marked [] (y ∷ ys) r s xs_fit ys_fit e = a
 ended_lists {A} {Fits} {entry} free marked (x ∷ xs) [] r s xs_fit ys_fit e = absurd (end_apart entry x xs s r (marked x xs_fit.0) (sym e))
 ended_lists {A} {Fits} {entry} free marked (x ∷ xs) (y ∷ ys) r s xs_fit ys_fit e =
     let split = λ (z : A) (zs : List A) (t : List ℕ). ap (λ (u : List ℕ). u ++ t) (ended-cons entry z zs)
-        ∙ append_assoc (entry z) (ended entry zs) t in
+    ∙ append_assoc (entry z) (ended entry zs) t in
     let first = free.one x y (ended entry xs ++ r) (ended entry ys ++ s) xs_fit.0 ys_fit.0 (sym (split x xs r) ∙ e ∙ split y ys s) in
     let others = ended_lists free marked xs ys r s xs_fit.1 ys_fit.1 first.1 in
     (cc, others.1)
@@ -118,9 +118,11 @@ ended_one Fits entry free marked = record { one = λ xs ys r s xs_fit ys_fit e. 
 
 -- bytes of one length, and what follows them
 pub bytes_one : (a b x y : List ℕ) → length a ≡ length b → a ++ x ≡ b ++ y → (a ≡ b) × (x ≡ y)
-bytes_one a b x y len e =
-    (sym (take_at a x (length a) refl) ∙ ap (take (length a)) e ∙ take_at b y (length a) (sym len), sym (drop_at a x (length a) refl)
-        ∙ ap (drop (length a)) e ∙ drop_at b y (length a) (sym len))
+bytes_one a b x y len e = (
+  sym (take_at a x (length a) refl) ∙ ap (take (length a)) e ∙ take_at b y (length a) (sym len),
+  sym (drop_at a x (length a) refl)
+      ∙ ap (drop (length a)) e ∙ drop_at b y (length a) (sym len),
+)
 
 -- bodies in frames
 pub framed_one : IsPrefixFree (λ body. length body + 4 < 2 ^ 32) framed

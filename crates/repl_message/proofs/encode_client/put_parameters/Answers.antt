@@ -24,4 +24,4 @@ loop-entry-preserved c =
 pub returns-clause-fits : goal.returns-clause-fits
 returns-clause-fits c =
     subst (AllByRecursion FitsPair) c.as_slice-entry-items.ensures.value
-        (fits_all FitsPair _ _ c.loop-entry-test.false c.loop-entry.invariant.fit)
+    (fits_all FitsPair _ _ c.loop-entry-test.false c.loop-entry.invariant.fit)

@@ -9,7 +9,7 @@ use Rattle.repl_message.proofs.encode_server.put_columns.Goals as goal
 pub put_column-requires : goal.put_column-requires
 put_column-requires c =
     let fits = entry_fits column c.as_slice-entries.result.now c.loop-entry.entry-index c.entry-item.result c.loop-entry-test.true
-        c.entry-item.is in
+    c.entry-item.is in
     let same = ap (λ (xs : List (Option (List ℕ))). length (counted column xs)) c.as_slice-entries.ensures.value in
     omega (arith, fits, same, c.requires)
 
@@ -26,6 +26,8 @@ loop-entry-preserved c =
     }
 
 pub returns-clause-fits : goal.returns-clause-fits
-returns-clause-fits c =
-    (c.as_slice-entries.ensures.few, subst (AllByRecursion FitsColumn) c.as_slice-entries.ensures.value
-        (fits_all FitsColumn _ _ c.loop-entry-test.false c.loop-entry.invariant.fit))
+returns-clause-fits c = (
+  c.as_slice-entries.ensures.few,
+  subst (AllByRecursion FitsColumn) c.as_slice-entries.ensures.value
+      (fits_all FitsColumn _ _ c.loop-entry-test.false c.loop-entry.invariant.fit),
+)

@@ -10,7 +10,7 @@ use Rattle.repl_message.proofs.encode_server.put_error_fields.Goals as goal
 pub put_error_field-requires : goal.put_error_field-requires
 put_error_field-requires c =
     fits_at (λ (f : ErrorField). 0 < f.code) c.args.fields.now c.as_slice-entry-items.result.now c.loop-entry.entry-index
-        c.entry-item.result
+    c.entry-item.result
     c.as_slice-entry-items.ensures.value c.as_slice-entry-items.ensures.coded c.loop-entry-test.true c.entry-item.is
 
 pub loop-entry-preserved : goal.loop-entry-preserved
@@ -27,4 +27,4 @@ loop-entry-preserved c =
 pub returns-clause-fits : goal.returns-clause-fits
 returns-clause-fits c =
     subst (AllByRecursion FitsErrorField) c.as_slice-entry-items.ensures.value
-        (fits_all FitsErrorField _ _ c.loop-entry-test.false c.loop-entry.invariant.fit)
+    (fits_all FitsErrorField _ _ c.loop-entry-test.false c.loop-entry.invariant.fit)

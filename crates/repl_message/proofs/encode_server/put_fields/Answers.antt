@@ -27,6 +27,8 @@ returns-in_err-put_field-clause-put c = record {
 }
 
 pub returns-clause-fits : goal.returns-clause-fits
-returns-clause-fits c =
-    (c.as_slice-entries.ensures.few, subst (AllByRecursion FitsField) c.as_slice-entries.ensures.value
-        (fits_all FitsField _ _ c.loop-entry-test.false c.loop-entry.invariant.fit))
+returns-clause-fits c = (
+  c.as_slice-entries.ensures.few,
+  subst (AllByRecursion FitsField) c.as_slice-entries.ensures.value
+      (fits_all FitsField _ _ c.loop-entry-test.false c.loop-entry.invariant.fit),
+)

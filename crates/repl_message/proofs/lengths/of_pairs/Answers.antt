@@ -8,9 +8,13 @@ use Rattle.repl_message.proofs.lengths.of_pairs.Goals as goal
 pub loop-entry-preserved : goal.loop-entry-preserved
 loop-entry-preserved c =
     counted_more pair c.args.pairs.now c.loop-entry.entry-index c.entry-item.result 1 c.loop-entry.sum _ _ c.loop-entry-test.true
-        c.entry-item.is c.loop-entry.invariant c.of_pair.ensures c.saturating_add-sum.ensures
+    c.entry-item.is c.loop-entry.invariant c.of_pair.ensures c.saturating_add-sum.ensures
 
 pub returns : goal.returns
 returns c =
-    omega (arith, counted_all pair c.args.pairs.now c.loop-entry.entry-index 1 c.loop-entry.sum c.loop-entry-test.false
-        c.loop-entry.invariant, length-append (flat_map pair c.args.pairs.now) (0 ∷ []))
+    omega (
+      arith,
+      counted_all pair c.args.pairs.now c.loop-entry.entry-index 1 c.loop-entry.sum c.loop-entry-test.false
+          c.loop-entry.invariant,
+      length-append (flat_map pair c.args.pairs.now) (0 ∷ []),
+    )
