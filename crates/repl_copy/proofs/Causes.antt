@@ -79,12 +79,11 @@ stream_right (stream.Keepalive end clock asks) payload f e h =
 
 -- the fault of a payload at fault, by its first byte, its length and the byte of its flag
 stream_told : ℕ → ℕ → ℕ → CopyFault
-stream_told kind len last = cond (eqb len 0) fault.Empty
-    (cond (eqb kind 119) (fault.Length len) (cond (eqb kind 107) (cond (eqb len 18) (fault.Flag last) (fault.Length len))
-    (fault.Kind kind)))
+stream_told kind len last = cond (eqb len 0) fault.Empty (cond (eqb kind 119) (fault.Length len)
+    (cond (eqb kind 107) (cond (eqb len 18) (fault.Flag last) (fault.Length len)) (fault.Kind kind)))
 
-stream_cause : (payload : List ℕ) (f : CopyFault) → IsStreamFault payload f → f ≡ stream_told (first payload) (length payload)
-    (get_or payload 17 0)
+stream_cause : (payload : List ℕ) (f : CopyFault) → IsStreamFault payload f → f
+    ≡ stream_told (first payload) (length payload) (get_or payload 17 0)
 unfolding stream_told
 stream_cause payload fault.Empty h = let e = none_is payload h in grind (arith, nat_tests)
 stream_cause payload (fault.Kind kind) h = let e = first_is kind payload h.0 in grind (arith, nat_tests)
@@ -152,12 +151,11 @@ reply_right (reply.Feedback clock xmin epoch catalog_xmin catalog_epoch) payload
 
 -- the fault of a payload at fault, by its first byte, its length and the byte of its flag
 reply_told : ℕ → ℕ → ℕ → CopyFault
-reply_told kind len last = cond (eqb len 0) fault.Empty
-    (cond (eqb kind 104) (fault.Length len) (cond (eqb kind 114) (cond (eqb len 34) (fault.Flag last) (fault.Length len))
-    (fault.Kind kind)))
+reply_told kind len last = cond (eqb len 0) fault.Empty (cond (eqb kind 104) (fault.Length len)
+    (cond (eqb kind 114) (cond (eqb len 34) (fault.Flag last) (fault.Length len)) (fault.Kind kind)))
 
-reply_cause : (payload : List ℕ) (f : CopyFault) → IsReplyFault payload f
-    → f ≡ reply_told (first payload) (length payload) (get_or payload 33 0)
+reply_cause : (payload : List ℕ) (f : CopyFault) → IsReplyFault payload f → f
+    ≡ reply_told (first payload) (length payload) (get_or payload 33 0)
 unfolding reply_told
 reply_cause payload fault.Empty h = let e = none_is payload h in grind (arith, nat_tests)
 reply_cause payload (fault.Kind kind) h = let e = first_is kind payload h.0 in grind (arith, nat_tests)

@@ -1,5 +1,5 @@
 -- Entries of a list that were written one after another fit their types.
-use Rattle.std.proofs.Common.{◌≡◌, ℕ, zero, suc, ◌+◌, ◌<◌, ◌≤◌, List, [], ◌∷◌, length, get_or, take, sym, subst, arith, add-one}
+use Rattle.std.proofs.Common.{◌≡◌, ℕ, zero, suc, ◌+◌, ◌<◌, ◌≤◌, List, [], ◌∷◌, ◌++◌, length, get_or, take, sym, subst, arith, add-one}
 use Rattle.std.specs.List.{All, AllByRecursion}
 use Rattle.std.proofs.lemmas.List.{take_all}
 
@@ -28,3 +28,8 @@ fits_all P xs i le fit = subst (AllByRecursion P) (take_all i xs le) fit
 pub fits_below : (limit : ℕ) (xs : List ℕ) → ((i : ℕ) → get_or xs i 0 < limit) → AllByRecursion (λ n. n < limit) xs
 fits_below limit [] below = tt
 fits_below limit (x ∷ xs) below = (below 0, fits_below limit xs (λ i. below (suc i)))
+
+-- first some and then others
+pub fits_both : {X : Type 0} (P : X → Type 0) (xs ys : List X) → AllByRecursion P xs → AllByRecursion P ys → AllByRecursion P (xs ++ ys)
+fits_both P [] ys front back = back
+fits_both P (x ∷ xs) ys front back = (front.0, fits_both P xs ys front.1 back)

@@ -5,3 +5,4 @@ pub mod Counting
 pub mod Spellings
 pub mod EntrySpellings
 pub mod OneSpelling
+pub mod Told

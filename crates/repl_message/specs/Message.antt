@@ -141,6 +141,10 @@ front_spelling m = front_kind m ∷ framed (front_body m)
 abbrev pub back_spelling : Back → List ℕ
 back_spelling m = back_kind m ∷ framed (back_body m)
 
+-- a CopyData of these bytes, which is the same from either side
+abbrev pub data_spelling : List ℕ → List ℕ
+data_spelling bytes = 100 ∷ framed bytes
+
 abbrev pub spelling : Message → List ℕ
 spelling (message.Startup m) = startup_spelling m
 spelling (message.Front m) = front_spelling m

@@ -1,7 +1,8 @@
-ghost use Rattle.std.specs.Prelude.{◌≡◌, ◌≤◌, ◌↔◌, IsSome, IfSome, length};
+ghost use Rattle.std.specs.Prelude.{◌≡◌, ◌≤◌, ◌↔◌, IsSome, IfSome, IfOk, length};
 
 use bytes::Bytes;
 use repl_text::Text;
+use std::alloc::{AllocError, Global};
 use std::marker::Model;
 
 /// The most entries of a list that a message counts by an Int16, read as unsigned.
@@ -146,7 +147,7 @@ impl Model for ErrorFields {
 }
 
 impl ErrorFields {
-    ghost use Rattle.repl_message.specs.Lists.{AreCoded};
+    ghost use Rattle.repl_message.specs.Lists.{AreCoded, told};
 
     /// These fields, or `None` exactly where a code is 0.
     pub fn new(fields: Vec<ErrorField>) -> Option<ErrorFields>
@@ -160,6 +161,28 @@ impl ErrorFields {
         }
     }
 
+    /// The fields that each error and each notice has: its severity twice, `S` and `V`, its SQLSTATE code, `C`, and
+    /// its text, `M`. Takes memory for the list and for the second severity.
+    pub fn told(
+        alloc: Global,
+        severity: Text,
+        code: Text,
+        text: Text,
+    ) -> Result<ErrorFields, AllocError>
+        ensures { IfOk result (λ fields. fields ≡ told severity code text) }
+    {
+        let plain = Text::copied(alloc, severity.as_slice())?;
+        let mut fields = Vec::new(alloc);
+        fields.push(coded(b'S', severity))?;
+        fields.push(coded(b'V', plain))?;
+        fields.push(coded(b'C', code))?;
+        fields.push(coded(b'M', text))?;
+        match ErrorFields::new(fields) {
+            Some(fields) => Ok(fields),
+            None => unreachable!(),
+        }
+    }
+
     /// The fields.
     pub fn as_slice(&self) -> &[ErrorField]
         ensures value { result.now ≡ self.now }
@@ -167,6 +190,12 @@ impl ErrorFields {
     {
         &self.fields
     }
+}
+
+fn coded(code: u8, text: Text) -> ErrorField
+    ensures { result ≡ record { code = code; text = text } }
+{
+    ErrorField { code, text }
 }
 
 /// The format codes of a copy's columns. There are at most 65,535.

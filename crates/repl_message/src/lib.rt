@@ -14,6 +14,7 @@
 #![tactic(auto)]
 
 mod back;
+mod copy_data;
 mod encode_client;
 mod encode_server;
 mod fault;
@@ -29,6 +30,7 @@ pub use back::{
     Back, Column, Columns, ErrorField, ErrorFields, Field, Fields, Formats, LIST_LIMIT,
     TransactionStatus,
 };
+pub use copy_data::encode_copy_data;
 pub use encode_client::{encode_front, encode_startup};
 pub use encode_server::encode_back;
 pub use fault::EncodeFault;

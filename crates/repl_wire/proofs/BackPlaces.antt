@@ -44,11 +44,21 @@ back_spelled (message.Back m) bytes s = (m, s.belongs, s.spelled)
 abbrev AreLong : ℕ → ℕ → ℕ → Type 0
 AreLong kind least limit = (m : Back) → back_kind m ≡ kind → (least ≤ length (back_body m)) × (back_limit m ≡ limit)
 
-typed : (kind least limit : ℕ) → limit < 0xffff_ffff → AreLong kind least limit → (m : Back) → IsBack m → back_kind m ≡ kind → IsTyped phase.Back kind least limit
+typed : (kind least limit : ℕ) → limit < 0xffff_ffff → AreLong kind least limit → (m : Back) → IsBack m → back_kind m ≡ kind
+    → IsTyped phase.Back kind least limit
 typed kind least limit below long m is kind_is = record {
   one_byte = refl;
   below = below;
-  some = (framed (back_body m), (message.Back m, record { belongs = is; spelled = ap (λ (k : ℕ). k ∷ framed (back_body m)) (sym kind_is) }));
+  some = (
+    framed (back_body m),
+    (
+      message.Back m,
+      record {
+        belongs = is;
+        spelled = ap (λ (k : ℕ). k ∷ framed (back_body m)) (sym kind_is);
+      },
+    ),
+  );
   spells = λ more s.
       let t = back_spelled s.0 (kind ∷ more) s.1 in
       let spelled = t.2 in
@@ -76,11 +86,13 @@ abbrev Single : List ℕ → Language
 Single x fs = fs ≡ x ∷ []
 
 behind_single : (x body rest : List ℕ) (left : ℕ) → body ≡ x ++ rest → Leaves Nothing rest left → Leaves (Single x) body left
-behind_single x body rest left parts l = leaves_behind (Single x) x body rest left parts (leaves_as Nothing (λ fs. Single x (x ∷ fs)) rest left (λ fs n. ap (λ (t : List (List ℕ)). x ∷ t) n) (λ fs n. cc) l)
+behind_single x body rest left parts l = leaves_behind (Single x) x body rest left parts
+    (leaves_as Nothing (λ fs. Single x (x ∷ fs)) rest left (λ fs n. ap (λ (t : List (List ℕ)). x ∷ t) n) (λ fs n. cc) l)
 
 here_single : (x body : List ℕ) (left : ℕ) → length body ≡ left → ((behind : List ℕ) → body ≢ x ++ behind) → Leaves (Single x) body left
 here_single x body left size none =
-    leaves_here (Single x) body left size (x ∷ [], refl) (λ f more behind s b. let same : f ≡ x = cc in none behind (b ∙ ap (λ (t : List ℕ). t ++ behind) same)) (λ s. absurd cc)
+    leaves_here (Single x) body left size (x ∷ [], refl) (λ f more behind s b. let same : f ≡ x = cc in
+    none behind (b ∙ ap (λ (t : List ℕ). t ++ behind) same)) (λ s. absurd cc)
 
 abbrev behind_code : List ℕ → ℕ × List ℕ → Result Back ℕ
 behind_code body code = cond (eqb code.0 0) (whole (back.AuthenticationOk, code.1)) (Err (length body))
@@ -98,10 +110,12 @@ authentication_leaves body left is e =
       | inr a ↦
           let code = int32_field.takes body a.0.0 a.0.1 is a.1 in
           elim (choice (eqb a.0.0 0) (whole (back.AuthenticationOk, a.0.1)) (Err (length body)) (Err left) a.2) [
-            | inl ok ↦ behind_single (int32 0) body a.0.1 left (code.0 ∙ ap (λ (n : ℕ). int32 n ++ a.0.1) (eqb-true _ _ ok.0)) (leaves_end back.AuthenticationOk a.0.1 left ok.1)
+            | inl ok ↦ behind_single (int32 0) body a.0.1 left (code.0 ∙ ap (λ (n : ℕ). int32 n ++ a.0.1) (eqb-true _ _ ok.0))
+                (leaves_end back.AuthenticationOk a.0.1 left ok.1)
             | inr other ↦
                 let size : length body ≡ left = (let o = other.1 in cc) in
-                here_single (int32 0) body left size (λ behind b. eqb-false _ _ other.0 (int32_field_one a.0.0 a.0.1 behind code.2 (sym code.0 ∙ b)))
+                here_single (int32 0) body left size (λ behind b. eqb-false _ _ other.0
+                (int32_field_one a.0.0 a.0.1 behind code.2 (sym code.0 ∙ b)))
           ]
     ]
   where
@@ -123,7 +137,9 @@ authentication_row = record {
   some = back.AuthenticationOk;
   is = record { fits = tt; within = omega arith };
   kind_is = refl;
-  leaves = λ body left is e. leaves_at (IsOfBackKind 82) back_fields (Single (int32 0)) body left (λ fs s. (back.AuthenticationOk, record { fits = tt; kind_is = refl }, sym s)) authentication_from (authentication_leaves body left is e);
+  leaves = λ body left is e. leaves_at (IsOfBackKind 82) back_fields (Single (int32 0)) body left
+      (λ fs s. (back.AuthenticationOk, record { fits = tt; kind_is = refl }, sym s)) authentication_from
+      (authentication_leaves body left is e);
 }
 
 -- ---- ParameterStatus
@@ -140,17 +156,38 @@ behind_name name = string_at name.1 >>= λ value. whole (back.ParameterStatus na
 setting_leaves : (body : List ℕ) (left : ℕ) → IsBody body → setting_of body ≡ Err left → Leaves TwoTexts body left
 unfolding setting_of
 setting_leaves body left is e =
-    leaves_then (field_part text_field) (λ t. OneText) (λ t fits. one_text) behind_name body left is (λ name rest fits body parts failed. leaves_last (field_part text_field) (λ (value : List ℕ). back.ParameterStatus name value) rest left body failed) e
+    leaves_then (field_part text_field) (λ t. OneText) (λ t fits. one_text) behind_name body left is
+    (λ name rest fits body parts failed. leaves_last (field_part text_field) (λ (value : List ℕ). back.ParameterStatus name value) rest
+    left body failed) e
 
 setting_long : AreLong 83 2 MESSAGE_LIMIT
-setting_long (back.ParameterStatus name value) e = (omega (arith, length-append (string name) (string value), length-append name (0 ∷ []), length-append value (0 ∷ [])), refl)
+setting_long (back.ParameterStatus name value) e = (
+  omega (
+    arith,
+    length-append (string name) (string value),
+    length-append name (0 ∷ []),
+    length-append value (0 ∷ []),
+  ),
+  refl,
+)
 setting_long _ e = absurd (omega (arith, e))
 
 setting_to : (fs : List (List ℕ)) → TwoTexts fs → (m : Back) × IsOfBackKind 83 m × (back_fields m ≡ fs)
-setting_to fs p = (back.ParameterStatus p.value p.behind.value, record { fits = (p.fits, p.behind.fits); kind_is = refl }, ap (λ (t : List (List ℕ)). string p.value ∷ t) (text_is p.more p.behind.more p.behind.value p.behind.parts p.behind.behind) ∙ sym p.parts)
+setting_to fs p = (
+  back.ParameterStatus p.value p.behind.value,
+  record { fits = (p.fits, p.behind.fits); kind_is = refl },
+  ap (λ (t : List (List ℕ)). string p.value ∷ t) (text_is p.more p.behind.more p.behind.value p.behind.parts p.behind.behind)
+      ∙ sym p.parts,
+)
 
 setting_from : (m : Back) → IsOfBackKind 83 m → TwoTexts (back_fields m)
-setting_from (back.ParameterStatus name value) is = record { value = name; fits = is.fits.0; more = string value ∷ []; parts = refl; behind = record { value = value; fits = is.fits.1; more = []; parts = refl; behind = refl } }
+setting_from (back.ParameterStatus name value) is = record {
+  value = name;
+  fits = is.fits.0;
+  more = string value ∷ [];
+  parts = refl;
+  behind = record { value = value; fits = is.fits.1; more = []; parts = refl; behind = refl };
+}
 setting_from _ is = absurd (omega (arith, is.kind_is))
 
 setting_row : IsRow 83 2 MESSAGE_LIMIT setting_of
@@ -160,7 +197,8 @@ setting_row = record {
   some = back.ParameterStatus [] [];
   is = record { fits = (no_text, no_text); within = omega arith };
   kind_is = refl;
-  leaves = λ body left is e. leaves_at (IsOfBackKind 83) back_fields TwoTexts body left setting_to setting_from (setting_leaves body left is e);
+  leaves = λ body left is e. leaves_at (IsOfBackKind 83) back_fields TwoTexts body left setting_to setting_from
+      (setting_leaves body left is e);
 }
 
 -- ---- BackendKeyData
@@ -177,8 +215,10 @@ behind_pid pid = int32_at pid.1 >>= λ key. whole (back.BackendKeyData pid.0 key
 key_leaves : (body : List ℕ) (left : ℕ) → IsBody body → key_of body ≡ Err left → Leaves TwoNumbers body left
 unfolding key_of
 key_leaves body left is e =
-    leaves_then (field_part int32_field) (λ n. OneNumber) (λ n fits. some_parted (λ k. int32 k ∷ []) (λ k. Nothing) 0 (omega arith) ([], refl)) behind_pid body left is
-    (λ pid rest fits body parts failed. leaves_last (field_part int32_field) (λ (key : ℕ). back.BackendKeyData pid key) rest left body failed) e
+    leaves_then (field_part int32_field) (λ n. OneNumber) (λ n fits. some_parted (λ k. int32 k ∷ []) (λ k. Nothing) 0 (omega arith)
+    ([], refl)) behind_pid body left is
+    (λ pid rest fits body parts failed. leaves_last (field_part int32_field) (λ (key : ℕ). back.BackendKeyData pid key) rest left body
+    failed) e
 
 key_long : AreLong 75 8 MESSAGE_LIMIT
 key_long (back.BackendKeyData pid key) e = (omega arith, refl)
@@ -188,10 +228,21 @@ number_is : (fs more : List (List ℕ)) (n : ℕ) → fs ≡ (int32 n ∷ []) ++
 number_is fs more n e nothing = sym (e ∙ ap (λ (t : List (List ℕ)). int32 n ∷ t) nothing)
 
 key_to : (fs : List (List ℕ)) → TwoNumbers fs → (m : Back) × IsOfBackKind 75 m × (back_fields m ≡ fs)
-key_to fs p = (back.BackendKeyData p.value p.behind.value, record { fits = (p.fits, p.behind.fits); kind_is = refl }, ap (λ (t : List (List ℕ)). int32 p.value ∷ t) (number_is p.more p.behind.more p.behind.value p.behind.parts p.behind.behind) ∙ sym p.parts)
+key_to fs p = (
+  back.BackendKeyData p.value p.behind.value,
+  record { fits = (p.fits, p.behind.fits); kind_is = refl },
+  ap (λ (t : List (List ℕ)). int32 p.value ∷ t) (number_is p.more p.behind.more p.behind.value p.behind.parts p.behind.behind)
+      ∙ sym p.parts,
+)
 
 key_from : (m : Back) → IsOfBackKind 75 m → TwoNumbers (back_fields m)
-key_from (back.BackendKeyData pid key) is = record { value = pid; fits = is.fits.0; more = int32 key ∷ []; parts = refl; behind = record { value = key; fits = is.fits.1; more = []; parts = refl; behind = refl } }
+key_from (back.BackendKeyData pid key) is = record {
+  value = pid;
+  fits = is.fits.0;
+  more = int32 key ∷ [];
+  parts = refl;
+  behind = record { value = key; fits = is.fits.1; more = []; parts = refl; behind = refl };
+}
 key_from _ is = absurd (omega (arith, is.kind_is))
 
 key_row : IsRow 75 8 MESSAGE_LIMIT key_of
@@ -209,17 +260,23 @@ key_row = record {
 abbrev Status : Language
 Status fs = (s : TransactionStatus) × (fs ≡ (status_byte s ∷ []) ∷ [])
 
-status_here : (body : List ℕ) (left : ℕ) → length body ≡ left → ((s : TransactionStatus) (behind : List ℕ) → body ≢ status_byte s ∷ behind) → Leaves Status body left
+status_here : (body : List ℕ) (left : ℕ) → length body ≡ left → ((s : TransactionStatus) (behind : List ℕ) → body ≢ status_byte s ∷ behind)
+    → Leaves Status body left
 status_here body left size none =
-    leaves_here Status body left size ((73 ∷ []) ∷ [], (Idle, refl)) (λ f more behind s b. let e = s.1 in let same : f ≡ status_byte s.0 ∷ [] = cc in none s.0 behind (b ∙ ap (λ (t : List ℕ). t ++ behind) same)) (λ s. absurd (let e = s.1 in cc))
+    leaves_here Status body left size ((73 ∷ []) ∷ [], (Idle, refl))
+    (λ f more behind s b. let e = s.1 in let same : f ≡ status_byte s.0 ∷ [] = cc in
+    none s.0 behind (b ∙ ap (λ (t : List ℕ). t ++ behind) same)) (λ s. absurd (let e = s.1 in cc))
 
 -- behind a status that was read stands nothing
-status_behind : (b : ℕ) (rest : List ℕ) (left : ℕ) (s : TransactionStatus) → b ≡ status_byte s → whole (back.ReadyForQuery s, rest) ≡ Err left → Leaves Status (b ∷ rest) left
+status_behind : (b : ℕ) (rest : List ℕ) (left : ℕ) (s : TransactionStatus) → b ≡ status_byte s → whole (back.ReadyForQuery s, rest)
+    ≡ Err left → Leaves Status (b ∷ rest) left
 status_behind b rest left s is e =
     leaves_behind Status (b ∷ []) (b ∷ rest) rest left refl
-    (leaves_as Nothing (λ fs. Status ((b ∷ []) ∷ fs)) rest left (λ fs n. (s, cc)) (λ fs t. let e = t.1 in cc) (leaves_end (back.ReadyForQuery s) rest left e))
+    (leaves_as Nothing (λ fs. Status ((b ∷ []) ∷ fs)) rest left (λ fs n. (s, cc)) (λ fs t. let e = t.1 in cc)
+    (leaves_end (back.ReadyForQuery s) rest left e))
 
-no_status : (b : ℕ) (rest : List ℕ) → b ≢ 73 → b ≢ 84 → b ≢ 69 → (s : TransactionStatus) (behind : List ℕ) → b ∷ rest ≢ status_byte s ∷ behind
+no_status : (b : ℕ) (rest : List ℕ) → b ≢ 73 → b ≢ 84 → b ≢ 69 → (s : TransactionStatus) (behind : List ℕ)
+    → b ∷ rest ≢ status_byte s ∷ behind
 no_status b rest i o f Idle behind e = i (cc)
 no_status b rest i o f Open behind e = o (cc)
 no_status b rest i o f Failed behind e = f (cc)
@@ -234,7 +291,8 @@ status_leaves (b ∷ rest) left e =
         | inl o ↦ status_behind b rest left Open (eqb-true _ _ o.0) o.1
         | inr e2 ↦ elim (choice (eqb b 69) (whole (back.ReadyForQuery Failed, rest)) _ (Err left) e2.1) [
           | inl f ↦ status_behind b rest left Failed (eqb-true _ _ f.0) f.1
-          | inr e3 ↦ status_here (b ∷ rest) left (let n = e3.1 in cc) (no_status b rest (eqb-false _ _ e1.0) (eqb-false _ _ e2.0) (eqb-false _ _ e3.0))
+          | inr e3 ↦ status_here (b ∷ rest) left (let n = e3.1 in cc)
+              (no_status b rest (eqb-false _ _ e1.0) (eqb-false _ _ e2.0) (eqb-false _ _ e3.0))
         ]
       ]
     ]
@@ -254,7 +312,8 @@ status_row = record {
   some = back.ReadyForQuery Idle;
   is = record { fits = tt; within = omega arith };
   kind_is = refl;
-  leaves = λ body left is e. leaves_at (IsOfBackKind 90) back_fields Status body left (λ fs s. (back.ReadyForQuery s.0, record { fits = tt; kind_is = refl }, sym s.1)) status_from (status_leaves body left e);
+  leaves = λ body left is e. leaves_at (IsOfBackKind 90) back_fields Status body left
+      (λ fs s. (back.ReadyForQuery s.0, record { fits = tt; kind_is = refl }, sym s.1)) status_from (status_leaves body left e);
 }
 
 -- ---- lists that their length counts
@@ -266,8 +325,15 @@ Listed Fits fields = IsParted (IsListed Fits) (counted_fields fields) (λ xs. No
 all_of : (fs fields more : List (List ℕ)) → fs ≡ fields ++ more → more ≡ [] → fields ≡ fs
 all_of fs fields more e nothing = sym (e ∙ ap (λ (t : List (List ℕ)). fields ++ t) nothing ∙ append-nil fields)
 
-listed_from : {A : Type 0} (Fits : A → Type 0) (fields : A → List (List ℕ)) (xs : List A) → IsListed Fits xs → Listed Fits fields (counted_fields fields xs)
-listed_from Fits fields xs are = record { value = xs; fits = are; more = []; parts = sym (append-nil (counted_fields fields xs)); behind = refl }
+listed_from : {A : Type 0} (Fits : A → Type 0) (fields : A → List (List ℕ)) (xs : List A) → IsListed Fits xs
+    → Listed Fits fields (counted_fields fields xs)
+listed_from Fits fields xs are = record {
+  value = xs;
+  fits = are;
+  more = [];
+  parts = sym (append-nil (counted_fields fields xs));
+  behind = refl;
+}
 
 -- ---- RowDescription
 
@@ -276,14 +342,16 @@ Descriptions = Listed FitsField description_fields
 
 description_leaves : (body : List ℕ) (left : ℕ) → IsBody body → description_of body ≡ Err left → Leaves Descriptions body left
 unfolding description_of
-description_leaves body left is e = leaves_last (counted_part description_part) (λ (fields : List Field). back.RowDescription fields) body left is e
+description_leaves body left is e = leaves_last (counted_part description_part) (λ (fields : List Field). back.RowDescription fields) body
+    left is e
 
 description_long : AreLong 84 2 MESSAGE_LIMIT
 description_long (back.RowDescription fields) e = (omega (arith, length-append (int16 (length fields)) (flat_map field fields)), refl)
 description_long _ e = absurd (omega (arith, e))
 
 description_from : (m : Back) → IsOfBackKind 84 m → Descriptions (back_fields m)
-description_from (back.RowDescription fields) is = listed_from FitsField description_fields fields (record { few = is.fits.0; each = is.fits.1 })
+description_from (back.RowDescription fields) is = listed_from FitsField description_fields fields
+    (record { few = is.fits.0; each = is.fits.1 })
 description_from _ is = absurd (omega (arith, is.kind_is))
 
 description_row : IsRow 84 2 MESSAGE_LIMIT description_of
@@ -294,7 +362,12 @@ description_row = record {
   is = record { fits = (omega arith, tt); within = omega arith };
   kind_is = refl;
   leaves = λ body left is e. leaves_at (IsOfBackKind 84) back_fields Descriptions body left
-      (λ fs p. (back.RowDescription p.value, record { fits = (p.fits.few, p.fits.each); kind_is = refl }, all_of fs (counted_fields description_fields p.value) p.more p.parts p.behind)) description_from (description_leaves body left is e);
+      (λ fs p. (
+        back.RowDescription p.value,
+        record { fits = (p.fits.few, p.fits.each); kind_is = refl },
+        all_of fs (counted_fields description_fields p.value) p.more p.parts p.behind,
+      )) description_from
+      (description_leaves body left is e);
 }
 
 -- ---- DataRow
@@ -304,7 +377,8 @@ Columns = Listed FitsColumn (λ c. column c ∷ [])
 
 data_row_leaves : (body : List ℕ) (left : ℕ) → IsBody body → data_row_of body ≡ Err left → Leaves Columns body left
 unfolding data_row_of
-data_row_leaves body left is e = leaves_last (counted_part (field_part column_field)) (λ (columns : List (Option (List ℕ))). back.DataRow columns) body left is e
+data_row_leaves body left is e = leaves_last (counted_part (field_part column_field))
+    (λ (columns : List (Option (List ℕ))). back.DataRow columns) body left is e
 
 data_row_long : AreLong 68 2 MESSAGE_LIMIT
 data_row_long (back.DataRow columns) e = (omega (arith, length-append (int16 (length columns)) (flat_map column columns)), refl)
@@ -314,7 +388,8 @@ columns_fields : (columns : List (Option (List ℕ))) → counted_fields (λ c. 
 columns_fields columns = ap (λ (t : List (List ℕ)). int16 (length columns) ∷ t) (flat_map_single column columns)
 
 data_row_from : (m : Back) → IsOfBackKind 68 m → Columns (back_fields m)
-data_row_from (back.DataRow columns) is = subst Columns (columns_fields columns) (listed_from FitsColumn (λ c. column c ∷ []) columns (record { few = is.fits.0; each = is.fits.1 }))
+data_row_from (back.DataRow columns) is = subst Columns (columns_fields columns)
+    (listed_from FitsColumn (λ c. column c ∷ []) columns (record { few = is.fits.0; each = is.fits.1 }))
 data_row_from _ is = absurd (omega (arith, is.kind_is))
 
 data_row_row : IsRow 68 2 MESSAGE_LIMIT data_row_of
@@ -325,7 +400,13 @@ data_row_row = record {
   is = record { fits = (omega arith, tt); within = omega arith };
   kind_is = refl;
   leaves = λ body left is e. leaves_at (IsOfBackKind 68) back_fields Columns body left
-      (λ fs p. (back.DataRow p.value, record { fits = (p.fits.few, p.fits.each); kind_is = refl }, sym (columns_fields p.value) ∙ all_of fs (counted_fields (λ c. column c ∷ []) p.value) p.more p.parts p.behind)) data_row_from (data_row_leaves body left is e);
+      (λ fs p. (
+        back.DataRow p.value,
+        record { fits = (p.fits.few, p.fits.each); kind_is = refl },
+        sym (columns_fields p.value)
+            ∙ all_of fs (counted_fields (λ c. column c ∷ []) p.value) p.more p.parts p.behind,
+      )) data_row_from
+      (data_row_leaves body left is e);
 }
 
 -- ---- CommandComplete
@@ -353,7 +434,9 @@ tag_row = record {
   some = back.CommandComplete [];
   is = record { fits = no_text; within = omega arith };
   kind_is = refl;
-  leaves = λ body left is e. leaves_at (IsOfBackKind 67) back_fields OneText body left (λ fs p. (back.CommandComplete p.value, record { fits = p.fits; kind_is = refl }, text_is fs p.more p.value p.parts p.behind)) tag_from (tag_leaves body left is e);
+  leaves = λ body left is e. leaves_at (IsOfBackKind 67) back_fields OneText body left
+      (λ fs p. (back.CommandComplete p.value, record { fits = p.fits; kind_is = refl }, text_is fs p.more p.value p.parts p.behind))
+      tag_from (tag_leaves body left is e);
 }
 
 -- ---- ErrorResponse and NoticeResponse
@@ -396,7 +479,11 @@ error_row = record {
   is = record { fits = tt; within = omega arith };
   kind_is = refl;
   leaves = λ body left is e. leaves_at (IsOfBackKind 69) back_fields Codes body left
-      (λ fs p. (back.ErrorResponse p.value, record { fits = p.fits; kind_is = refl }, all_of fs (ended_fields coded_fields p.value) p.more p.parts p.behind)) error_from (error_leaves body left is e);
+      (λ fs p. (
+        back.ErrorResponse p.value,
+        record { fits = p.fits; kind_is = refl },
+        all_of fs (ended_fields coded_fields p.value) p.more p.parts p.behind,
+      )) error_from (error_leaves body left is e);
 }
 
 notice_row : IsRow 78 1 MESSAGE_LIMIT notice_of
@@ -407,7 +494,11 @@ notice_row = record {
   is = record { fits = tt; within = omega arith };
   kind_is = refl;
   leaves = λ body left is e. leaves_at (IsOfBackKind 78) back_fields Codes body left
-      (λ fs p. (back.NoticeResponse p.value, record { fits = p.fits; kind_is = refl }, all_of fs (ended_fields coded_fields p.value) p.more p.parts p.behind)) notice_from (notice_leaves body left is e);
+      (λ fs p. (
+        back.NoticeResponse p.value,
+        record { fits = p.fits; kind_is = refl },
+        all_of fs (ended_fields coded_fields p.value) p.more p.parts p.behind,
+      )) notice_from (notice_leaves body left is e);
 }
 
 -- ---- CopyData and CopyDone
@@ -445,7 +536,8 @@ done_row = record {
   some = back.CopyDone;
   is = record { fits = tt; within = omega arith };
   kind_is = refl;
-  leaves = λ body left is e. leaves_at (IsOfBackKind 99) back_fields Nothing body left (λ fs n. (back.CopyDone, record { fits = tt; kind_is = refl }, sym n)) done_from (done_leaves body left e);
+  leaves = λ body left is e. leaves_at (IsOfBackKind 99) back_fields Nothing body left
+      (λ fs n. (back.CopyDone, record { fits = tt; kind_is = refl }, sym n)) done_from (done_leaves body left e);
 }
 
 -- ---- CopyBothResponse
@@ -469,7 +561,8 @@ both_leaves : (body : List ℕ) (left : ℕ) → IsBody body → copy_both_of bo
 unfolding copy_both_of
 both_leaves body left is e =
     leaves_then (field_part byte_field) (λ b. Formats) (λ b fits. some_formats) behind_format body left is
-    (λ format rest fits body parts failed. leaves_last (counted_part (field_part int16_field)) (λ (formats : List ℕ). back.CopyBoth format formats) rest left body failed) e
+    (λ format rest fits body parts failed. leaves_last (counted_part (field_part int16_field))
+    (λ (formats : List ℕ). back.CopyBoth format formats) rest left body failed) e
 
 both_long : AreLong 87 3 MESSAGE_LIMIT
 both_long (back.CopyBoth format formats) e = (omega (arith, length-append (int16 (length formats)) (flat_map int16 formats)), refl)
@@ -479,7 +572,8 @@ both_to : (fs : List (List ℕ)) → FormatThen fs → (m : Back) × IsOfBackKin
 both_to fs p = (
   back.CopyBoth p.value p.behind.value,
   record { fits = (p.fits, p.behind.fits.few, p.behind.fits.each); kind_is = refl },
-  ap (λ (t : List (List ℕ)). (p.value ∷ []) ∷ t) (sym (formats_fields p.behind.value) ∙ all_of p.more (counted_fields (λ n. int16 n ∷ []) p.behind.value) p.behind.more p.behind.parts p.behind.behind) ∙ sym p.parts,
+  ap (λ (t : List (List ℕ)). (p.value ∷ []) ∷ t) (sym (formats_fields p.behind.value)
+      ∙ all_of p.more (counted_fields (λ n. int16 n ∷ []) p.behind.value) p.behind.more p.behind.parts p.behind.behind) ∙ sym p.parts,
 )
 
 both_from : (m : Back) → IsOfBackKind 87 m → FormatThen (back_fields m)
@@ -488,7 +582,8 @@ both_from (back.CopyBoth format formats) is = record {
   fits = is.fits.0;
   more = int16 (length formats) ∷ map int16 formats;
   parts = refl;
-  behind = subst Formats (formats_fields formats) (listed_from (λ n. n < 2 ^ 16) (λ n. int16 n ∷ []) formats (record { few = is.fits.1; each = is.fits.2 }));
+  behind = subst Formats (formats_fields formats) (listed_from (λ n. n < 2 ^ 16) (λ n. int16 n ∷ []) formats
+      (record { few = is.fits.1; each = is.fits.2 }));
 }
 both_from _ is = absurd (omega (arith, is.kind_is))
 
@@ -508,7 +603,8 @@ both_row = record {
 abbrev IsNoKind : ℕ → Type 0
 IsNoKind kind = (m : Back) → back_kind m ≢ kind
 
-kind_fault : (kind : ℕ) (bytes : List ℕ) (f : WireFault) → judge_row None bytes ≡ taken.Wrong f → IsNoKind kind → IsFault phase.Back (kind ∷ bytes) f
+kind_fault : (kind : ℕ) (bytes : List ℕ) (f : WireFault) → judge_row None bytes ≡ taken.Wrong f → IsNoKind kind
+    → IsFault phase.Back (kind ∷ bytes) f
 kind_fault kind bytes f e none =
     let same : fault.Kind 0 ≡ f = cc in
     subst (IsFault phase.Back (kind ∷ bytes)) same (
@@ -521,18 +617,21 @@ kind_fault kind bytes f e none =
     )
 
 -- the row of a type byte
-row_fault : {known least limit : ℕ} {read : List ℕ → Result Back ℕ} (r : IsRow known least limit read) (kind : ℕ) (bytes : List ℕ) (f : WireFault) → IsBytes bytes → AreNone phase.Back (kind ∷ bytes) → kind ≡ known
+row_fault : {known least limit : ℕ} {read : List ℕ → Result Back ℕ} (r : IsRow known least limit read) (kind : ℕ) (bytes : List ℕ)
+    (f : WireFault) → IsBytes bytes → AreNone phase.Back (kind ∷ bytes) → kind ≡ known
     → judge_row (Some (record { least = least; limit = limit; read = read })) bytes ≡ taken.Wrong f → IsFault phase.Back (kind ∷ bytes) f
 row_fault {known} {least} {limit} {read} r kind bytes f fits none same e =
     let at_known : AreNone phase.Back (known ∷ bytes) = subst (λ (k : ℕ). AreNone phase.Back (k ∷ bytes)) same none in
-    let leaves : (body : List ℕ) (left : ℕ) → IsBody body → read body ≡ Err left → LeavesWithin phase.Back known body left = λ body left is failed.
+    let leaves : (body : List ℕ) (left : ℕ) → IsBody body → read body ≡ Err left
+    → LeavesWithin phase.Back known body left = λ body left is failed.
     let l = r.leaves body left is failed in (l, left_short l)
     in
     subst (λ (k : ℕ). IsFault phase.Back (k ∷ bytes) f) (sym same)
     (message_fault (typed known least limit r.below r.long r.some r.is r.kind_is) (λ m. message.Back m) read leaves bytes f fits at_known e)
 
 -- which row it is
-rows : (b : Bool) (x other : Option Row) (bytes : List ℕ) (y : Taken) → judge_row (cond b x other) bytes ≡ y → ((b ≡ true) × (judge_row x bytes ≡ y)) ⊎ ((b ≡ false) × (judge_row other bytes ≡ y))
+rows : (b : Bool) (x other : Option Row) (bytes : List ℕ) (y : Taken) → judge_row (cond b x other) bytes ≡ y
+    → ((b ≡ true) × (judge_row x bytes ≡ y)) ⊎ ((b ≡ false) × (judge_row other bytes ≡ y))
 rows true x other bytes y e = inl (refl, e)
 rows false x other bytes y e = inr (refl, e)
 
@@ -564,7 +663,8 @@ no_kind kind o (back.CopyData bytes) same = o.piece (sym same)
 no_kind kind o back.CopyDone same = o.done (sym same)
 no_kind kind o (back.CopyBoth format formats) same = o.both (sym same)
 
-pub back_fault : (bytes : List ℕ) (f : WireFault) → IsBytes bytes → AreNone phase.Back bytes → judge_back bytes ≡ taken.Wrong f → IsFault phase.Back bytes f
+pub back_fault : (bytes : List ℕ) (f : WireFault) → IsBytes bytes → AreNone phase.Back bytes → judge_back bytes ≡ taken.Wrong f
+    → IsFault phase.Back bytes f
 unfolding judge_back
 back_fault [] f fits none e = absurd cc
 back_fault (kind ∷ bytes) f fits none e =

@@ -11,19 +11,23 @@ use Rattle.repl_wire.specs.Judging.{pairs_at, parameters_of, text_of, nothing_of
 use Rattle.repl_message.proofs.FieldLaws.{IsBytes, IsBytes-rest, bind_ok, ok_is, guard_ended, whole_takes, Takes-then, Takes-all, int32_takes, int32_again, string_takes, string_again}
 use Rattle.repl_wire.proofs.PairLaws.{pairs_take, pairs_again, length-pairs}
 
-pub parameters_take : (body : List ℕ) (ps : List Pair) → IsBytes body → parameters_of body ≡ Ok ps → (body ≡ ended pair ps) × AllByRecursion FitsPair ps
+pub parameters_take : (body : List ℕ) (ps : List Pair) → IsBytes body → parameters_of body ≡ Ok ps → (body ≡ ended pair ps)
+    × AllByRecursion FitsPair ps
 unfolding parameters_of
 parameters_take body ps fits e =
     let a = bind_ok (pairs_at (length body) body) whole ps e in
     let w = whole_takes a.0.0 ps a.0.1 a.2 in
     let t = pairs_take (length body) body a.0 fits a.1 in
-    subst (λ (qs : List Pair). (body ≡ ended pair qs) × AllByRecursion FitsPair qs) w.1 (Takes-all body (ended pair a.0.0) a.0.1 t.0 w.0, t.1)
+    subst (λ (qs : List Pair). (body ≡ ended pair qs) × AllByRecursion FitsPair qs) w.1
+    (Takes-all body (ended pair a.0.0) a.0.1 t.0 w.0, t.1)
 
 pub parameters_again : (ps : List Pair) → AllByRecursion FitsPair ps → parameters_of (ended pair ps) ≡ Ok ps
 unfolding parameters_of
 parameters_again ps fits =
     let enough : length ps < length (ended pair ps) = omega (arith, length-pairs ps, length-append (flat_map pair ps) (0 ∷ [])) in
-    let read : pairs_at (length (ended pair ps)) (ended pair ps) ≡ Ok (ps, []) = ap (pairs_at (length (ended pair ps))) (sym (append-nil (ended pair ps))) ∙ pairs_again (length (ended pair ps)) ps [] enough fits in
+    let read : pairs_at (length (ended pair ps)) (ended pair ps)
+    ≡ Ok (ps, []) = ap (pairs_at (length (ended pair ps))) (sym (append-nil (ended pair ps)))
+    ∙ pairs_again (length (ended pair ps)) ps [] enough fits in
     rw read refl
 
 pub text_takes : (body text : List ℕ) → IsBytes body → text_of body ≡ Ok text → (body ≡ string text) × IsText text
@@ -62,7 +66,8 @@ pub bytes_again : (bytes : List ℕ) → bytes_of bytes ≡ Ok bytes
 unfolding bytes_of
 bytes_again bytes = refl
 
-pub two_numbers_take : (body : List ℕ) (ids : ℕ × ℕ) → IsBytes body → two_numbers_of body ≡ Ok ids → (body ≡ int32 ids.0 ++ int32 ids.1) × (ids.0 < 2 ^ 32) × (ids.1 < 2 ^ 32)
+pub two_numbers_take : (body : List ℕ) (ids : ℕ × ℕ) → IsBytes body → two_numbers_of body ≡ Ok ids → (body ≡ int32 ids.0 ++ int32 ids.1)
+    × (ids.0 < 2 ^ 32) × (ids.1 < 2 ^ 32)
 unfolding two_numbers_of
 two_numbers_take body ids fits e =
     let g = guard_ended (eqb (length body) 8) (length body) (number body, number (drop 4 body)) ids e in
@@ -71,7 +76,8 @@ two_numbers_take body ids fits e =
     let second = int32_takes (drop 4 body) first.0.rest_fits (omega (arith, length-drop 4 body)) in
     let nothing : drop 4 (drop 4 body) ≡ [] = nil_from_length _ (omega (arith, length-drop 4 body, length-drop 4 (drop 4 body))) in
     let both = Takes-then body (int32 (number body)) (drop 4 body) (int32 (number (drop 4 body))) (drop 4 (drop 4 body)) first.0 second.0 in
-    subst (λ (p : ℕ × ℕ). (body ≡ int32 p.0 ++ int32 p.1) × (p.0 < 2 ^ 32) × (p.1 < 2 ^ 32)) g.1 (Takes-all body _ _ both nothing, first.1, second.1)
+    subst (λ (p : ℕ × ℕ). (body ≡ int32 p.0 ++ int32 p.1) × (p.0 < 2 ^ 32) × (p.1 < 2 ^ 32)) g.1
+    (Takes-all body _ _ both nothing, first.1, second.1)
 
 two_numbers_at : (body : List ℕ) (a b : ℕ) → length body ≡ 8 → number body ≡ a → number (drop 4 body) ≡ b → two_numbers_of body ≡ Ok (a, b)
 unfolding two_numbers_of

@@ -26,53 +26,85 @@ use Rattle.repl_wire.proofs.Settled.{judge_more}
 -- ---- a message takes no more than there is
 
 used_within : (r : Result (Option (List ℕ)) WireFault) (read : List ℕ → Taken) (m : Message) (used most : ℕ)
-    → ((body : List ℕ) → r ≡ Ok (Some body) → read body ≡ taken.Whole m used → used ≤ most) → on_frame r read ≡ taken.Whole m used → used ≤ most
+    → ((body : List ℕ) → r ≡ Ok (Some body) → read body ≡ taken.Whole m used → used ≤ most) → on_frame r read ≡ taken.Whole m used
+    → used ≤ most
 used_within (Ok None) read m used most each e = absurd cc
 used_within (Ok (Some body)) read m used most each e = each body refl e
 used_within (Err f) read m used most each e = absurd cc
 
-read_end : {A : Type 0} (make : A → Message) (end : ℕ) (r : Result A ℕ) (m : Message) (used : ℕ) → read_as make end r ≡ taken.Whole m used → end ≡ used
+read_end : {A : Type 0} (make : A → Message) (end : ℕ) (r : Result A ℕ) (m : Message) (used : ℕ) → read_as make end r ≡ taken.Whole m used
+    → end ≡ used
 read_end make end (Ok x) m used e = cc
 read_end make end (Err left) m used e = absurd cc
 
-body_within : (place least limit : ℕ) (bytes body : List ℕ) → frame_of place least limit bytes ≡ Ok (Some body) → 4 ≤ least → length body + 4 ≤ length bytes
+body_within : (place least limit : ℕ) (bytes body : List ℕ) → frame_of place least limit bytes ≡ Ok (Some body) → 4 ≤ least
+    → length body + 4 ≤ length bytes
 body_within place least limit bytes body e low =
     let w = whole_of_body place least limit bytes body e in
     omega (arith, w.0.there, w.0.low, ap length w.1, length-drop 4 (take (number bytes) bytes), length-take (number bytes) bytes)
 
-choice_within : (b : Bool) (x other : Taken) (m : Message) (used most : ℕ) → (x ≡ taken.Whole m used → used ≤ most) → (other ≡ taken.Whole m used → used ≤ most) → cond b x other ≡ taken.Whole m used → used ≤ most
+choice_within : (b : Bool) (x other : Taken) (m : Message) (used most : ℕ) → (x ≡ taken.Whole m used → used ≤ most)
+    → (other ≡ taken.Whole m used → used ≤ most) → cond b x other ≡ taken.Whole m used → used ≤ most
 choice_within true x other m used most f g e = f e
 choice_within false x other m used most f g e = g e
 
-message_within : {A : Type 0} (make : A → Front) (least limit : ℕ) (read : List ℕ → Result A ℕ) (kind : ℕ) (bytes : List ℕ) (m : Message) (used : ℕ) → judge_message make least limit read bytes ≡ taken.Whole m used → used ≤ length (kind ∷ bytes)
+message_within : {A : Type 0} (make : A → Front) (least limit : ℕ) (read : List ℕ → Result A ℕ) (kind : ℕ) (bytes : List ℕ) (m : Message)
+    (used : ℕ) → judge_message make least limit read bytes ≡ taken.Whole m used → used ≤ length (kind ∷ bytes)
 message_within make least limit read kind bytes m used e =
-    used_within (frame_of 1 (least + 4) limit bytes) (λ body. read_as (λ x. message.Front (make x)) (length body + 5) (read body)) m used (length (kind ∷ bytes))
-    (λ body is q. omega (arith, body_within 1 (least + 4) limit bytes body is (omega arith), read_end _ (length body + 5) (read body) m used q)) e
+    used_within (frame_of 1 (least + 4) limit bytes) (λ body. read_as (λ x. message.Front (make x)) (length body + 5) (read body)) m used
+    (length (kind ∷ bytes))
+    (λ body is q. omega (
+      arith,
+      body_within 1 (least + 4) limit bytes body is (omega arith),
+      read_end _ (length body + 5) (read body) m used q,
+    )) e
 
-row_within : (r : Option Row) (kind : ℕ) (bytes : List ℕ) (m : Message) (used : ℕ) → judge_row r bytes ≡ taken.Whole m used → used ≤ length (kind ∷ bytes)
+row_within : (r : Option Row) (kind : ℕ) (bytes : List ℕ) (m : Message) (used : ℕ) → judge_row r bytes ≡ taken.Whole m used
+    → used ≤ length (kind ∷ bytes)
 row_within None kind bytes m used e = absurd cc
 row_within (Some r) kind bytes m used e =
-    used_within (frame_of 1 (r.least + 4) r.limit bytes) (λ body. read_as (λ n. message.Back n) (length body + 5) (r.read body)) m used (length (kind ∷ bytes))
-    (λ body is q. omega (arith, body_within 1 (r.least + 4) r.limit bytes body is (omega arith), read_end _ (length body + 5) (r.read body) m used q)) e
+    used_within (frame_of 1 (r.least + 4) r.limit bytes) (λ body. read_as (λ n. message.Back n) (length body + 5) (r.read body)) m used
+    (length (kind ∷ bytes))
+    (λ body is q. omega (
+      arith,
+      body_within 1 (r.least + 4) r.limit bytes body is (omega arith),
+      read_end _ (length body + 5) (r.read body) m used q,
+    )) e
 
 front_within : (bytes : List ℕ) (m : Message) (used : ℕ) → judge_front bytes ≡ taken.Whole m used → used ≤ length bytes
 unfolding judge_front
 front_within [] m used e = absurd cc
 front_within (kind ∷ bytes) m used e =
-    choice_within (eqb kind 81) _ _ m used _ (message_within (λ (text : List ℕ). front.Query text) 1 MESSAGE_LIMIT text_of kind bytes m used)
-    (choice_within (eqb kind 100) _ _ m used _ (message_within (λ (piece : List ℕ). front.CopyData piece) 0 COPY_DATA_LIMIT bytes_of kind bytes m used)
-    (choice_within (eqb kind 99) _ _ m used _ (message_within (λ (_ : Unit {0}). front.CopyDone) 0 MESSAGE_LIMIT nothing_of kind bytes m used)
-    (choice_within (eqb kind 102) _ _ m used _ (message_within (λ (text : List ℕ). front.CopyFail text) 1 MESSAGE_LIMIT text_of kind bytes m used)
-    (choice_within (eqb kind 88) _ _ m used _ (message_within (λ (_ : Unit {0}). front.Terminate) 0 MESSAGE_LIMIT nothing_of kind bytes m used)
+    choice_within (eqb kind 81) _ _ m used _ (message_within (λ (text : List ℕ). front.Query text) 1 MESSAGE_LIMIT text_of kind bytes m
+    used)
+    (choice_within (eqb kind 100) _ _ m used _ (message_within (λ (piece : List ℕ). front.CopyData piece) 0 COPY_DATA_LIMIT bytes_of kind
+    bytes m used)
+    (choice_within (eqb kind 99) _ _ m used _ (message_within (λ (_ : Unit {0}). front.CopyDone) 0 MESSAGE_LIMIT nothing_of kind bytes m
+    used)
+    (choice_within (eqb kind 102) _ _ m used _ (message_within (λ (text : List ℕ). front.CopyFail text) 1 MESSAGE_LIMIT text_of kind bytes m
+    used)
+    (choice_within (eqb kind 88) _ _ m used _ (message_within (λ (_ : Unit {0}). front.Terminate) 0 MESSAGE_LIMIT nothing_of kind bytes m
+    used)
     (λ q. absurd cc))))) e
 
 packet_within : (body : List ℕ) (m : Message) (used : ℕ) → judge_packet body ≡ taken.Whole m used → used ≤ length body + 4
 unfolding judge_packet
 packet_within body m used e =
-    choice_within (eqb (number body) 196_608) _ _ m used _ (λ q. omega (arith, read_end (λ (pairs : List Pair). message.Startup (startup.Params pairs)) (length body + 4) (parameters_of (drop 4 body)) m used q))
-    (choice_within (eqb (number body) 80_877_102) _ _ m used _ (λ q. omega (arith, read_end (λ (ids : ℕ × ℕ). message.Startup (startup.Cancel ids.0 ids.1)) (length body + 4) (two_numbers_of (drop 4 body)) m used q))
-    (choice_within (eqb (number body) 80_877_103) _ _ m used _ (λ q. omega (arith, read_end (λ (_ : Unit {0}). message.Startup startup.Ssl) (length body + 4) (nothing_of (drop 4 body)) m used q))
-    (choice_within (eqb (number body) 80_877_104) _ _ m used _ (λ q. omega (arith, read_end (λ (_ : Unit {0}). message.Startup startup.Gss) (length body + 4) (nothing_of (drop 4 body)) m used q))
+    choice_within (eqb (number body) 196_608) _ _ m used _ (λ q. omega (
+      arith,
+      read_end (λ (pairs : List Pair). message.Startup (startup.Params pairs)) (length body + 4) (parameters_of (drop 4 body)) m
+          used q,
+    ))
+    (choice_within (eqb (number body) 80_877_102) _ _ m used _
+    (λ q. omega (
+      arith,
+      read_end (λ (ids : ℕ × ℕ). message.Startup (startup.Cancel ids.0 ids.1)) (length body + 4)
+          (two_numbers_of (drop 4 body)) m used q,
+    ))
+    (choice_within (eqb (number body) 80_877_103) _ _ m used _
+    (λ q. omega (arith, read_end (λ (_ : Unit {0}). message.Startup startup.Ssl) (length body + 4) (nothing_of (drop 4 body)) m used q))
+    (choice_within (eqb (number body) 80_877_104) _ _ m used _
+    (λ q. omega (arith, read_end (λ (_ : Unit {0}). message.Startup startup.Gss) (length body + 4) (nothing_of (drop 4 body)) m used q))
     (λ q. absurd cc)))) e
 
 startup_within : (bytes : List ℕ) (m : Message) (used : ℕ) → judge_startup bytes ≡ taken.Whole m used → used ≤ length bytes
@@ -109,13 +141,17 @@ Decides r (m ∷ ms) a = (used : ℕ) × (judge r.phase r.rest ≡ taken.Whole m
 fed_twice : (r : Reading) (x y : List ℕ) → fed (fed r x) y ≡ fed r (x ++ y)
 fed_twice r x y = ap (λ (bytes : List ℕ). record { phase = r.phase; place = r.place; rest = bytes }) (append_assoc r.rest x y)
 
-given_fed : (r : Reading) (m : Message) (used : ℕ) (more : List ℕ) → used ≤ length r.rest → given (fed r more) m used ≡ fed (given r m used) more
-given_fed r m used more within = ap (λ (bytes : List ℕ). record { phase = after r.phase m; place = capped (r.place + used); rest = bytes }) (drop-append-le used r.rest more within)
+given_fed : (r : Reading) (m : Message) (used : ℕ) (more : List ℕ) → used ≤ length r.rest → given (fed r more) m used
+    ≡ fed (given r m used) more
+given_fed r m used more within = ap (λ (bytes : List ℕ). record { phase = after r.phase m; place = capped (r.place + used); rest = bytes })
+    (drop-append-le used r.rest more within)
 
-whole_more : (r : Reading) (m : Message) (used : ℕ) (more : List ℕ) → judge r.phase r.rest ≡ taken.Whole m used → judge r.phase (r.rest ++ more) ≡ taken.Whole m used
+whole_more : (r : Reading) (m : Message) (used : ℕ) (more : List ℕ) → judge r.phase r.rest ≡ taken.Whole m used
+    → judge r.phase (r.rest ++ more) ≡ taken.Whole m used
 whole_more r m used more e = judge_more r.phase r.rest more (rw e tt) ∙ e
 
-wrong_more : (r : Reading) (f : WireFault) (more : List ℕ) → judge r.phase r.rest ≡ taken.Wrong f → judge r.phase (r.rest ++ more) ≡ taken.Wrong f
+wrong_more : (r : Reading) (f : WireFault) (more : List ℕ) → judge r.phase r.rest ≡ taken.Wrong f → judge r.phase (r.rest ++ more)
+    ≡ taken.Wrong f
 wrong_more r f more e = judge_more r.phase r.rest more (rw e tt) ∙ e
 
 stops_decides : (r : Reading) (unfed : List ℕ) (a : Step) → Stops r unfed a → Ends (fed r unfed) a
@@ -131,8 +167,11 @@ run_decides r (Fed piece ∷ events) last unfed a runs stops =
     let others = run_decides (fed r piece) events last unfed a runs.1 stops in
     rw (append_assoc, ← fed_twice r piece (bytes_fed events ++ unfed)) others
 run_decides r (Given m ∷ events) last unfed a runs stops =
-    let others = run_decides (given r m runs.0) events last unfed a runs.2 stops in
-    (runs.0, whole_more r m runs.0 (bytes_fed events ++ unfed) runs.1, rw (given_fed r m runs.0 (bytes_fed events ++ unfed) (judge_within r.phase r.rest m runs.0 runs.1)) others)
+    let others = run_decides (given r m runs.0) events last unfed a runs.2 stops in (
+      runs.0,
+      whole_more r m runs.0 (bytes_fed events ++ unfed) runs.1,
+      rw (given_fed r m runs.0 (bytes_fed events ++ unfed) (judge_within r.phase r.rest m runs.0 runs.1)) others,
+    )
 
 stream_decides : (r : Reading) (stream : List ℕ) (ms : List Message) (a : Step) → ReadsStream r stream ms a → Decides (fed r stream) ms a
 stream_decides r stream ms a s = rw (s.parts, s.given) (run_decides r s.events s.last s.unfed a s.runs s.stops)
@@ -169,5 +208,6 @@ decides_one r (m ∷ ms) (n ∷ ns) a b x y =
     let others = decides_one (given r m x.0) ms ns a b x.2 (rw (message_is, used_is) y.2) in
     (rw (message_is, others.0) refl, others.1)
 
-pub cuts_one : (r : Reading) (stream : List ℕ) (ms ns : List Message) (a b : Step) → ReadsStream r stream ms a → ReadsStream r stream ns b → (ms ≡ ns) × (a ≡ b)
+pub cuts_one : (r : Reading) (stream : List ℕ) (ms ns : List Message) (a b : Step) → ReadsStream r stream ms a → ReadsStream r stream ns b
+    → (ms ≡ ns) × (a ≡ b)
 cuts_one r stream ms ns a b x y = decides_one (fed r stream) ms ns a b (stream_decides r stream ms a x) (stream_decides r stream ns b y)

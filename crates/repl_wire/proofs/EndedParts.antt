@@ -25,18 +25,25 @@ abbrev IsMarkedBy : {A : Type 0} → (A → Type 0) → (A → List (List ℕ)) 
 IsMarkedBy {A} Fits fields = (x : A) (more others : List (List ℕ)) → Fits x → fields x ++ more ≢ (0 ∷ []) ∷ others
 
 abbrev IsToldBy : {A : Type 0} → (A → Type 0) → (A → List (List ℕ)) → Type 0
-IsToldBy {A} Fits fields = (x y : A) (more others : List (List ℕ)) → Fits x → Fits y → fields x ++ more ≡ fields y ++ others → (x ≡ y) × (more ≡ others)
+IsToldBy {A} Fits fields = (x y : A) (more others : List (List ℕ)) → Fits x → Fits y → fields x ++ more ≡ fields y ++ others → (x ≡ y)
+    × (more ≡ others)
 
-ended_cons : {A : Type 0} (fields : A → List (List ℕ)) (x : A) (xs : List A) (more : List (List ℕ)) → ended_fields fields (x ∷ xs) ++ more ≡ fields x ++ (ended_fields fields xs ++ more)
-ended_cons fields x xs more = ap (λ (t : List (List ℕ)). t ++ more) (append_assoc (fields x) (flat_map fields xs) ((0 ∷ []) ∷ [])) ∙ append_assoc (fields x) (ended_fields fields xs) more
+ended_cons : {A : Type 0} (fields : A → List (List ℕ)) (x : A) (xs : List A) (more : List (List ℕ)) → ended_fields fields (x ∷ xs) ++ more
+    ≡ fields x ++ (ended_fields fields xs ++ more)
+ended_cons fields x xs more = ap (λ (t : List (List ℕ)). t ++ more) (append_assoc (fields x) (flat_map fields xs) ((0 ∷ []) ∷ []))
+    ∙ append_assoc (fields x) (ended_fields fields xs) more
 
-ended_one : {A : Type 0} (Fits : A → Type 0) (fields : A → List (List ℕ)) → IsToldBy Fits fields → IsMarkedBy Fits fields → (xs ys : List A) (more others : List (List ℕ)) → AllByRecursion Fits xs → AllByRecursion Fits ys
+ended_one : {A : Type 0} (Fits : A → Type 0) (fields : A → List (List ℕ)) → IsToldBy Fits fields → IsMarkedBy Fits fields
+    → (xs ys : List A) (more others : List (List ℕ)) → AllByRecursion Fits xs → AllByRecursion Fits ys
     → ended_fields fields xs ++ more ≡ ended_fields fields ys ++ others → (xs ≡ ys) × (more ≡ others)
 ended_one Fits fields told marked [] [] more others xs_fit ys_fit e = (refl, cc)
-ended_one Fits fields told marked [] (y ∷ ys) more others xs_fit ys_fit e = absurd (marked y (ended_fields fields ys ++ others) more ys_fit.0 (sym (e ∙ ended_cons fields y ys others)))
-ended_one Fits fields told marked (x ∷ xs) [] more others xs_fit ys_fit e = absurd (marked x (ended_fields fields xs ++ more) others xs_fit.0 (sym (ended_cons fields x xs more) ∙ e))
+ended_one Fits fields told marked [] (y ∷ ys) more others xs_fit ys_fit e =
+    absurd (marked y (ended_fields fields ys ++ others) more ys_fit.0 (sym (e ∙ ended_cons fields y ys others)))
+ended_one Fits fields told marked (x ∷ xs) [] more others xs_fit ys_fit e =
+    absurd (marked x (ended_fields fields xs ++ more) others xs_fit.0 (sym (ended_cons fields x xs more) ∙ e))
 ended_one {A} Fits fields told marked (x ∷ xs) (y ∷ ys) more others xs_fit ys_fit e =
-    let first = told x y (ended_fields fields xs ++ more) (ended_fields fields ys ++ others) xs_fit.0 ys_fit.0 (sym (ended_cons fields x xs more) ∙ e ∙ ended_cons fields y ys others) in
+    let first = told x y (ended_fields fields xs ++ more) (ended_fields fields ys ++ others) xs_fit.0 ys_fit.0
+    (sym (ended_cons fields x xs more) ∙ e ∙ ended_cons fields y ys others) in
     let rest = ended_one Fits fields told marked xs ys more others xs_fit.1 ys_fit.1 first.1 in
     let head = first.0 in
     let tail = rest.0 in
@@ -44,7 +51,12 @@ ended_one {A} Fits fields told marked (x ∷ xs) (y ∷ ys) more others xs_fit y
 
 -- the end is there
 ended_some : {A : Type 0} (fields : A → List (List ℕ)) (xs : List A) (more : List (List ℕ)) → [] ≢ ended_fields fields xs ++ more
-ended_some fields xs more e = omega (arith, ap length e, length-append (ended_fields fields xs) more, length-append (flat_map fields xs) ((0 ∷ []) ∷ []))
+ended_some fields xs more e = omega (
+  arith,
+  ap length e,
+  length-append (ended_fields fields xs) more,
+  length-append (flat_map fields xs) ((0 ∷ []) ∷ []),
+)
 
 -- the step behind a reader that cannot fail did not fail
 step_failed : {A B : Type 0} (r : Result A ℕ) (make : A → B) (left : ℕ) → (r >>= λ x. Ok (make x)) ≡ Err left → r ≡ Err left
@@ -73,15 +85,18 @@ pairs_marked : IsMarkedBy FitsPair pair_fields
 pairs_marked p more others fits e = string_marked p.name (string p.value ∷ more) others fits.named e
 
 -- the field that stands first is a string
-first_string : (ps : List Pair) (field : List ℕ) (more others : List (List ℕ)) → AllByRecursion FitsPair ps → field ∷ more ≡ ended_fields pair_fields ps ++ others → (t : List ℕ) × IsText t × (field ≡ string t)
+first_string : (ps : List Pair) (field : List ℕ) (more others : List (List ℕ)) → AllByRecursion FitsPair ps → field ∷ more
+    ≡ ended_fields pair_fields ps ++ others → (t : List ℕ) × IsText t × (field ≡ string t)
 first_string [] field more others fits e = ([], All-nil (λ (b : ℕ). (0 < b) × (b < 256)), cc)
 first_string (p ∷ ps) field more others fits e = (p.name, fits.0.name, cc)
 
 -- where no string stands, no pair and no end stands
-pairs_here : (K : List Pair → Language) → HasSome (K []) → (bytes : List ℕ) (left : ℕ) → length bytes ≡ left → ((t : List ℕ) (behind : List ℕ) → IsText t → bytes ≢ string t ++ behind) → Leaves (Pairs K) bytes left
+pairs_here : (K : List Pair → Language) → HasSome (K []) → (bytes : List ℕ) (left : ℕ) → length bytes ≡ left
+    → ((t : List ℕ) (behind : List ℕ) → IsText t → bytes ≢ string t ++ behind) → Leaves (Pairs K) bytes left
 pairs_here K some bytes left size none =
     leaves_here (Pairs K) bytes left size (some_parted (ended_fields pair_fields) K [] tt some)
-    (λ field more behind p b. let t = first_string p.value field more p.more p.fits p.parts in none t.0 behind t.1 (b ∙ ap (λ (s : List ℕ). s ++ behind) t.2))
+    (λ field more behind p b. let t = first_string p.value field more p.more p.fits p.parts in
+    none t.0 behind t.1 (b ∙ ap (λ (s : List ℕ). s ++ behind) t.2))
     (λ p. absurd (ended_some pair_fields p.value p.more p.parts))
 
 no_string : (bytes t behind : List ℕ) → bytes ≡ [] → bytes ≢ string t ++ behind
@@ -91,7 +106,8 @@ no_string bytes t behind none e = omega (arith, ap length (sym none ∙ e), leng
 abbrev Valued : (List Pair → Language) → List ℕ → List ℕ → Language
 Valued K name value = Pairs (λ ps. K (record { name = name; value = value } ∷ ps))
 
-pairs_to : (K : List Pair → Language) (name : List ℕ) → 0 < length name → IsText name → (fs : List (List ℕ)) → IsParted IsText (λ t. string t ∷ []) (Valued K name) fs → Pairs K (string name ∷ fs)
+pairs_to : (K : List Pair → Language) (name : List ℕ) → 0 < length name → IsText name → (fs : List (List ℕ))
+    → IsParted IsText (λ t. string t ∷ []) (Valued K name) fs → Pairs K (string name ∷ fs)
 pairs_to K name named fits fs p = record {
   value = record { name = name; value = p.value } ∷ p.behind.value;
   fits = (record { named = named; name = fits; value = p.fits }, p.behind.fits);
@@ -100,7 +116,9 @@ pairs_to K name named fits fs p = record {
   behind = p.behind.behind;
 }
 
-pairs_from : (K : List Pair → Language) (name : List ℕ) → 0 < length name → IsText name → (fs : List (List ℕ)) (ps : List Pair) (more : List (List ℕ)) → AllByRecursion FitsPair ps → string name ∷ fs ≡ ended_fields pair_fields ps ++ more → K ps more
+pairs_from : (K : List Pair → Language) (name : List ℕ) → 0 < length name → IsText name
+    → (fs : List (List ℕ)) (ps : List Pair) (more : List (List ℕ)) → AllByRecursion FitsPair ps → string name ∷ fs
+    ≡ ended_fields pair_fields ps ++ more → K ps more
     → IsParted IsText (λ t. string t ∷ []) (Valued K name) fs
 pairs_from K name named fits fs [] more are parts k = absurd (string_marked name fs more named parts)
 pairs_from K name named fits fs (p ∷ ps) more are parts k =
@@ -111,10 +129,17 @@ pairs_from K name named fits fs (p ∷ ps) more are parts k =
       fits = are.0.value;
       more = ended_fields pair_fields ps ++ more;
       parts = cc;
-      behind = record { value = ps; fits = are.1; more = more; parts = refl; behind = subst (λ (n : List ℕ). K (record { name = n; value = p.value } ∷ ps) more) same k };
+      behind = record {
+        value = ps;
+        fits = are.1;
+        more = more;
+        parts = refl;
+        behind = subst (λ (n : List ℕ). K (record { name = n; value = p.value } ∷ ps) more) same k;
+      };
     }
 
-pairs_leave : (turns : ℕ) (K : List Pair → List (List ℕ) → Type 0) → ((ps : List Pair) → AllByRecursion FitsPair ps → HasSome (K ps)) → (bytes : List ℕ) (left : ℕ) → length bytes ≤ turns → IsBody bytes → pairs_at turns bytes ≡ Err left → Leaves (Pairs K) bytes left
+pairs_leave : (turns : ℕ) (K : List Pair → List (List ℕ) → Type 0) → ((ps : List Pair) → AllByRecursion FitsPair ps → HasSome (K ps))
+    → (bytes : List ℕ) (left : ℕ) → length bytes ≤ turns → IsBody bytes → pairs_at turns bytes ≡ Err left → Leaves (Pairs K) bytes left
 unfolding pairs_at
 pairs_leave zero K some bytes left long is e =
     let none = nil_from_length bytes (omega arith) in
@@ -129,16 +154,29 @@ pairs_leave (suc turns) K some (suc b ∷ bytes) left long is e =
       | inr a ↦
           let name = text_field.takes (suc b ∷ bytes) a.0.0 a.0.1 is a.1 in
           let named = string_first b bytes a.0.0 a.0.1 a.1 in
-          let some_behind : (v : List ℕ) → IsText v → (ps : List Pair) → AllByRecursion FitsPair ps → HasSome (K (record { name = a.0.0; value = v } ∷ ps)) = λ v fits ps are.
+          let some_behind : (v : List ℕ) → IsText v → (ps : List Pair) → AllByRecursion FitsPair ps
+          → HasSome (K (record { name = a.0.0; value = v } ∷ ps)) = λ v fits ps are.
           some (record { name = a.0.0; value = v } ∷ ps) (record { named = named; name = name.2; value = fits }, are)
           in
-          let goes_on : (v : List ℕ) → IsText v → HasSome (Valued K a.0.0 v) = λ v fits. some_parted (ended_fields pair_fields) (λ ps. K (record { name = a.0.0; value = v } ∷ ps)) [] tt (some_behind v fits [] tt) in
+          let goes_on : (v : List ℕ) → IsText v → HasSome (Valued K a.0.0 v) =
+          λ v fits. some_parted (ended_fields pair_fields) (λ ps. K (record { name = a.0.0; value = v } ∷ ps)) [] tt
+          (some_behind v fits [] tt) in
           leaves_behind (Pairs K) (string a.0.0) (suc b ∷ bytes) a.0.1 left name.0
-          (leaves_as (IsParted IsText (λ t. string t ∷ []) (Valued K a.0.0)) (λ fs. Pairs K (string a.0.0 ∷ fs)) a.0.1 left (pairs_to K a.0.0 named name.2)
+          (leaves_as (IsParted IsText (λ t. string t ∷ []) (Valued K a.0.0)) (λ fs. Pairs K (string a.0.0 ∷ fs)) a.0.1 left
+          (pairs_to K a.0.0 named name.2)
           (λ fs p. pairs_from K a.0.0 named name.2 fs p.value p.more p.fits p.parts p.behind)
           (leaves_then (field_part text_field) (Valued K a.0.0) goes_on (after_value turns a.0.0) a.0.1 left name.1
-          (λ v rest fits body parts failed. pairs_leave turns (λ ps. K (record { name = a.0.0; value = v } ∷ ps)) (some_behind v fits) rest left
-          (omega (arith, long, ap length name.0, length-append (string a.0.0) a.0.1, length-append a.0.0 (0 ∷ []), ap length parts, length-append (concat (string v ∷ [])) rest)) body (step_failed (pairs_at turns rest) _ left failed)) a.2))
+          (λ v rest fits body parts failed. pairs_leave turns (λ ps. K (record { name = a.0.0; value = v } ∷ ps)) (some_behind v fits) rest
+          left
+          (omega (
+            arith,
+            long,
+            ap length name.0,
+            length-append (string a.0.0) a.0.1,
+            length-append a.0.0 (0 ∷ []),
+            ap length parts,
+            length-append (concat (string v ∷ [])) rest,
+          )) body (step_failed (pairs_at turns rest) _ left failed)) a.2))
     ]
 
 pub pairs_part : IsPart (AllByRecursion FitsPair) (ended_fields pair_fields) (λ bytes. pairs_at (length bytes) bytes)
@@ -171,21 +209,25 @@ coded_marked f more others fits e =
     omega (arith, fits.coded, code)
 
 -- the field that stands first is a byte
-first_byte : (xs : List ErrorField) (field : List ℕ) (more others : List (List ℕ)) → field ∷ more ≡ ended_fields coded_fields xs ++ others → (b : ℕ) × (field ≡ b ∷ [])
+first_byte : (xs : List ErrorField) (field : List ℕ) (more others : List (List ℕ)) → field ∷ more ≡ ended_fields coded_fields xs ++ others
+    → (b : ℕ) × (field ≡ b ∷ [])
 first_byte [] field more others e = (0, cc)
 first_byte (f ∷ fs) field more others e = (f.code, cc)
 
-coded_here : (K : List ErrorField → Language) → HasSome (K []) → (bytes : List ℕ) (left : ℕ) → length bytes ≡ left → bytes ≡ [] → Leaves (Coded K) bytes left
+coded_here : (K : List ErrorField → Language) → HasSome (K []) → (bytes : List ℕ) (left : ℕ) → length bytes ≡ left → bytes ≡ []
+    → Leaves (Coded K) bytes left
 coded_here K some bytes left size none =
     leaves_here (Coded K) bytes left size (some_parted (ended_fields coded_fields) K [] tt some)
-    (λ field more behind p b. let t = first_byte p.value field more p.more p.parts in absurd (let first = t.1 in let all : [] ≡ (t.0 ∷ []) ++ behind = sym none ∙ b ∙ ap (λ (s : List ℕ). s ++ behind) first in cc))
+    (λ field more behind p b. let t = first_byte p.value field more p.more p.parts in
+    absurd (let first = t.1 in let all : [] ≡ (t.0 ∷ []) ++ behind = sym none ∙ b ∙ ap (λ (s : List ℕ). s ++ behind) first in cc))
     (λ p. absurd (ended_some coded_fields p.value p.more p.parts))
 
 -- behind a code
 abbrev Texted : (List ErrorField → Language) → ℕ → List ℕ → Language
 Texted K code text = Coded (λ xs. K (record { code = code; text = text } ∷ xs))
 
-coded_to : (K : List ErrorField → Language) (code : ℕ) → 0 < code → code < 256 → (fs : List (List ℕ)) → IsParted IsText (λ t. string t ∷ []) (Texted K code) fs → Coded K ((code ∷ []) ∷ fs)
+coded_to : (K : List ErrorField → Language) (code : ℕ) → 0 < code → code < 256 → (fs : List (List ℕ))
+    → IsParted IsText (λ t. string t ∷ []) (Texted K code) fs → Coded K ((code ∷ []) ∷ fs)
 coded_to K code coded below fs p = record {
   value = record { code = code; text = p.value } ∷ p.behind.value;
   fits = (record { coded = coded; code = below; text = p.fits }, p.behind.fits);
@@ -194,7 +236,8 @@ coded_to K code coded below fs p = record {
   behind = p.behind.behind;
 }
 
-coded_from : (K : List ErrorField → Language) (code : ℕ) → 0 < code → (fs : List (List ℕ)) (xs : List ErrorField) (more : List (List ℕ)) → AllByRecursion FitsErrorField xs → (code ∷ []) ∷ fs ≡ ended_fields coded_fields xs ++ more → K xs more
+coded_from : (K : List ErrorField → Language) (code : ℕ) → 0 < code → (fs : List (List ℕ)) (xs : List ErrorField) (more : List (List ℕ))
+    → AllByRecursion FitsErrorField xs → (code ∷ []) ∷ fs ≡ ended_fields coded_fields xs ++ more → K xs more
     → IsParted IsText (λ t. string t ∷ []) (Texted K code) fs
 coded_from K code coded fs [] more are parts k = absurd (let none : code ≡ 0 = cc in omega (arith, coded, none))
 coded_from K code coded fs (f ∷ xs) more are parts k =
@@ -204,7 +247,13 @@ coded_from K code coded fs (f ∷ xs) more are parts k =
       fits = are.0.text;
       more = ended_fields coded_fields xs ++ more;
       parts = cc;
-      behind = record { value = xs; fits = are.1; more = more; parts = refl; behind = subst (λ (c : ℕ). K (record { code = c; text = f.text } ∷ xs) more) same k };
+      behind = record {
+        value = xs;
+        fits = are.1;
+        more = more;
+        parts = refl;
+        behind = subst (λ (c : ℕ). K (record { code = c; text = f.text } ∷ xs) more) same k;
+      };
     }
 
 abbrev after_coded : ℕ → List ℕ → List ErrorField × List ℕ → Result (List ErrorField × List ℕ) ℕ
@@ -213,7 +262,9 @@ after_coded code text others = Ok (record { code = code; text = text } ∷ other
 abbrev after_text : ℕ → ℕ → List ℕ × List ℕ → Result (List ErrorField × List ℕ) ℕ
 after_text turns code text = coded_at turns text.1 >>= after_coded code text.0
 
-coded_leave : (turns : ℕ) (K : List ErrorField → List (List ℕ) → Type 0) → ((xs : List ErrorField) → AllByRecursion FitsErrorField xs → HasSome (K xs)) → (bytes : List ℕ) (left : ℕ) → length bytes ≤ turns → IsBody bytes → coded_at turns bytes ≡ Err left → Leaves (Coded K) bytes left
+coded_leave : (turns : ℕ) (K : List ErrorField → List (List ℕ) → Type 0)
+    → ((xs : List ErrorField) → AllByRecursion FitsErrorField xs → HasSome (K xs)) → (bytes : List ℕ) (left : ℕ) → length bytes ≤ turns
+    → IsBody bytes → coded_at turns bytes ≡ Err left → Leaves (Coded K) bytes left
 unfolding coded_at
 coded_leave zero K some bytes left long is e = coded_here K (some [] tt) bytes left (cc) (nil_from_length bytes (omega arith))
 coded_leave (suc turns) K some [] left long is e = coded_here K (some [] tt) [] left (cc) refl
@@ -222,16 +273,21 @@ coded_leave (suc turns) K some (suc c ∷ bytes) left long is e =
     let code = suc c in
     let below : code < 256 = is.fits 0 in
     let body : IsBody bytes = IsBody-rest (code ∷ bytes) (code ∷ []) bytes is refl (IsBytes-rest code bytes is.fits) in
-    let some_behind : (t : List ℕ) → IsText t → (xs : List ErrorField) → AllByRecursion FitsErrorField xs → HasSome (K (record { code = code; text = t } ∷ xs)) = λ t fits xs are.
+    let some_behind : (t : List ℕ) → IsText t → (xs : List ErrorField) → AllByRecursion FitsErrorField xs
+    → HasSome (K (record { code = code; text = t } ∷ xs)) = λ t fits xs are.
     some (record { code = code; text = t } ∷ xs) (record { coded = omega arith; code = below; text = fits }, are)
     in
-    let goes_on : (t : List ℕ) → IsText t → HasSome (Texted K code t) = λ t fits. some_parted (ended_fields coded_fields) (λ xs. K (record { code = code; text = t } ∷ xs)) [] tt (some_behind t fits [] tt) in
+    let goes_on : (t : List ℕ) → IsText t → HasSome (Texted K code t) =
+    λ t fits. some_parted (ended_fields coded_fields) (λ xs. K (record { code = code; text = t } ∷ xs)) [] tt (some_behind t fits [] tt)
+    in
     leaves_behind (Coded K) (code ∷ []) (code ∷ bytes) bytes left refl
-    (leaves_as (IsParted IsText (λ t. string t ∷ []) (Texted K code)) (λ fs. Coded K ((code ∷ []) ∷ fs)) bytes left (coded_to K code (omega arith) below)
+    (leaves_as (IsParted IsText (λ t. string t ∷ []) (Texted K code)) (λ fs. Coded K ((code ∷ []) ∷ fs)) bytes left
+    (coded_to K code (omega arith) below)
     (λ fs p. coded_from K code (omega arith) fs p.value p.more p.fits p.parts p.behind)
     (leaves_then (field_part text_field) (Texted K code) goes_on (after_text turns code) bytes left body
     (λ t rest fits shorter parts failed. coded_leave turns (λ xs. K (record { code = code; text = t } ∷ xs)) (some_behind t fits) rest left
-    (omega (arith, long, ap length parts, length-append (concat (string t ∷ [])) rest)) shorter (step_failed (coded_at turns rest) _ left failed)) e))
+    (omega (arith, long, ap length parts, length-append (concat (string t ∷ [])) rest)) shorter
+    (step_failed (coded_at turns rest) _ left failed)) e))
 
 abbrev AreCodedFrom : List ℕ → List ErrorField × List ℕ → Type 0
 AreCodedFrom bytes x = (bytes ≡ concat (ended_fields coded_fields x.0) ++ x.1) × IsBody x.1 × AllByRecursion FitsErrorField x.0
@@ -240,7 +296,8 @@ coded_take : (turns : ℕ) (bytes : List ℕ) (x : List ErrorField × List ℕ) 
 unfolding coded_at
 coded_take zero bytes x is e = absurd cc
 coded_take (suc turns) [] x is e = absurd cc
-coded_take (suc turns) (zero ∷ bytes) x is e = subst (AreCodedFrom (0 ∷ bytes)) {x = ([], bytes)} (ok_is ([], bytes) x e) (refl, IsBody-rest (0 ∷ bytes) (0 ∷ []) bytes is refl (IsBytes-rest 0 bytes is.fits), tt)
+coded_take (suc turns) (zero ∷ bytes) x is e = subst (AreCodedFrom (0 ∷ bytes)) {x = ([], bytes)} (ok_is ([], bytes) x e)
+    (refl, IsBody-rest (0 ∷ bytes) (0 ∷ []) bytes is refl (IsBytes-rest 0 bytes is.fits), tt)
 coded_take (suc turns) (suc c ∷ bytes) x is e =
     let code = suc c in
     let body : IsBody bytes = IsBody-rest (code ∷ bytes) (code ∷ []) bytes is refl (IsBytes-rest code bytes is.fits) in
@@ -249,9 +306,11 @@ coded_take (suc turns) (suc c ∷ bytes) x is e =
     let text = text_field.takes bytes a.0.0 a.0.1 body a.1 in
     let others = coded_take turns a.0.1 o.0 text.1 o.1 in
     let behind : bytes ≡ (string a.0.0 ++ concat (ended_fields coded_fields o.0.0)) ++ o.0.1 =
-    text.0 ∙ ap (λ (t : List ℕ). string a.0.0 ++ t) others.0 ∙ sym (append_assoc (string a.0.0) (concat (ended_fields coded_fields o.0.0)) o.0.1)
+    text.0 ∙ ap (λ (t : List ℕ). string a.0.0 ++ t) others.0
+    ∙ sym (append_assoc (string a.0.0) (concat (ended_fields coded_fields o.0.0)) o.0.1)
     in
-    subst (AreCodedFrom (code ∷ bytes)) {x = (record { code = code; text = a.0.0 } ∷ o.0.0, o.0.1)} (ok_is (record { code = code; text = a.0.0 } ∷ o.0.0, o.0.1) x o.2)
+    subst (AreCodedFrom (code ∷ bytes)) {x = (record { code = code; text = a.0.0 } ∷ o.0.0, o.0.1)}
+    (ok_is (record { code = code; text = a.0.0 } ∷ o.0.0, o.0.1) x o.2)
     (ap (λ (t : List ℕ). code ∷ t) behind, others.1, (record { coded = omega arith; code = is.fits 0; text = text.2 }, others.2))
 
 pub coded_part : IsPart (AllByRecursion FitsErrorField) (ended_fields coded_fields) (λ bytes. coded_at (length bytes) bytes)

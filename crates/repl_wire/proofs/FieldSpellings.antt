@@ -26,18 +26,22 @@ concat-append [] ys = refl
 concat-append (x ∷ xs) ys = ap (λ (t : List ℕ). x ++ t) (concat-append xs ys) ∙ sym (append_assoc x (concat xs) (concat ys))
 
 -- entries whose fields spell them
-pub concat-entries : {A : Type 0} (fields : A → List (List ℕ)) (entry : A → List ℕ) → ((x : A) → entry x ≡ concat (fields x)) → (xs : List A) → flat_map entry xs ≡ concat (flat_map fields xs)
+pub concat-entries : {A : Type 0} (fields : A → List (List ℕ)) (entry : A → List ℕ) → ((x : A) → entry x ≡ concat (fields x))
+    → (xs : List A) → flat_map entry xs ≡ concat (flat_map fields xs)
 concat-entries fields entry each [] = refl
 concat-entries fields entry each (x ∷ xs) =
-    ap (λ (t : List ℕ). t ++ flat_map entry xs) (each x) ∙ ap (λ (t : List ℕ). concat (fields x) ++ t) (concat-entries fields entry each xs) ∙ sym (concat-append (fields x) (flat_map fields xs))
+    ap (λ (t : List ℕ). t ++ flat_map entry xs) (each x) ∙ ap (λ (t : List ℕ). concat (fields x) ++ t) (concat-entries fields entry each xs)
+    ∙ sym (concat-append (fields x) (flat_map fields xs))
 
 pub concat-map : {A : Type 0} (entry : A → List ℕ) (xs : List A) → flat_map entry xs ≡ concat (map entry xs)
 concat-map entry [] = refl
 concat-map entry (x ∷ xs) = ap (λ (t : List ℕ). entry x ++ t) (concat-map entry xs)
 
 -- up to a zero byte
-pub concat-ended : {A : Type 0} (fields : A → List (List ℕ)) (entry : A → List ℕ) → ((x : A) → entry x ≡ concat (fields x)) → (xs : List A) → ended entry xs ≡ concat (flat_map fields xs ++ (0 ∷ []) ∷ [])
-concat-ended fields entry each xs = ap (λ (t : List ℕ). t ++ 0 ∷ []) (concat-entries fields entry each xs) ∙ sym (concat-append (flat_map fields xs) ((0 ∷ []) ∷ []))
+pub concat-ended : {A : Type 0} (fields : A → List (List ℕ)) (entry : A → List ℕ) → ((x : A) → entry x ≡ concat (fields x)) → (xs : List A)
+    → ended entry xs ≡ concat (flat_map fields xs ++ (0 ∷ []) ∷ [])
+concat-ended fields entry each xs = ap (λ (t : List ℕ). t ++ 0 ∷ []) (concat-entries fields entry each xs)
+    ∙ sym (concat-append (flat_map fields xs) ((0 ∷ []) ∷ []))
 
 pub pair_is : (p : Pair) → pair p ≡ concat (pair_fields p)
 pair_is p = ap (λ (t : List ℕ). string p.name ++ t) (sym (append-nil (string p.value)))
@@ -68,7 +72,8 @@ back_spell back.AuthenticationOk = refl
 back_spell (back.ParameterStatus name value) = ap (λ (t : List ℕ). string name ++ t) (sym (append-nil (string value)))
 back_spell (back.BackendKeyData pid key) = refl
 back_spell (back.ReadyForQuery status) = refl
-back_spell (back.RowDescription fields) = ap (λ (t : List ℕ). int16 (length fields) ++ t) (concat-entries description_fields field description_is fields)
+back_spell (back.RowDescription fields) = ap (λ (t : List ℕ). int16 (length fields) ++ t)
+    (concat-entries description_fields field description_is fields)
 back_spell (back.DataRow columns) = ap (λ (t : List ℕ). int16 (length columns) ++ t) (concat-map column columns)
 back_spell (back.CommandComplete tag) = sym (append-nil (string tag))
 back_spell (back.ErrorResponse fields) = concat-ended coded_fields error_field coded_is fields
@@ -79,10 +84,14 @@ back_spell (back.CopyBoth format formats) = ap (λ (t : List ℕ). format ∷ in
 
 -- ---- messages
 
-spellings_one : (p : Phase) (m n : Message) (x y : List ℕ) → Belongs p m → Belongs p n → spelling m ++ x ≡ spelling n ++ y → (m ≡ n) × (x ≡ y)
-spellings_one phase.Startup (message.Startup m) (message.Startup n) x y m_is n_is e = let t = startups_one m n x y m_is n_is e in (ap message.Startup t.0, t.1)
-spellings_one phase.Front (message.Front m) (message.Front n) x y m_is n_is e = let t = fronts_one m n x y m_is n_is e in (ap message.Front t.0, t.1)
-spellings_one phase.Back (message.Back m) (message.Back n) x y m_is n_is e = let t = backs_one m n x y m_is n_is e in (ap message.Back t.0, t.1)
+spellings_one : (p : Phase) (m n : Message) (x y : List ℕ) → Belongs p m → Belongs p n → spelling m ++ x ≡ spelling n ++ y → (m ≡ n)
+    × (x ≡ y)
+spellings_one phase.Startup (message.Startup m) (message.Startup n) x y m_is n_is e = let t = startups_one m n x y m_is n_is e in
+    (ap message.Startup t.0, t.1)
+spellings_one phase.Front (message.Front m) (message.Front n) x y m_is n_is e = let t = fronts_one m n x y m_is n_is e in
+    (ap message.Front t.0, t.1)
+spellings_one phase.Back (message.Back m) (message.Back n) x y m_is n_is e = let t = backs_one m n x y m_is n_is e in
+    (ap message.Back t.0, t.1)
 spellings_one phase.Startup (message.Startup m) (message.Front n) x y m_is n_is e = absurd n_is
 spellings_one phase.Startup (message.Startup m) (message.Back n) x y m_is n_is e = absurd n_is
 spellings_one phase.Startup (message.Front m) n x y m_is n_is e = absurd m_is

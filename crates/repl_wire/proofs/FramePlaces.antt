@@ -17,13 +17,15 @@ use Rattle.repl_wire.proofs.Frames.{IsFrame}
 use Rattle.repl_wire.proofs.Leaving.{IsBody}
 
 -- a frame is refused at its length, or its body is
-pub frame_wrong : (r : Result (Option (List ℕ)) WireFault) (read : List ℕ → Taken) (f : WireFault) → on_frame r read ≡ taken.Wrong f → (r ≡ Err f) ⊎ ((body : List ℕ) × (r ≡ Ok (Some body)) × (read body ≡ taken.Wrong f))
+pub frame_wrong : (r : Result (Option (List ℕ)) WireFault) (read : List ℕ → Taken) (f : WireFault) → on_frame r read ≡ taken.Wrong f
+    → (r ≡ Err f) ⊎ ((body : List ℕ) × (r ≡ Ok (Some body)) × (read body ≡ taken.Wrong f))
 frame_wrong (Ok None) read f e = absurd cc
 frame_wrong (Ok (Some body)) read f e = inr (body, refl, e)
 frame_wrong (Err g) read f e = inl (cc)
 
 -- a body that is not read is left somewhere
-pub read_wrong : {A : Type 0} (make : A → Message) (end : ℕ) (r : Result A ℕ) (f : WireFault) → read_as make end r ≡ taken.Wrong f → (left : ℕ) × (r ≡ Err left) × (f ≡ fault.Body (end - left))
+pub read_wrong : {A : Type 0} (make : A → Message) (end : ℕ) (r : Result A ℕ) (f : WireFault) → read_as make end r ≡ taken.Wrong f
+    → (left : ℕ) × (r ≡ Err left) × (f ≡ fault.Body (end - left))
 read_wrong make end (Ok x) f e = absurd cc
 read_wrong make end (Err left) f e = (left, refl, cc)
 
@@ -35,24 +37,29 @@ pub record IsOutside (least limit place : ℕ) (bytes : List ℕ) (f : WireFault
   pub outside : (number bytes < least) ⊎ (limit < number bytes)
   pub fault_is : f ≡ fault.Length place (number bytes)
 
-tests_failed : (short out part : Bool) (g : WireFault) (body : List ℕ) (f : WireFault) → cond short (Ok None) (cond out (Err g) (cond part (Ok None) (Ok (Some body)))) ≡ Err f → (short ≡ false) × (out ≡ true) × (f ≡ g)
+tests_failed : (short out part : Bool) (g : WireFault) (body : List ℕ) (f : WireFault)
+    → cond short (Ok None) (cond out (Err g) (cond part (Ok None) (Ok (Some body)))) ≡ Err f → (short ≡ false) × (out ≡ true) × (f ≡ g)
 tests_failed true out part g body f e = absurd cc
 tests_failed false true part g body f e = (refl, refl, cc)
 tests_failed false false true g body f e = absurd cc
 tests_failed false false false g body f e = absurd cc
 
-pub length_wrong : (place least limit : ℕ) (bytes : List ℕ) (f : WireFault) → frame_of place least limit bytes ≡ Err f → IsOutside least limit place bytes f
+pub length_wrong : (place least limit : ℕ) (bytes : List ℕ) (f : WireFault) → frame_of place least limit bytes ≡ Err f
+    → IsOutside least limit place bytes f
 unfolding frame_of
 length_wrong place least limit bytes f e =
-    let t = tests_failed (ltb (length bytes) 4) (ltb (number bytes) least || ltb limit (number bytes)) (ltb (length bytes) (number bytes)) (fault.Length place (number bytes)) (drop 4 (take (number bytes) bytes)) f e in
-    let outside : (number bytes < least) ⊎ (limit < number bytes) = elim (or_cases (ltb (number bytes) least) (ltb limit (number bytes)) t.1) [
+    let t = tests_failed (ltb (length bytes) 4) (ltb (number bytes) least || ltb limit (number bytes)) (ltb (length bytes) (number bytes))
+    (fault.Length place (number bytes)) (drop 4 (take (number bytes) bytes)) f e in
+    let outside : (number bytes < least) ⊎ (limit < number bytes) =
+    elim (or_cases (ltb (number bytes) least) (ltb limit (number bytes)) t.1) [
       | inl low ↦ inl (ltb-true _ _ low)
       | inr high ↦ inr (ltb-true _ _ high)
     ] in
     record { field = ltb-false _ _ t.0; outside = outside; fault_is = t.2 }
 
 -- the first four bytes of a frame are its length
-pub length_begins : (bytes body more : List ℕ) → 4 ≤ length bytes → length body + 4 < 2 ^ 32 → take 4 bytes ++ more ≡ framed body → number bytes ≡ length body + 4
+pub length_begins : (bytes body more : List ℕ) → 4 ≤ length bytes → length body + 4 < 2 ^ 32 → take 4 bytes ++ more ≡ framed body
+    → number bytes ≡ length body + 4
 length_begins bytes body more field below e =
     let len : length (take 4 bytes) ≡ length (int32 (length body + 4)) = omega (arith, field, length-take 4 bytes) in
     let t = bytes_one (take 4 bytes) (int32 (length body + 4)) more body len e in
@@ -61,12 +68,15 @@ length_begins bytes body more field below e =
 -- ---- bodies
 
 -- bytes that begin with a frame
-pub frame_parts : (least limit : ℕ) (bytes body : List ℕ) → IsFrame least limit bytes body → bytes ≡ framed body ++ drop (length body + 4) bytes
-frame_parts least limit bytes body f = sym (take-append-drop (length body + 4) bytes) ∙ ap (λ (t : List ℕ). t ++ drop (length body + 4) bytes) f.spelled
+pub frame_parts : (least limit : ℕ) (bytes body : List ℕ) → IsFrame least limit bytes body → bytes ≡ framed body
+    ++ drop (length body + 4) bytes
+frame_parts least limit bytes body f = sym (take-append-drop (length body + 4) bytes)
+    ∙ ap (λ (t : List ℕ). t ++ drop (length body + 4) bytes) f.spelled
 
 pub frame_body : (least limit : ℕ) (bytes body : List ℕ) → limit < 0xffff_ffff → IsFrame least limit bytes body → IsBody body
 frame_body least limit bytes body below f = record { fits = f.fits; short = omega (arith, f.high) }
 
 -- a frame that begins with a whole frame is that frame
-pub same_frame : (body other more : List ℕ) → length body + 4 < 2 ^ 32 → length other + 4 < 2 ^ 32 → framed body ++ more ≡ framed other → (body ≡ other) × (more ≡ [])
+pub same_frame : (body other more : List ℕ) → length body + 4 < 2 ^ 32 → length other + 4 < 2 ^ 32 → framed body ++ more ≡ framed other
+    → (body ≡ other) × (more ≡ [])
 same_frame body other more below other_below e = framed_one.one body other more [] below other_below (e ∙ sym (append-nil (framed other)))

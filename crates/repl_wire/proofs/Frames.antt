@@ -24,26 +24,31 @@ pub record IsWhole (least limit : ℕ) (bytes : List ℕ) : Type 0 where
   pub high : number bytes ≤ limit
   pub there : number bytes ≤ length bytes
 
-body_of_whole : (place least limit : ℕ) (bytes : List ℕ) → IsWhole least limit bytes → frame_of place least limit bytes ≡ there_is (drop 4 (take (number bytes) bytes))
+body_of_whole : (place least limit : ℕ) (bytes : List ℕ) → IsWhole least limit bytes → frame_of place least limit bytes
+    ≡ there_is (drop 4 (take (number bytes) bytes))
 unfolding frame_of
 body_of_whole place least limit bytes w = rw (le-ltb _ _ w.field, le-ltb _ _ w.low, le-ltb _ _ w.high, le-ltb _ _ w.there) refl
 
-tests_passed : (short out part : Bool) (f : WireFault) (made body : List ℕ) → cond short nothing_yet (cond out (Err f) (cond part nothing_yet (there_is made))) ≡ there_is body
+tests_passed : (short out part : Bool) (f : WireFault) (made body : List ℕ)
+    → cond short nothing_yet (cond out (Err f) (cond part nothing_yet (there_is made))) ≡ there_is body
     → (short ≡ false) × (out ≡ false) × (part ≡ false) × (made ≡ body)
 tests_passed true out part f made body e = absurd cc
 tests_passed false true part f made body e = absurd cc
 tests_passed false false true f made body e = absurd cc
 tests_passed false false false f made body e = (refl, refl, refl, cc)
 
-pub whole_of_body : (place least limit : ℕ) (bytes body : List ℕ) → frame_of place least limit bytes ≡ there_is body → IsWhole least limit bytes × (drop 4 (take (number bytes) bytes) ≡ body)
+pub whole_of_body : (place least limit : ℕ) (bytes body : List ℕ) → frame_of place least limit bytes ≡ there_is body
+    → IsWhole least limit bytes × (drop 4 (take (number bytes) bytes) ≡ body)
 unfolding frame_of
 whole_of_body place least limit bytes body e =
-    let t = tests_passed (ltb (length bytes) 4) (ltb (number bytes) least || ltb limit (number bytes)) (ltb (length bytes) (number bytes)) _ (drop 4 (take (number bytes) bytes)) body e in
+    let t = tests_passed (ltb (length bytes) 4) (ltb (number bytes) least || ltb limit (number bytes)) (ltb (length bytes) (number bytes)) _
+    (drop 4 (take (number bytes) bytes)) body e in
     let o = or_parts _ _ t.1 in
     (record { field = ltb-false _ _ t.0; low = ltb-false _ _ o.0; high = ltb-false _ _ o.1; there = ltb-false _ _ t.2 }, t.3)
 
 -- the body as the code cuts it
-pub frame_whole : (place least limit : ℕ) (bytes : List ℕ) (said : ℕ) → said ≡ number bytes → 4 ≤ length bytes → 4 ≤ least → least ≤ said → said ≤ limit → said ≤ length bytes
+pub frame_whole : (place least limit : ℕ) (bytes : List ℕ) (said : ℕ) → said ≡ number bytes → 4 ≤ length bytes → 4 ≤ least → least ≤ said
+    → said ≤ limit → said ≤ length bytes
     → frame_of place least limit bytes ≡ Ok (Some (take (said - 4) (drop 4 bytes)))
 frame_whole place least limit bytes said is field least_long low high there =
     let w : IsWhole least limit bytes = record { field = field; low = omega arith; high = omega arith; there = omega arith } in
@@ -58,7 +63,8 @@ pub record IsFrame (least limit : ℕ) (bytes body : List ℕ) : Type 0 where
   pub spelled : take (length body + 4) bytes ≡ framed body
   pub fits : IsBytes body
 
-pub frame_takes : (place least limit : ℕ) (bytes body : List ℕ) → 4 ≤ least → IsBytes bytes → frame_of place least limit bytes ≡ Ok (Some body) → IsFrame least limit bytes body
+pub frame_takes : (place least limit : ℕ) (bytes body : List ℕ) → 4 ≤ least → IsBytes bytes → frame_of place least limit bytes
+    ≡ Ok (Some body) → IsFrame least limit bytes body
 frame_takes place least limit bytes body least_long fits e =
     let w = whole_of_body place least limit bytes body e in
     let n = number bytes in
@@ -90,5 +96,6 @@ frame_again place least limit body rest low high below =
     let said : number bytes ≡ n = ap number regrouped ∙ (int32_again n (body ++ rest) (omega arith)).0 in
     let len : length bytes ≡ n + length rest = omega (arith, length-append (framed body) rest, length-framed body) in
     let w : IsWhole least limit bytes = record { field = omega arith; low = omega arith; high = omega arith; there = omega arith } in
-    let cut : drop 4 (take n bytes) ≡ body = ap (drop 4) (take_at (framed body) rest n (length-framed body)) ∙ (int32_again n body (omega arith)).1 in
+    let cut : drop 4 (take n bytes) ≡ body = ap (drop 4) (take_at (framed body) rest n (length-framed body))
+    ∙ (int32_again n body (omega arith)).1 in
     body_of_whole place least limit bytes w ∙ rw (said, cut) refl

@@ -30,11 +30,21 @@ front_spelled (message.Back m) bytes s = absurd s.belongs
 abbrev AreLong : ℕ → ℕ → ℕ → Type 0
 AreLong kind least limit = (m : Front) → front_kind m ≡ kind → (least ≤ length (front_body m)) × (front_limit m ≡ limit)
 
-typed : (kind least limit : ℕ) → limit < 0xffff_ffff → AreLong kind least limit → (m : Front) → IsFront m → front_kind m ≡ kind → IsTyped phase.Front kind least limit
+typed : (kind least limit : ℕ) → limit < 0xffff_ffff → AreLong kind least limit → (m : Front) → IsFront m → front_kind m ≡ kind
+    → IsTyped phase.Front kind least limit
 typed kind least limit below long m is kind_is = record {
   one_byte = refl;
   below = below;
-  some = (framed (front_body m), (message.Front m, record { belongs = is; spelled = ap (λ (k : ℕ). k ∷ framed (front_body m)) (sym kind_is) }));
+  some = (
+    framed (front_body m),
+    (
+      message.Front m,
+      record {
+        belongs = is;
+        spelled = ap (λ (k : ℕ). k ∷ framed (front_body m)) (sym kind_is);
+      },
+    ),
+  );
   spells = λ more s.
       let t = front_spelled s.0 (kind ∷ more) s.1 in
       let spelled = t.2 in
@@ -86,40 +96,60 @@ end_from : (m : Front) → IsOfFrontKind 88 m → Nothing (front_fields m)
 end_from front.Terminate is = refl
 end_from _ is = absurd (omega (arith, is.kind_is))
 
-within : (kind : ℕ) (body : List ℕ) (left : ℕ) → LeavesAt (IsOfFrontKind kind) front_fields body left → LeavesWithin phase.Front kind body left
+within : (kind : ℕ) (body : List ℕ) (left : ℕ) → LeavesAt (IsOfFrontKind kind) front_fields body left
+    → LeavesWithin phase.Front kind body left
 within kind body left l = (l, left_short l)
 
 -- ---- messages
 
-query_fault : (bytes : List ℕ) (f : WireFault) → IsBytes bytes → AreNone phase.Front (81 ∷ bytes) → judge_message (λ text. front.Query text) 1 MESSAGE_LIMIT text_of bytes ≡ taken.Wrong f → IsFault phase.Front (81 ∷ bytes) f
+query_fault : (bytes : List ℕ) (f : WireFault) → IsBytes bytes → AreNone phase.Front (81 ∷ bytes)
+    → judge_message (λ text. front.Query text) 1 MESSAGE_LIMIT text_of bytes ≡ taken.Wrong f → IsFault phase.Front (81 ∷ bytes) f
 query_fault bytes f fits none e =
-    message_fault (typed 81 1 MESSAGE_LIMIT (omega arith) queries_long (front.Query []) (record { fits = All-nil (λ (b : ℕ). (0 < b) × (b < 256)); within = omega arith }) refl) (λ text. message.Front (front.Query text)) text_of
+    message_fault (typed 81 1 MESSAGE_LIMIT (omega arith) queries_long (front.Query [])
+    (record { fits = All-nil (λ (b : ℕ). (0 < b) × (b < 256)); within = omega arith }) refl) (λ text. message.Front (front.Query text))
+    text_of
     (λ body left is failed. within 81 body left
-    (leaves_at (IsOfFrontKind 81) front_fields OneText body left (λ fs p. (front.Query p.value, record { fits = p.fits; kind_is = refl }, text_is fs p.more p.value p.parts p.behind)) query_from (text_leaves body left is failed)))
+    (leaves_at (IsOfFrontKind 81) front_fields OneText body left
+    (λ fs p. (front.Query p.value, record { fits = p.fits; kind_is = refl }, text_is fs p.more p.value p.parts p.behind)) query_from
+    (text_leaves body left is failed)))
     bytes f fits none e
 
-fail_fault : (bytes : List ℕ) (f : WireFault) → IsBytes bytes → AreNone phase.Front (102 ∷ bytes) → judge_message (λ text. front.CopyFail text) 1 MESSAGE_LIMIT text_of bytes ≡ taken.Wrong f → IsFault phase.Front (102 ∷ bytes) f
+fail_fault : (bytes : List ℕ) (f : WireFault) → IsBytes bytes → AreNone phase.Front (102 ∷ bytes)
+    → judge_message (λ text. front.CopyFail text) 1 MESSAGE_LIMIT text_of bytes ≡ taken.Wrong f → IsFault phase.Front (102 ∷ bytes) f
 fail_fault bytes f fits none e =
-    message_fault (typed 102 1 MESSAGE_LIMIT (omega arith) fails_long (front.CopyFail []) (record { fits = All-nil (λ (b : ℕ). (0 < b) × (b < 256)); within = omega arith }) refl) (λ text. message.Front (front.CopyFail text)) text_of
+    message_fault (typed 102 1 MESSAGE_LIMIT (omega arith) fails_long (front.CopyFail [])
+    (record { fits = All-nil (λ (b : ℕ). (0 < b) × (b < 256)); within = omega arith }) refl)
+    (λ text. message.Front (front.CopyFail text)) text_of
     (λ body left is failed. within 102 body left
-    (leaves_at (IsOfFrontKind 102) front_fields OneText body left (λ fs p. (front.CopyFail p.value, record { fits = p.fits; kind_is = refl }, text_is fs p.more p.value p.parts p.behind)) fail_from (text_leaves body left is failed)))
+    (leaves_at (IsOfFrontKind 102) front_fields OneText body left
+    (λ fs p. (front.CopyFail p.value, record { fits = p.fits; kind_is = refl }, text_is fs p.more p.value p.parts p.behind)) fail_from
+    (text_leaves body left is failed)))
     bytes f fits none e
 
-data_fault : (bytes : List ℕ) (f : WireFault) → IsBytes bytes → AreNone phase.Front (100 ∷ bytes) → judge_message (λ piece. front.CopyData piece) 0 COPY_DATA_LIMIT bytes_of bytes ≡ taken.Wrong f → IsFault phase.Front (100 ∷ bytes) f
+data_fault : (bytes : List ℕ) (f : WireFault) → IsBytes bytes → AreNone phase.Front (100 ∷ bytes)
+    → judge_message (λ piece. front.CopyData piece) 0 COPY_DATA_LIMIT bytes_of bytes ≡ taken.Wrong f → IsFault phase.Front (100 ∷ bytes) f
 data_fault bytes f fits none e =
-    message_fault (typed 100 0 COPY_DATA_LIMIT (omega arith) data_long (front.CopyData []) (record { fits = tt; within = omega arith }) refl) (λ piece. message.Front (front.CopyData piece)) bytes_of
+    message_fault (typed 100 0 COPY_DATA_LIMIT (omega arith) data_long (front.CopyData []) (record { fits = tt; within = omega arith })
+    refl) (λ piece. message.Front (front.CopyData piece)) bytes_of
     (λ body left is failed. absurd (bytes_leave body left failed)) bytes f fits none e
 
-done_fault : (bytes : List ℕ) (f : WireFault) → IsBytes bytes → AreNone phase.Front (99 ∷ bytes) → judge_message (λ (u : Unit {0}). front.CopyDone) 0 MESSAGE_LIMIT nothing_of bytes ≡ taken.Wrong f → IsFault phase.Front (99 ∷ bytes) f
+done_fault : (bytes : List ℕ) (f : WireFault) → IsBytes bytes → AreNone phase.Front (99 ∷ bytes)
+    → judge_message (λ (u : Unit {0}). front.CopyDone) 0 MESSAGE_LIMIT nothing_of bytes ≡ taken.Wrong f → IsFault phase.Front (99 ∷ bytes) f
 done_fault bytes f fits none e =
-    message_fault (typed 99 0 MESSAGE_LIMIT (omega arith) done_long front.CopyDone (record { fits = tt; within = omega arith }) refl) (λ (u : Unit {0}). message.Front front.CopyDone) nothing_of
-    (λ body left is failed. within 99 body left (leaves_at (IsOfFrontKind 99) front_fields Nothing body left (λ fs n. (front.CopyDone, record { fits = tt; kind_is = refl }, sym n)) done_from (nothing_leaves body left failed)))
+    message_fault (typed 99 0 MESSAGE_LIMIT (omega arith) done_long front.CopyDone (record { fits = tt; within = omega arith }) refl)
+    (λ (u : Unit {0}). message.Front front.CopyDone) nothing_of
+    (λ body left is failed. within 99 body left (leaves_at (IsOfFrontKind 99) front_fields Nothing body left
+    (λ fs n. (front.CopyDone, record { fits = tt; kind_is = refl }, sym n)) done_from (nothing_leaves body left failed)))
     bytes f fits none e
 
-end_fault : (bytes : List ℕ) (f : WireFault) → IsBytes bytes → AreNone phase.Front (88 ∷ bytes) → judge_message (λ (u : Unit {0}). front.Terminate) 0 MESSAGE_LIMIT nothing_of bytes ≡ taken.Wrong f → IsFault phase.Front (88 ∷ bytes) f
+end_fault : (bytes : List ℕ) (f : WireFault) → IsBytes bytes → AreNone phase.Front (88 ∷ bytes)
+    → judge_message (λ (u : Unit {0}). front.Terminate) 0 MESSAGE_LIMIT nothing_of bytes ≡ taken.Wrong f
+    → IsFault phase.Front (88 ∷ bytes) f
 end_fault bytes f fits none e =
-    message_fault (typed 88 0 MESSAGE_LIMIT (omega arith) ends_long front.Terminate (record { fits = tt; within = omega arith }) refl) (λ (u : Unit {0}). message.Front front.Terminate) nothing_of
-    (λ body left is failed. within 88 body left (leaves_at (IsOfFrontKind 88) front_fields Nothing body left (λ fs n. (front.Terminate, record { fits = tt; kind_is = refl }, sym n)) end_from (nothing_leaves body left failed)))
+    message_fault (typed 88 0 MESSAGE_LIMIT (omega arith) ends_long front.Terminate (record { fits = tt; within = omega arith }) refl)
+    (λ (u : Unit {0}). message.Front front.Terminate) nothing_of
+    (λ body left is failed. within 88 body left (leaves_at (IsOfFrontKind 88) front_fields Nothing body left
+    (λ fs n. (front.Terminate, record { fits = tt; kind_is = refl }, sym n)) end_from (nothing_leaves body left failed)))
     bytes f fits none e
 
 -- ---- type bytes
@@ -132,7 +162,8 @@ no_kind kind a b c d e front.CopyDone same = c (sym same)
 no_kind kind a b c d e (front.CopyFail text) same = d (sym same)
 no_kind kind a b c d e front.Terminate same = e (sym same)
 
-kind_fault : (kind : ℕ) (bytes : List ℕ) (f : WireFault) → taken.Wrong (fault.Kind 0) ≡ taken.Wrong f → ((m : Front) → front_kind m ≢ kind) → IsFault phase.Front (kind ∷ bytes) f
+kind_fault : (kind : ℕ) (bytes : List ℕ) (f : WireFault) → taken.Wrong (fault.Kind 0) ≡ taken.Wrong f → ((m : Front) → front_kind m ≢ kind)
+    → IsFault phase.Front (kind ∷ bytes) f
 kind_fault kind bytes f e none =
     let same : fault.Kind 0 ≡ f = cc in
     subst (IsFault phase.Front (kind ∷ bytes)) same (
@@ -145,10 +176,13 @@ kind_fault kind bytes f e none =
     )
 
 -- what is proved of a type byte holds of a byte that equals it
-at_kind : (kind known : ℕ) (bytes : List ℕ) (f : WireFault) → kind ≡ known → AreNone phase.Front (kind ∷ bytes) → (AreNone phase.Front (known ∷ bytes) → IsFault phase.Front (known ∷ bytes) f) → IsFault phase.Front (kind ∷ bytes) f
-at_kind kind known bytes f e none found = subst (λ (k : ℕ). IsFault phase.Front (k ∷ bytes) f) (sym e) (found (subst (λ (k : ℕ). AreNone phase.Front (k ∷ bytes)) e none))
+at_kind : (kind known : ℕ) (bytes : List ℕ) (f : WireFault) → kind ≡ known → AreNone phase.Front (kind ∷ bytes)
+    → (AreNone phase.Front (known ∷ bytes) → IsFault phase.Front (known ∷ bytes) f) → IsFault phase.Front (kind ∷ bytes) f
+at_kind kind known bytes f e none found = subst (λ (k : ℕ). IsFault phase.Front (k ∷ bytes) f) (sym e)
+    (found (subst (λ (k : ℕ). AreNone phase.Front (k ∷ bytes)) e none))
 
-pub front_fault : (bytes : List ℕ) (f : WireFault) → IsBytes bytes → AreNone phase.Front bytes → judge_front bytes ≡ taken.Wrong f → IsFault phase.Front bytes f
+pub front_fault : (bytes : List ℕ) (f : WireFault) → IsBytes bytes → AreNone phase.Front bytes → judge_front bytes ≡ taken.Wrong f
+    → IsFault phase.Front bytes f
 unfolding judge_front
 front_fault [] f fits none e = absurd cc
 front_fault (kind ∷ bytes) f fits none e =
@@ -163,7 +197,8 @@ front_fault (kind ∷ bytes) f fits none e =
             | inl g ↦ at_kind kind 102 bytes f (eqb-true _ _ g.0) none (λ n. fail_fault bytes f behind n g.1)
             | inr e4 ↦ elim (choice (eqb kind 88) _ _ (taken.Wrong f) e4.1) [
               | inl t ↦ at_kind kind 88 bytes f (eqb-true _ _ t.0) none (λ n. end_fault bytes f behind n t.1)
-              | inr e5 ↦ kind_fault kind bytes f e5.1 (no_kind kind (eqb-false _ _ e1.0) (eqb-false _ _ e2.0) (eqb-false _ _ e3.0) (eqb-false _ _ e4.0) (eqb-false _ _ e5.0))
+              | inr e5 ↦ kind_fault kind bytes f e5.1 (no_kind kind (eqb-false _ _ e1.0) (eqb-false _ _ e2.0) (eqb-false _ _ e3.0)
+                  (eqb-false _ _ e4.0) (eqb-false _ _ e5.0))
             ]
           ]
         ]

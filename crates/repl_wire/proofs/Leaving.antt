@@ -32,11 +32,21 @@ pub record Leaves (L : List (List ℕ) → Type 0) (body : List ℕ) (left : ℕ
   pub goes_further : L before → rest ≢ []
 
 -- no field of the language stands here
-pub leaves_here : (L : Language) (body : List ℕ) (left : ℕ) → length body ≡ left → (more : List (List ℕ)) × L more → ((field : List ℕ) (more : List (List ℕ)) (behind : List ℕ) → L (field ∷ more) → body ≢ field ++ behind)
+pub leaves_here : (L : Language) (body : List ℕ) (left : ℕ) → length body ≡ left → (more : List (List ℕ)) × L more
+    → ((field : List ℕ) (more : List (List ℕ)) (behind : List ℕ) → L (field ∷ more) → body ≢ field ++ behind)
     → (L [] → body ≢ []) → Leaves L body left
-leaves_here L body left size some stops further = record { before = []; rest = body; parts = refl; size = size; goes_on = some; stops = stops; goes_further = further }
+leaves_here L body left size some stops further = record {
+  before = [];
+  rest = body;
+  parts = refl;
+  size = size;
+  goes_on = some;
+  stops = stops;
+  goes_further = further;
+}
 
-pub leaves_behind : (L : Language) (field body rest : List ℕ) (left : ℕ) → body ≡ field ++ rest → Leaves (λ fs. L (field ∷ fs)) rest left → Leaves L body left
+pub leaves_behind : (L : Language) (field body rest : List ℕ) (left : ℕ) → body ≡ field ++ rest → Leaves (λ fs. L (field ∷ fs)) rest left
+    → Leaves L body left
 leaves_behind L field body rest left e l = record {
   before = field ∷ l.before;
   rest = l.rest;
@@ -47,13 +57,16 @@ leaves_behind L field body rest left e l = record {
   goes_further = l.goes_further;
 }
 
-pub leaves_behind_all : (L : Language) (front : List (List ℕ)) (body rest : List ℕ) (left : ℕ) → body ≡ concat front ++ rest → Leaves (λ fs. L (front ++ fs)) rest left → Leaves L body left
+pub leaves_behind_all : (L : Language) (front : List (List ℕ)) (body rest : List ℕ) (left : ℕ) → body ≡ concat front ++ rest
+    → Leaves (λ fs. L (front ++ fs)) rest left → Leaves L body left
 leaves_behind_all L [] body rest left e l = subst (λ (b : List ℕ). Leaves L b left) (sym e) l
 leaves_behind_all L (f ∷ front) body rest left e l =
-    leaves_behind L f body (concat front ++ rest) left (e ∙ append_assoc f (concat front) rest) (leaves_behind_all (λ fs. L (f ∷ fs)) front (concat front ++ rest) rest left refl l)
+    leaves_behind L f body (concat front ++ rest) left (e ∙ append_assoc f (concat front) rest)
+    (leaves_behind_all (λ fs. L (f ∷ fs)) front (concat front ++ rest) rest left refl l)
 
 -- another language with the same lists
-pub leaves_as : (L K : Language) (body : List ℕ) (left : ℕ) → ((fs : List (List ℕ)) → L fs → K fs) → ((fs : List (List ℕ)) → K fs → L fs) → Leaves L body left → Leaves K body left
+pub leaves_as : (L K : Language) (body : List ℕ) (left : ℕ) → ((fs : List (List ℕ)) → L fs → K fs) → ((fs : List (List ℕ)) → K fs → L fs)
+    → Leaves L body left → Leaves K body left
 leaves_as L K body left to from l = record {
   before = l.before;
   rest = l.rest;
@@ -65,7 +78,8 @@ leaves_as L K body left to from l = record {
 }
 
 -- the language of the fields of some messages
-pub leaves_at : {M : Type 0} (Fits : M → Type 0) (fields : M → List (List ℕ)) (L : Language) (body : List ℕ) (left : ℕ) → ((fs : List (List ℕ)) → L fs → (m : M) × Fits m × (fields m ≡ fs)) → ((m : M) → Fits m → L (fields m))
+pub leaves_at : {M : Type 0} (Fits : M → Type 0) (fields : M → List (List ℕ)) (L : Language) (body : List ℕ) (left : ℕ)
+    → ((fs : List (List ℕ)) → L fs → (m : M) × Fits m × (fields m ≡ fs)) → ((m : M) → Fits m → L (fields m))
     → Leaves L body left → LeavesAt Fits fields body left
 leaves_at Fits fields L body left to from l =
     let some = to (l.before ++ l.goes_on.0) l.goes_on.1 in
@@ -85,7 +99,8 @@ abbrev pub Nothing : Language
 Nothing fs = fs ≡ []
 
 -- a step that failed, or what is done behind it
-pub bind_err : {A B : Type 0} (r : Result A ℕ) (f : A → Result B ℕ) (left : ℕ) → (r >>= f) ≡ Err left → (r ≡ Err left) ⊎ ((x : A) × (r ≡ Ok x) × (f x ≡ Err left))
+pub bind_err : {A B : Type 0} (r : Result A ℕ) (f : A → Result B ℕ) (left : ℕ) → (r >>= f) ≡ Err left → (r ≡ Err left)
+    ⊎ ((x : A) × (r ≡ Ok x) × (f x ≡ Err left))
 bind_err (Ok x) f left e = inr (x, refl, e)
 bind_err (Err other) f left e = inl (cc)
 
@@ -96,12 +111,14 @@ guard_failed false x other left e = (refl, cc)
 pub leaves_end : {A : Type 0} (x : A) (rest : List ℕ) (left : ℕ) → whole (x, rest) ≡ Err left → Leaves Nothing rest left
 leaves_end x rest left e =
     let g = guard_failed (eqb (length rest) 0) x (length rest) left e in
-    leaves_here Nothing rest left g.1 ([], refl) (λ field more behind n. absurd cc) (λ n nothing. eqb-false (length rest) 0 g.0 (ap length nothing))
+    leaves_here Nothing rest left g.1 ([], refl) (λ field more behind n. absurd cc)
+    (λ n nothing. eqb-false (length rest) 0 g.0 (ap length nothing))
 
 -- ---- parts: values that are spelled by some fields
 
 -- a value, and what stands behind it
-pub record IsParted {A : Type 0} (Fits : A → Type 0) (fields : A → List (List ℕ)) (K : A → List (List ℕ) → Type 0) (fs : List (List ℕ)) : Type 0 where
+pub record IsParted {A : Type 0} (Fits : A → Type 0) (fields : A → List (List ℕ)) (K : A → List (List ℕ) → Type 0) (fs : List (List ℕ)) :
+    Type 0 where
   pub value : A
   pub fits : Fits value
   pub more : List (List ℕ)
@@ -116,12 +133,15 @@ HasSome L = (fs : List (List ℕ)) × L fs
 pub record IsPart {A : Type 0} (Fits : A → Type 0) (fields : A → List (List ℕ)) (read : List ℕ → Result (A × List ℕ) ℕ) : Type 1 where
   pub some : A
   pub some_fits : Fits some
-  pub takes : (bytes : List ℕ) (x : A) (rest : List ℕ) → IsBody bytes → read bytes ≡ Ok (x, rest) → (bytes ≡ concat (fields x) ++ rest) × IsBody rest × Fits x
+  pub takes : (bytes : List ℕ) (x : A) (rest : List ℕ) → IsBody bytes → read bytes ≡ Ok (x, rest) → (bytes ≡ concat (fields x) ++ rest)
+      × IsBody rest × Fits x
   pub one : (x y : A) (more others : List (List ℕ)) → Fits x → Fits y → fields x ++ more ≡ fields y ++ others → (x ≡ y) × (more ≡ others)
-  pub leaves : (K : A → List (List ℕ) → Type 0) → ((x : A) → Fits x → HasSome (K x)) → (bytes : List ℕ) (left : ℕ) → IsBody bytes → read bytes ≡ Err left → Leaves (IsParted Fits fields K) bytes left
+  pub leaves : (K : A → List (List ℕ) → Type 0) → ((x : A) → Fits x → HasSome (K x)) → (bytes : List ℕ) (left : ℕ) → IsBody bytes
+      → read bytes ≡ Err left → Leaves (IsParted Fits fields K) bytes left
 
 -- behind a value stands what may stand behind it
-pub behind_value : {A : Type 0} {Fits : A → Type 0} {fields : A → List (List ℕ)} {read : List ℕ → Result (A × List ℕ) ℕ} (part : IsPart Fits fields read) (K : A → List (List ℕ) → Type 0) (x : A) (bytes rest : List ℕ) (left : ℕ) → Fits x
+pub behind_value : {A : Type 0} {Fits : A → Type 0} {fields : A → List (List ℕ)} {read : List ℕ → Result (A × List ℕ) ℕ}
+    (part : IsPart Fits fields read) (K : A → List (List ℕ) → Type 0) (x : A) (bytes rest : List ℕ) (left : ℕ) → Fits x
     → bytes ≡ concat (fields x) ++ rest → Leaves (K x) rest left → Leaves (IsParted Fits fields K) bytes left
 behind_value {A} {Fits} {fields} {read} part K x bytes rest left fits e l =
     let from : (fs : List (List ℕ)) → IsParted Fits fields K (fields x ++ fs) → K x fs = λ fs p.
@@ -129,15 +149,20 @@ behind_value {A} {Fits} {fields} {read} part K x bytes rest left fits e l =
     subst (λ (y : A). K y fs) (sym o.0) (subst (λ (t : List (List ℕ)). K p.value t) (sym o.1) p.behind)
     in
     leaves_behind_all (IsParted Fits fields K) (fields x) bytes rest left e
-    (leaves_as (K x) (λ fs. IsParted Fits fields K (fields x ++ fs)) rest left (λ fs k. record { value = x; fits = fits; more = fs; parts = refl; behind = k }) from l)
+    (leaves_as (K x) (λ fs. IsParted Fits fields K (fields x ++ fs)) rest left
+    (λ fs k. record { value = x; fits = fits; more = fs; parts = refl; behind = k }) from l)
 
 -- some value, and something behind it
-pub some_parted : {A : Type 0} {Fits : A → Type 0} (fields : A → List (List ℕ)) (K : A → List (List ℕ) → Type 0) (x : A) → Fits x → HasSome (K x) → HasSome (IsParted Fits fields K)
+pub some_parted : {A : Type 0} {Fits : A → Type 0} (fields : A → List (List ℕ)) (K : A → List (List ℕ) → Type 0) (x : A) → Fits x
+    → HasSome (K x) → HasSome (IsParted Fits fields K)
 some_parted fields K x fits some = (fields x ++ some.0, record { value = x; fits = fits; more = some.0; parts = refl; behind = some.1 })
 
 -- a value, and what is read behind it
-pub leaves_then : {A B : Type 0} {Fits : A → Type 0} {fields : A → List (List ℕ)} {read : List ℕ → Result (A × List ℕ) ℕ} (part : IsPart Fits fields read) (K : A → List (List ℕ) → Type 0) → ((x : A) → Fits x → HasSome (K x)) → (next : A × List ℕ → Result B ℕ)
-    → (bytes : List ℕ) (left : ℕ) → IsBody bytes → ((x : A) (rest : List ℕ) → Fits x → IsBody rest → bytes ≡ concat (fields x) ++ rest → next (x, rest) ≡ Err left → Leaves (K x) rest left)
+pub leaves_then : {A B : Type 0} {Fits : A → Type 0} {fields : A → List (List ℕ)} {read : List ℕ → Result (A × List ℕ) ℕ}
+    (part : IsPart Fits fields read) (K : A → List (List ℕ) → Type 0) → ((x : A) → Fits x → HasSome (K x))
+    → (next : A × List ℕ → Result B ℕ)
+    → (bytes : List ℕ) (left : ℕ) → IsBody bytes → ((x : A) (rest : List ℕ) → Fits x → IsBody rest → bytes ≡ concat (fields x) ++ rest
+    → next (x, rest) ≡ Err left → Leaves (K x) rest left)
     → (read bytes >>= next) ≡ Err left → Leaves (IsParted Fits fields K) bytes left
 leaves_then {A} {B} {Fits} {fields} {read} part K some next bytes left is behind e =
     elim (bind_err (read bytes) next left e) [
@@ -148,7 +173,9 @@ leaves_then {A} {B} {Fits} {fields} {read} part K some next bytes left is behind
     ]
 
 -- a value, and nothing behind it
-pub leaves_last : {A B : Type 0} {Fits : A → Type 0} {fields : A → List (List ℕ)} {read : List ℕ → Result (A × List ℕ) ℕ} (part : IsPart Fits fields read) (make : A → B) (bytes : List ℕ) (left : ℕ) → IsBody bytes
+pub leaves_last : {A B : Type 0} {Fits : A → Type 0} {fields : A → List (List ℕ)} {read : List ℕ → Result (A × List ℕ) ℕ}
+    (part : IsPart Fits fields read) (make : A → B) (bytes : List ℕ) (left : ℕ) → IsBody bytes
     → (read bytes >>= λ (x : A × List ℕ). whole (make x.0, x.1)) ≡ Err left → Leaves (IsParted Fits fields (λ x. Nothing)) bytes left
 leaves_last {A} part make bytes left is e =
-    leaves_then part (λ x. Nothing) (λ x fits. ([], refl)) (λ (x : A × List ℕ). whole (make x.0, x.1)) bytes left is (λ x rest fits body parts end. leaves_end (make x) rest left end) e
+    leaves_then part (λ x. Nothing) (λ x fits. ([], refl)) (λ (x : A × List ℕ). whole (make x.0, x.1)) bytes left is
+    (λ x rest fits body parts end. leaves_end (make x) rest left end) e

@@ -21,3 +21,5 @@ pub mod PlainBodies
 pub mod BackPlaces
 pub mod PlaceLaws
 pub mod Sent
+pub mod Streams
+pub mod Given

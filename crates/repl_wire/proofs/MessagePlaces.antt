@@ -21,7 +21,8 @@ abbrev pub AreNone : Phase → List ℕ → Type 0
 AreNone p bytes = (m : Message) (text rest : List ℕ) → Spells p m text → bytes ≢ text ++ rest
 
 -- what is left of a body is no longer than it
-pub left_short : {M : Type 0} {Fits : M → Type 0} {fields : M → List (List ℕ)} {body : List ℕ} {left : ℕ} → LeavesAt Fits fields body left → left ≤ length body
+pub left_short : {M : Type 0} {Fits : M → Type 0} {fields : M → List (List ℕ)} {body : List ℕ} {left : ℕ} → LeavesAt Fits fields body left
+    → left ≤ length body
 left_short l = omega (arith, l.size, ap length l.parts, length-append (concat l.before) l.rest)
 
 -- the messages of a phase with this type byte
@@ -29,9 +30,11 @@ pub record IsTyped (p : Phase) (kind least limit : ℕ) : Type 0 where
   pub one_byte : head p ≡ 1
   pub below : limit < 0xffff_ffff
   pub some : Begins (IsSpelled p) (kind ∷ [])
-  pub spells : (more : List ℕ) → IsSpelled p (kind ∷ more) → (body : List ℕ) × (more ≡ framed body) × (least ≤ length body) × (length body + 4 ≤ limit)
+  pub spells : (more : List ℕ) → IsSpelled p (kind ∷ more) → (body : List ℕ) × (more ≡ framed body) × (least ≤ length body)
+      × (length body + 4 ≤ limit)
 
-length_fault : {p : Phase} {kind least limit : ℕ} (typed : IsTyped p kind least limit) (bytes : List ℕ) (f : WireFault) → IsOutside (least + 4) limit 1 bytes f → IsFault p (kind ∷ bytes) f
+length_fault : {p : Phase} {kind least limit : ℕ} (typed : IsTyped p kind least limit) (bytes : List ℕ) (f : WireFault)
+    → IsOutside (least + 4) limit 1 bytes f → IsFault p (kind ∷ bytes) f
 length_fault {p} {kind} {least} {limit} typed bytes f out =
     let stops : ¬ Begins (IsSpelled p) (kind ∷ take 4 bytes) = λ b.
     let s = typed.spells (take 4 bytes ++ b.0) b.1 in
@@ -45,7 +48,9 @@ length_fault {p} {kind} {least} {limit} typed bytes f out =
 abbrev pub LeavesWithin : Phase → ℕ → List ℕ → ℕ → Type 0
 LeavesWithin p kind body left = LeavesBody p kind body left × (left ≤ length body)
 
-body_fault : {p : Phase} {kind least limit : ℕ} (typed : IsTyped p kind least limit) (bytes body : List ℕ) (left : ℕ) → IsFrame (least + 4) limit bytes body → AreNone p (kind ∷ bytes) → LeavesWithin p kind body left → IsFault p (kind ∷ bytes) (fault.Body (length body + 5 - left))
+body_fault : {p : Phase} {kind least limit : ℕ} (typed : IsTyped p kind least limit) (bytes body : List ℕ) (left : ℕ)
+    → IsFrame (least + 4) limit bytes body → AreNone p (kind ∷ bytes) → LeavesWithin p kind body left
+    → IsFault p (kind ∷ bytes) (fault.Body (length body + 5 - left))
 body_fault {p} {kind} {least} {limit} typed bytes body left frame none leaves =
     let behind = drop (length body + 4) bytes in
     let parts : bytes ≡ framed body ++ behind = frame_parts (least + 4) limit bytes body frame in
@@ -57,7 +62,8 @@ body_fault {p} {kind} {least} {limit} typed bytes body left frame none leaves =
     let spelled : IsSpelled p (kind ∷ (framed body ++ b.0)) = subst (λ (t : List ℕ). IsSpelled p (t ++ b.0)) cut b.1 in
     let s = typed.spells (framed body ++ b.0) spelled in
     let same = same_frame body s.0 b.0 (omega (arith, typed.below, frame.high)) (omega (arith, typed.below, s.3)) s.1 in
-    let alone : IsSpelled p (kind ∷ framed body) = subst (λ (t : List ℕ). IsSpelled p (kind ∷ t)) (ap (λ (t : List ℕ). framed body ++ t) same.1 ∙ append-nil (framed body)) spelled in
+    let alone : IsSpelled p (kind ∷ framed body) = subst (λ (t : List ℕ). IsSpelled p (kind ∷ t))
+    (ap (λ (t : List ℕ). framed body ++ t) same.1 ∙ append-nil (framed body)) spelled in
     none alone.0 (kind ∷ framed body) behind alone.1 (ap (λ (t : List ℕ). kind ∷ t) parts)
     in
     record {
@@ -75,13 +81,17 @@ body_fault {p} {kind} {least} {limit} typed bytes body left frame none leaves =
     }
 
 -- a message behind its type byte, of which reading says where its body is left
-pub message_fault : {A : Type 0} {p : Phase} {kind least limit : ℕ} (typed : IsTyped p kind least limit) (make : A → Message) (read : List ℕ → Result A ℕ) → ((body : List ℕ) (left : ℕ) → IsBody body → read body ≡ Err left → LeavesWithin p kind body left)
-    → (bytes : List ℕ) (f : WireFault) → IsBytes bytes → AreNone p (kind ∷ bytes) → on_frame (frame_of 1 (least + 4) limit bytes) (λ body. read_as make (length body + 5) (read body)) ≡ taken.Wrong f → IsFault p (kind ∷ bytes) f
+pub message_fault : {A : Type 0} {p : Phase} {kind least limit : ℕ} (typed : IsTyped p kind least limit) (make : A → Message)
+    (read : List ℕ → Result A ℕ) → ((body : List ℕ) (left : ℕ) → IsBody body → read body ≡ Err left → LeavesWithin p kind body left)
+    → (bytes : List ℕ) (f : WireFault) → IsBytes bytes → AreNone p (kind ∷ bytes)
+    → on_frame (frame_of 1 (least + 4) limit bytes) (λ body. read_as make (length body + 5) (read body)) ≡ taken.Wrong f
+    → IsFault p (kind ∷ bytes) f
 message_fault {A} {p} {kind} {least} {limit} typed make read leaves bytes f fits none e =
     elim (frame_wrong (frame_of 1 (least + 4) limit bytes) (λ body. read_as make (length body + 5) (read body)) f e) [
       | inl wrong ↦ length_fault typed bytes f (length_wrong 1 (least + 4) limit bytes f wrong)
       | inr whole ↦
           let frame = frame_takes 1 (least + 4) limit bytes whole.0 (omega arith) fits whole.1 in
           let r = read_wrong make (length whole.0 + 5) (read whole.0) f whole.2 in
-          subst (IsFault p (kind ∷ bytes)) (sym r.2) (body_fault typed bytes whole.0 r.0 frame none (leaves whole.0 r.0 (frame_body (least + 4) limit bytes whole.0 typed.below frame) r.1))
+          subst (IsFault p (kind ∷ bytes)) (sym r.2) (body_fault typed bytes whole.0 r.0 frame none
+          (leaves whole.0 r.0 (frame_body (least + 4) limit bytes whole.0 typed.below frame) r.1))
     ]

@@ -40,11 +40,13 @@ IsTakenFrom bytes x = Takes bytes (ended pair x.0) x.1 × AllByRecursion FitsPai
 taken_as : (bytes : List ℕ) (x y : List Pair × List ℕ) → x ≡ y → IsTakenFrom bytes x → IsTakenFrom bytes y
 taken_as bytes x y e t = subst (IsTakenFrom bytes) e t
 
-pub pairs_take : (turns : ℕ) (bytes : List ℕ) (x : List Pair × List ℕ) → IsBytes bytes → pairs_at turns bytes ≡ Ok x → Takes bytes (ended pair x.0) x.1 × AllByRecursion FitsPair x.0
+pub pairs_take : (turns : ℕ) (bytes : List ℕ) (x : List Pair × List ℕ) → IsBytes bytes → pairs_at turns bytes ≡ Ok x
+    → Takes bytes (ended pair x.0) x.1 × AllByRecursion FitsPair x.0
 unfolding pairs_at
 pairs_take zero bytes x fits e = absurd cc
 pairs_take (suc turns) [] x fits e = absurd cc
-pairs_take (suc turns) (zero ∷ bytes) x fits e = taken_as (0 ∷ bytes) ([], bytes) x (ok_is ([], bytes) x e) (record { parts = refl; rest_fits = IsBytes-rest 0 bytes fits }, tt)
+pairs_take (suc turns) (zero ∷ bytes) x fits e = taken_as (0 ∷ bytes) ([], bytes) x (ok_is ([], bytes) x e)
+    (record { parts = refl; rest_fits = IsBytes-rest 0 bytes fits }, tt)
 pairs_take (suc turns) (suc b ∷ bytes) x fits e =
     let a = bind_ok (string_at (suc b ∷ bytes)) (after_name turns) x e in
     let v = bind_ok (string_at a.0.1) (after_value turns a.0.0) x a.2 in
@@ -55,25 +57,40 @@ pairs_take (suc turns) (suc b ∷ bytes) x fits e =
     let p : Pair = record { name = a.0.0; value = v.0.0 } in
     let one = Takes-then (suc b ∷ bytes) (string a.0.0) a.0.1 (string v.0.0) v.0.1 name.0 value.0 in
     let all = Takes-ended pair (suc b ∷ bytes) p v.0.1 o.0.0 o.0.1 one others.0 in
-    taken_as (suc b ∷ bytes) (p ∷ o.0.0, o.0.1) x (ok_is (p ∷ o.0.0, o.0.1) x o.2) (all, (record { named = string_first b bytes a.0.0 a.0.1 a.1; name = name.1; value = value.1 }, others.1))
+    taken_as (suc b ∷ bytes) (p ∷ o.0.0, o.0.1) x (ok_is (p ∷ o.0.0, o.0.1) x o.2)
+    (all, (record { named = string_first b bytes a.0.0 a.0.1 a.1; name = name.1; value = value.1 }, others.1))
 
 -- each pair takes a turn, and the zero byte one
-pub pairs_again : (turns : ℕ) (ps : List Pair) (rest : List ℕ) → length ps < turns → AllByRecursion FitsPair ps → pairs_at turns (ended pair ps ++ rest) ≡ Ok (ps, rest)
+pub pairs_again : (turns : ℕ) (ps : List Pair) (rest : List ℕ) → length ps < turns → AllByRecursion FitsPair ps
+    → pairs_at turns (ended pair ps ++ rest) ≡ Ok (ps, rest)
 unfolding pairs_at
 pairs_again zero ps rest enough fits = absurd (omega arith)
 pairs_again (suc turns) [] rest enough fits = refl
 pairs_again (suc turns) (p ∷ ps) rest enough fits =
     let behind : List ℕ = string p.value ++ (ended pair ps ++ rest) in
-    let regrouped : ended pair (p ∷ ps) ++ rest ≡ string p.name ++ behind = ap (λ (w : List ℕ). w ++ rest) (ended-cons pair p ps) ∙ simp append_assoc in
+    let regrouped : ended pair (p ∷ ps) ++ rest ≡ string p.name ++ behind = ap (λ (w : List ℕ). w ++ rest) (ended-cons pair p ps)
+    ∙ simp append_assoc in
     let begins = string_begins p.name behind fits.0.named fits.0.name in
-    ap (pairs_at (suc turns)) regrouped ∙ pairs_at_pair turns begins.0 begins.1 (string p.name ++ behind) begins.2 begins.3 ∙ rw (string_again p.name behind fits.0.name, string_again p.value (ended pair ps ++ rest) fits.0.value, pairs_again turns ps rest (omega arith) fits.1) refl
+    ap (pairs_at (suc turns)) regrouped ∙ pairs_at_pair turns begins.0 begins.1 (string p.name ++ behind) begins.2 begins.3
+    ∙ rw (
+      string_again p.name behind fits.0.name,
+      string_again p.value (ended pair ps ++ rest) fits.0.value,
+      pairs_again turns ps rest (omega arith) fits.1,
+    ) refl
 
 -- a list of pairs is no longer than their spelling
 pub length-pairs : (ps : List Pair) → length ps ≤ length (flat_map pair ps)
 length-pairs [] = omega arith
 length-pairs (p ∷ ps) =
     let e = ap length (flat_map-cons pair p ps) in
-    omega (arith, e, length-append (pair p) (flat_map pair ps), length-append (string p.name) (string p.value), length-append p.name (0 ∷ []), length-pairs ps)
+    omega (
+      arith,
+      e,
+      length-append (pair p) (flat_map pair ps),
+      length-append (string p.name) (string p.value),
+      length-append p.name (0 ∷ []),
+      length-pairs ps,
+    )
 
 abbrev AreNamedEach : List Pair × List ℕ → Type 0
 AreNamedEach x = AllByRecursion (λ (p : Pair). 0 < length p.name) x.0
@@ -88,7 +105,8 @@ each_named (suc turns) (suc b ∷ bytes) x e =
     let v = bind_ok (string_at a.0.1) (after_value turns a.0.0) x a.2 in
     let o = bind_ok (pairs_at turns v.0.1) (after_others a.0.0 v.0.0) x v.2 in
     let p : Pair = record { name = a.0.0; value = v.0.0 } in
-    subst AreNamedEach {x = (p ∷ o.0.0, o.0.1)} (ok_is (p ∷ o.0.0, o.0.1) x o.2) (string_first b bytes a.0.0 a.0.1 a.1, each_named turns v.0.1 o.0 o.1)
+    subst AreNamedEach {x = (p ∷ o.0.0, o.0.1)} (ok_is (p ∷ o.0.0, o.0.1) x o.2)
+    (string_first b bytes a.0.0 a.0.1 a.1, each_named turns v.0.1 o.0 o.1)
 
 -- no name is empty
 pub pairs_named : (turns : ℕ) (bytes : List ℕ) (ps : List Pair) (rest : List ℕ) → pairs_at turns bytes ≡ Ok (ps, rest) → AreNamed ps
@@ -100,24 +118,29 @@ pairs_named turns bytes ps rest e = All-from_recursion (λ (p : Pair). 0 < lengt
 abbrev pub with_front : List Pair → Result (List Pair × List ℕ) ℕ → Result (List Pair × List ℕ) ℕ
 with_front front read = read >>= λ x. Ok (front ++ x.0, x.1)
 
-regroup : (front : List Pair) (p : Pair) (read : Result (List Pair × List ℕ) ℕ) → with_front front (read >>= after_others p.name p.value) ≡ with_front (front ++ p ∷ []) read
+regroup : (front : List Pair) (p : Pair) (read : Result (List Pair × List ℕ) ℕ) → with_front front (read >>= after_others p.name p.value)
+    ≡ with_front (front ++ p ∷ []) read
 regroup front p (Ok x) = ap (λ (ps : List Pair). Ok (ps, x.1)) (simp append_assoc)
 regroup front p (Err left) = refl
 
-pub goes_on : (front : List Pair) (count i : ℕ) (bytes : List ℕ) (p : Pair) (mid after : List ℕ) (total : Result (List Pair × List ℕ) ℕ) (b : ℕ) (behind : List ℕ) → i < count → bytes ≡ b ∷ behind → 0 < b
-    → string_at bytes ≡ Ok (p.name, mid) → string_at mid ≡ Ok (p.value, after) → with_front front (pairs_at (count - i) bytes) ≡ total → with_front (front ++ p ∷ []) (pairs_at (count - (i + 1)) after) ≡ total
+pub goes_on : (front : List Pair) (count i : ℕ) (bytes : List ℕ) (p : Pair) (mid after : List ℕ) (total : Result (List Pair × List ℕ) ℕ)
+    (b : ℕ) (behind : List ℕ) → i < count → bytes ≡ b ∷ behind → 0 < b
+    → string_at bytes ≡ Ok (p.name, mid) → string_at mid ≡ Ok (p.value, after) → with_front front (pairs_at (count - i) bytes) ≡ total
+    → with_front (front ++ p ∷ []) (pairs_at (count - (i + 1)) after) ≡ total
 goes_on front count i bytes p mid after total b behind lt starts first name value so_far =
     let k : count - i ≡ suc (count - (i + 1)) = omega arith in
     let one : with_front front (pairs_at (count - i) bytes) ≡ with_front (front ++ p ∷ []) (pairs_at (count - (i + 1)) after) =
     rw (k, pairs_at_pair (count - (i + 1)) b behind bytes starts first, name, value) (regroup front p (pairs_at (count - (i + 1)) after)) in
     sym one ∙ so_far
 
-pub ends_at_zero : (front : List Pair) (count i : ℕ) (bytes : List ℕ) (total : Result (List Pair × List ℕ) ℕ) (b : ℕ) (behind : List ℕ) → i < count → bytes ≡ b ∷ behind → b ≡ 0
+pub ends_at_zero : (front : List Pair) (count i : ℕ) (bytes : List ℕ) (total : Result (List Pair × List ℕ) ℕ) (b : ℕ) (behind : List ℕ)
+    → i < count → bytes ≡ b ∷ behind → b ≡ 0
     → with_front front (pairs_at (count - i) bytes) ≡ total → total ≡ Ok (front, behind)
 unfolding pairs_at
 ends_at_zero front count i bytes total b behind lt starts first so_far =
     let k : count - i ≡ suc (count - (i + 1)) = omega arith in
-    let one : with_front front (pairs_at (count - i) bytes) ≡ Ok (front, behind) = rw (k, starts, first) (ap (λ (ps : List Pair). Ok (ps, behind)) (append-nil front)) in
+    let one : with_front front (pairs_at (count - i) bytes) ≡ Ok (front, behind) =
+    rw (k, starts, first) (ap (λ (ps : List Pair). Ok (ps, behind)) (append-nil front)) in
     sym so_far ∙ one
 
 pub ends_empty : (front : List Pair) (count i : ℕ) (bytes : List ℕ) (total : Result (List Pair × List ℕ) ℕ) → i < count → bytes ≡ []
@@ -128,18 +151,22 @@ ends_empty front count i bytes total lt none so_far =
     let one : with_front front (pairs_at (count - i) bytes) ≡ Err 0 = rw (k, none) refl in
     sym so_far ∙ one
 
-pub ends_in_name : (e : FieldFault) (front : List Pair) (count i : ℕ) (bytes : List ℕ) (total : Result (List Pair × List ℕ) ℕ) (b : ℕ) (behind : List ℕ) → i < count → bytes ≡ b ∷ behind → 0 < b
+pub ends_in_name : (e : FieldFault) (front : List Pair) (count i : ℕ) (bytes : List ℕ) (total : Result (List Pair × List ℕ) ℕ) (b : ℕ)
+    (behind : List ℕ) → i < count → bytes ≡ b ∷ behind → 0 < b
     → Fails e (string_at bytes) → with_front front (pairs_at (count - i) bytes) ≡ total → Fails e total
 ends_in_name field_fault.Memory front count i bytes total b behind lt starts first h so_far = tt
 ends_in_name (field_fault.Left left) front count i bytes total b behind lt starts first h so_far =
     let k : count - i ≡ suc (count - (i + 1)) = omega arith in
-    let one : with_front front (pairs_at (count - i) bytes) ≡ Err left = rw (k, pairs_at_pair (count - (i + 1)) b behind bytes starts first, h) refl in
+    let one : with_front front (pairs_at (count - i) bytes) ≡ Err left =
+    rw (k, pairs_at_pair (count - (i + 1)) b behind bytes starts first, h) refl in
     sym so_far ∙ one
 
-pub ends_in_value : (e : FieldFault) (front : List Pair) (count i : ℕ) (bytes name mid : List ℕ) (total : Result (List Pair × List ℕ) ℕ) (b : ℕ) (behind : List ℕ) → i < count → bytes ≡ b ∷ behind → 0 < b
+pub ends_in_value : (e : FieldFault) (front : List Pair) (count i : ℕ) (bytes name mid : List ℕ) (total : Result (List Pair × List ℕ) ℕ)
+    (b : ℕ) (behind : List ℕ) → i < count → bytes ≡ b ∷ behind → 0 < b
     → string_at bytes ≡ Ok (name, mid) → Fails e (string_at mid) → with_front front (pairs_at (count - i) bytes) ≡ total → Fails e total
 ends_in_value field_fault.Memory front count i bytes name mid total b behind lt starts first read h so_far = tt
 ends_in_value (field_fault.Left left) front count i bytes name mid total b behind lt starts first read h so_far =
     let k : count - i ≡ suc (count - (i + 1)) = omega arith in
-    let one : with_front front (pairs_at (count - i) bytes) ≡ Err left = rw (k, pairs_at_pair (count - (i + 1)) b behind bytes starts first, read, h) refl in
+    let one : with_front front (pairs_at (count - i) bytes) ≡ Err left =
+    rw (k, pairs_at_pair (count - (i + 1)) b behind bytes starts first, read, h) refl in
     sym so_far ∙ one

@@ -40,5 +40,6 @@ pub fault_is : (p : Phase) (bytes : List ℕ) (f : WireFault) → IsBytes bytes 
 fault_is p bytes f fits e = faults p bytes f fits (refused p bytes f e) e
 
 -- what is answered is what judging gives
-pub is_place : (p : Phase) (bytes : List ℕ) (t : Taken) → IsBytes bytes → IsJudged t (judge p bytes) → (f : WireFault) → t ≡ taken.Wrong f → IsFault p bytes f
+pub is_place : (p : Phase) (bytes : List ℕ) (t : Taken) → IsBytes bytes → IsJudged t (judge p bytes) → (f : WireFault) → t ≡ taken.Wrong f
+    → IsFault p bytes f
 is_place p bytes t fits judged f e = fault_is p bytes f fits (subst (λ (x : Taken). IsJudged x (judge p bytes)) e judged)

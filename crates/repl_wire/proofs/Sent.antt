@@ -19,7 +19,8 @@ by lengths read bytes = on_frame (frame_of 1 lengths.0 lengths.1 bytes) (λ body
 -- ---- a message that there is
 
 front_some : (q d c f x : Bool) (lengths : ℕ × ℕ) (bytes : List ℕ)
-    → cond {A = Option (ℕ × ℕ)} q (Some (5, MESSAGE_LIMIT)) (cond d (Some (4, COPY_DATA_LIMIT)) (cond c (Some (4, MESSAGE_LIMIT)) (cond f (Some (5, MESSAGE_LIMIT)) (cond x (Some (4, MESSAGE_LIMIT)) None)))) ≡ Some lengths
+    → cond {A = Option (ℕ × ℕ)} q (Some (5, MESSAGE_LIMIT)) (cond d (Some (4, COPY_DATA_LIMIT))
+    (cond c (Some (4, MESSAGE_LIMIT)) (cond f (Some (5, MESSAGE_LIMIT)) (cond x (Some (4, MESSAGE_LIMIT)) None)))) ≡ Some lengths
     → cond q (judge_message (λ (text : List ℕ). front.Query text) 1 MESSAGE_LIMIT text_of bytes)
     (cond d (judge_message (λ (piece : List ℕ). front.CopyData piece) 0 COPY_DATA_LIMIT bytes_of bytes)
     (cond c (judge_message (λ (u : Unit {0}). front.CopyDone) 0 MESSAGE_LIMIT nothing_of bytes)
@@ -37,20 +38,24 @@ front_some false false false true x lengths bytes e = let is : (5, MESSAGE_LIMIT
 front_some false false false false true lengths bytes e = let is : (4, MESSAGE_LIMIT) ≡ lengths = cc in rw (← is) refl
 front_some false false false false false lengths bytes e = absurd cc
 
-back_some : (r : Option Row) (lengths : ℕ × ℕ) (bytes : List ℕ) → option_map {U = ℕ × ℕ} (λ (x : Row). (x.least + 4, x.limit)) r ≡ Some lengths → judge_row r bytes ≡ by lengths (row_of r) bytes
+back_some : (r : Option Row) (lengths : ℕ × ℕ) (bytes : List ℕ) → option_map {U = ℕ × ℕ} (λ (x : Row). (x.least + 4, x.limit)) r
+    ≡ Some lengths → judge_row r bytes ≡ by lengths (row_of r) bytes
 back_some None lengths bytes e = absurd cc
 back_some (Some r) lengths bytes e = let is : (r.least + 4, r.limit) ≡ lengths = cc in rw (← is) refl
 
 pub sent_some : (s : Side) (kind : ℕ) (bytes : List ℕ) (lengths : ℕ × ℕ) → lengths_of s kind ≡ Some lengths
-    → judge_sent s (kind ∷ bytes) ≡ on_frame (frame_of 1 lengths.0 lengths.1 bytes) (λ body. ended_at (length body + 5) (message_of s kind body))
+    → judge_sent s (kind ∷ bytes) ≡ on_frame (frame_of 1 lengths.0 lengths.1 bytes)
+    (λ body. ended_at (length body + 5) (message_of s kind body))
 unfolding judge_front judge_back
-sent_some side.Front kind bytes lengths e = front_some (eqb kind 81) (eqb kind 100) (eqb kind 99) (eqb kind 102) (eqb kind 88) lengths bytes e
+sent_some side.Front kind bytes lengths e = front_some (eqb kind 81) (eqb kind 100) (eqb kind 99) (eqb kind 102) (eqb kind 88) lengths bytes
+    e
 sent_some side.Back kind bytes lengths e = back_some (back_row kind) lengths bytes e
 
 -- ---- a type byte that is none
 
 front_none : (q d c f x : Bool) (a b g h i none : Taken)
-    → cond {A = Option (ℕ × ℕ)} q (Some (5, MESSAGE_LIMIT)) (cond d (Some (4, COPY_DATA_LIMIT)) (cond c (Some (4, MESSAGE_LIMIT)) (cond f (Some (5, MESSAGE_LIMIT)) (cond x (Some (4, MESSAGE_LIMIT)) None)))) ≡ None
+    → cond {A = Option (ℕ × ℕ)} q (Some (5, MESSAGE_LIMIT)) (cond d (Some (4, COPY_DATA_LIMIT))
+    (cond c (Some (4, MESSAGE_LIMIT)) (cond f (Some (5, MESSAGE_LIMIT)) (cond x (Some (4, MESSAGE_LIMIT)) None)))) ≡ None
     → cond q a (cond d b (cond c g (cond f h (cond x i none)))) ≡ none
 front_none true d c f x a b g h i none e = absurd cc
 front_none false true c f x a b g h i none e = absurd cc
@@ -59,7 +64,8 @@ front_none false false false true x a b g h i none e = absurd cc
 front_none false false false false true a b g h i none e = absurd cc
 front_none false false false false false a b g h i none e = refl
 
-back_none : (r : Option Row) (bytes : List ℕ) → option_map {U = ℕ × ℕ} (λ (x : Row). (x.least + 4, x.limit)) r ≡ None → judge_row r bytes ≡ taken.Wrong (fault.Kind 0)
+back_none : (r : Option Row) (bytes : List ℕ) → option_map {U = ℕ × ℕ} (λ (x : Row). (x.least + 4, x.limit)) r ≡ None → judge_row r bytes
+    ≡ taken.Wrong (fault.Kind 0)
 back_none None bytes e = refl
 back_none (Some r) bytes e = absurd cc
 

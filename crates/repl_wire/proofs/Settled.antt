@@ -41,26 +41,32 @@ judged_length out part f body = cond out (Err f) (cond part (Ok None) (Ok (Some 
 number_more : (bytes more : List ℕ) → 4 ≤ length bytes → number (bytes ++ more) ≡ number bytes
 number_more bytes more long = rw (take-append-le 4 bytes more long) refl
 
-frame_tests : (short out part : Bool) (f : WireFault) (body : List ℕ) → IsThere (cond short (Ok None) (cond out (Err f) (cond part (Ok None) (Ok (Some body)))))
+frame_tests : (short out part : Bool) (f : WireFault) (body : List ℕ)
+    → IsThere (cond short (Ok None) (cond out (Err f) (cond part (Ok None) (Ok (Some body)))))
     → (short ≡ false) × ((out ≡ true) ⊎ ((out ≡ false) × (part ≡ false)))
 frame_tests true out part f body there = absurd there
 frame_tests false true part f body there = (refl, inl refl)
 frame_tests false false true f body there = absurd there
 frame_tests false false false f body there = (refl, inr (refl, refl))
 
-length_more : (least limit place : ℕ) (bytes more : List ℕ) → ((ltb (number bytes) least || ltb limit (number bytes)) ≡ true) ⊎ (((ltb (number bytes) least || ltb limit (number bytes)) ≡ false) × (ltb (length bytes) (number bytes) ≡ false))
-    → judged_length (ltb (number bytes) least || ltb limit (number bytes)) (ltb (length (bytes ++ more)) (number bytes)) (fault.Length place (number bytes)) (drop 4 (take (number bytes) (bytes ++ more)))
-    ≡ judged_length (ltb (number bytes) least || ltb limit (number bytes)) (ltb (length bytes) (number bytes)) (fault.Length place (number bytes)) (drop 4 (take (number bytes) bytes))
+length_more : (least limit place : ℕ) (bytes more : List ℕ) → ((ltb (number bytes) least || ltb limit (number bytes)) ≡ true)
+    ⊎ (((ltb (number bytes) least || ltb limit (number bytes)) ≡ false) × (ltb (length bytes) (number bytes) ≡ false))
+    → judged_length (ltb (number bytes) least || ltb limit (number bytes)) (ltb (length (bytes ++ more)) (number bytes))
+    (fault.Length place (number bytes)) (drop 4 (take (number bytes) (bytes ++ more)))
+    ≡ judged_length (ltb (number bytes) least || ltb limit (number bytes)) (ltb (length bytes) (number bytes))
+    (fault.Length place (number bytes)) (drop 4 (take (number bytes) bytes))
 length_more least limit place bytes more (inl out) = rw out refl
 length_more least limit place bytes more (inr t) =
     let whole : number bytes ≤ length bytes = ltb-false (length bytes) (number bytes) t.1 in
     let still : number bytes ≤ length (bytes ++ more) = omega (arith, length-append bytes more) in
     rw (t.0, le-ltb _ _ whole, le-ltb _ _ still, take-append-le (number bytes) bytes more whole) refl
 
-frame_more : (place least limit : ℕ) (bytes more : List ℕ) → IsThere (frame_of place least limit bytes) → frame_of place least limit (bytes ++ more) ≡ frame_of place least limit bytes
+frame_more : (place least limit : ℕ) (bytes more : List ℕ) → IsThere (frame_of place least limit bytes)
+    → frame_of place least limit (bytes ++ more) ≡ frame_of place least limit bytes
 unfolding frame_of
 frame_more place least limit bytes more there =
-    let t = frame_tests (ltb (length bytes) 4) (ltb (number bytes) least || ltb limit (number bytes)) (ltb (length bytes) (number bytes)) _ _ there in
+    let t = frame_tests (ltb (length bytes) 4) (ltb (number bytes) least || ltb limit (number bytes)) (ltb (length bytes) (number bytes)) _
+    _ there in
     let long : 4 ≤ length bytes = ltb-false _ _ t.0 in
     let n = number_more bytes more long in
     let longer : 4 ≤ length (bytes ++ more) = omega (arith, length-append bytes more) in
@@ -71,24 +77,30 @@ on_frame_there (Ok None) read settled = settled
 on_frame_there (Ok (Some body)) read settled = tt
 on_frame_there (Err f) read settled = tt
 
-on_frame_more : (place least limit : ℕ) (bytes more : List ℕ) (read : List ℕ → Taken) → Settled (on_frame (frame_of place least limit bytes) read)
+on_frame_more : (place least limit : ℕ) (bytes more : List ℕ) (read : List ℕ → Taken)
+    → Settled (on_frame (frame_of place least limit bytes) read)
     → on_frame (frame_of place least limit (bytes ++ more)) read ≡ on_frame (frame_of place least limit bytes) read
-on_frame_more place least limit bytes more read settled = ap (λ (r : Frame). on_frame r read) (frame_more place least limit bytes more (on_frame_there (frame_of place least limit bytes) read settled))
+on_frame_more place least limit bytes more read settled = ap (λ (r : Frame). on_frame r read)
+    (frame_more place least limit bytes more (on_frame_there (frame_of place least limit bytes) read settled))
 
 -- a choice of answers
-choice_more : (b : Bool) (x x' other other' : Taken) → (Settled x → x' ≡ x) → (Settled other → other' ≡ other) → Settled (cond b x other) → cond b x' other' ≡ cond b x other
+choice_more : (b : Bool) (x x' other other' : Taken) → (Settled x → x' ≡ x) → (Settled other → other' ≡ other) → Settled (cond b x other)
+    → cond b x' other' ≡ cond b x other
 choice_more true x x' other other' f g settled = f settled
 choice_more false x x' other other' f g settled = g settled
 
 -- ---- phases
 
-message_more : {A : Type 0} (make : A → Front) (least limit : ℕ) (read : List ℕ → Result A ℕ) (bytes more : List ℕ) → Settled (judge_message make least limit read bytes)
+message_more : {A : Type 0} (make : A → Front) (least limit : ℕ) (read : List ℕ → Result A ℕ) (bytes more : List ℕ)
+    → Settled (judge_message make least limit read bytes)
     → judge_message make least limit read (bytes ++ more) ≡ judge_message make least limit read bytes
-message_more make least limit read bytes more settled = on_frame_more 1 (least + 4) limit bytes more (λ body. read_as (λ x. message.Front (make x)) (length body + 5) (read body)) settled
+message_more make least limit read bytes more settled = on_frame_more 1 (least + 4) limit bytes more
+    (λ body. read_as (λ x. message.Front (make x)) (length body + 5) (read body)) settled
 
 row_more : (r : Option Row) (bytes more : List ℕ) → Settled (judge_row r bytes) → judge_row r (bytes ++ more) ≡ judge_row r bytes
 row_more None bytes more settled = refl
-row_more (Some r) bytes more settled = on_frame_more 1 (r.least + 4) r.limit bytes more (λ body. read_as (λ m. message.Back m) (length body + 5) (r.read body)) settled
+row_more (Some r) bytes more settled = on_frame_more 1 (r.least + 4) r.limit bytes more
+    (λ body. read_as (λ m. message.Back m) (length body + 5) (r.read body)) settled
 
 front_more : (bytes more : List ℕ) → Settled (judge_front bytes) → judge_front (bytes ++ more) ≡ judge_front bytes
 unfolding judge_front
@@ -122,35 +134,41 @@ judge_more phase.Ended bytes more settled = ended_more bytes more settled
 
 -- ---- what waits is short
 
-short_tests : (short out part : Bool) (f : WireFault) (body : List ℕ) → cond short (Ok None) (cond out (Err f) (cond part (Ok None) (Ok (Some body)))) ≡ Ok None
+short_tests : (short out part : Bool) (f : WireFault) (body : List ℕ)
+    → cond short (Ok None) (cond out (Err f) (cond part (Ok None) (Ok (Some body)))) ≡ Ok None
     → (short ≡ true) ⊎ ((out ≡ false) × (part ≡ true))
 short_tests true out part f body e = inl refl
 short_tests false true part f body e = absurd cc
 short_tests false false true f body e = inr (refl, refl)
 short_tests false false false f body e = absurd cc
 
-short_length : (least limit : ℕ) (bytes : List ℕ) → 4 ≤ limit → (ltb (length bytes) 4 ≡ true) ⊎ (((ltb (number bytes) least || ltb limit (number bytes)) ≡ false) × (ltb (length bytes) (number bytes) ≡ true)) → length bytes < limit
+short_length : (least limit : ℕ) (bytes : List ℕ) → 4 ≤ limit → (ltb (length bytes) 4 ≡ true)
+    ⊎ (((ltb (number bytes) least || ltb limit (number bytes)) ≡ false) × (ltb (length bytes) (number bytes) ≡ true)) → length bytes < limit
 short_length least limit bytes wide (inl few) = omega (arith, ltb-true (length bytes) 4 few)
 short_length least limit bytes wide (inr t) =
-    let low : number bytes ≤ limit = ltb-false limit (number bytes) (or_parts (ltb (number bytes) least) (ltb limit (number bytes)) t.0).1 in
+    let low : number bytes ≤ limit = ltb-false limit (number bytes) (or_parts (ltb (number bytes) least) (ltb limit (number bytes)) t.0).1
+    in
     let part : length bytes < number bytes = ltb-true (length bytes) (number bytes) t.1 in
     omega arith
 
 frame_short : (place least limit : ℕ) (bytes : List ℕ) → 4 ≤ limit → frame_of place least limit bytes ≡ Ok None → length bytes < limit
 unfolding frame_of
 frame_short place least limit bytes wide e =
-    short_length least limit bytes wide (short_tests (ltb (length bytes) 4) (ltb (number bytes) least || ltb limit (number bytes)) (ltb (length bytes) (number bytes)) _ _ e)
+    short_length least limit bytes wide (short_tests (ltb (length bytes) 4) (ltb (number bytes) least || ltb limit (number bytes))
+    (ltb (length bytes) (number bytes)) _ _ e)
 
 read_settled : {A : Type 0} (make : A → Message) (end : ℕ) (r : Result A ℕ) → read_as make end r ≡ taken.Short → ⊥
 read_settled make end (Ok x) e = absurd cc
 read_settled make end (Err left) e = absurd cc
 
-on_frame_short : (r : Frame) (read : List ℕ → Taken) → ((body : List ℕ) → read body ≡ taken.Short → ⊥) → on_frame r read ≡ taken.Short → r ≡ Ok None
+on_frame_short : (r : Frame) (read : List ℕ → Taken) → ((body : List ℕ) → read body ≡ taken.Short → ⊥) → on_frame r read ≡ taken.Short → r
+    ≡ Ok None
 on_frame_short (Ok None) read settled e = refl
 on_frame_short (Ok (Some body)) read settled e = absurd (settled body e)
 on_frame_short (Err f) read settled e = absurd cc
 
-choice_short : (P : Type 0) (b : Bool) (x other : Taken) → (x ≡ taken.Short → P) → (other ≡ taken.Short → P) → cond b x other ≡ taken.Short → P
+choice_short : (P : Type 0) (b : Bool) (x other : Taken) → (x ≡ taken.Short → P) → (other ≡ taken.Short → P) → cond b x other ≡ taken.Short
+    → P
 choice_short P true x other f g e = f e
 choice_short P false x other f g e = g e
 
@@ -163,19 +181,41 @@ packet_settled body e =
     (choice_short ⊥ (eqb (number body) 80_877_104) _ _ (read_settled _ _ (nothing_of (drop 4 body)))
     (λ e. absurd cc)))) e
 
-message_short : {A : Type 0} (make : A → Front) (least limit : ℕ) (read : List ℕ → Result A ℕ) (bytes : List ℕ) → 4 ≤ limit → judge_message make least limit read bytes ≡ taken.Short → length bytes < limit
+message_short : {A : Type 0} (make : A → Front) (least limit : ℕ) (read : List ℕ → Result A ℕ) (bytes : List ℕ) → 4 ≤ limit
+    → judge_message make least limit read bytes ≡ taken.Short → length bytes < limit
 message_short make least limit read bytes wide e =
-    frame_short 1 (least + 4) limit bytes wide (on_frame_short (frame_of 1 (least + 4) limit bytes) _ (λ body. read_settled _ _ (read body)) e)
+    frame_short 1 (least + 4) limit bytes wide (on_frame_short (frame_of 1 (least + 4) limit bytes) _ (λ body. read_settled _ _ (read body))
+    e)
 
 front_short : (bytes : List ℕ) → judge_front bytes ≡ taken.Short → length bytes ≤ MESSAGE_LIMIT
 unfolding judge_front
 front_short [] e = omega arith
 front_short (kind ∷ bytes) e =
-    choice_short _ (eqb kind 81) _ _ (λ q. omega (arith, message_short (λ (text : List ℕ). front.Query text) 1 MESSAGE_LIMIT text_of bytes (omega arith) q))
-    (choice_short _ (eqb kind 100) _ _ (λ q. omega (arith, message_short (λ (piece : List ℕ). front.CopyData piece) 0 COPY_DATA_LIMIT bytes_of bytes (omega arith) q))
-    (choice_short _ (eqb kind 99) _ _ (λ q. omega (arith, message_short (λ (_ : Unit {0}). front.CopyDone) 0 MESSAGE_LIMIT nothing_of bytes (omega arith) q))
-    (choice_short _ (eqb kind 102) _ _ (λ q. omega (arith, message_short (λ (text : List ℕ). front.CopyFail text) 1 MESSAGE_LIMIT text_of bytes (omega arith) q))
-    (choice_short _ (eqb kind 88) _ _ (λ q. omega (arith, message_short (λ (_ : Unit {0}). front.Terminate) 0 MESSAGE_LIMIT nothing_of bytes (omega arith) q))
+    choice_short _ (eqb kind 81) _ _ (λ q. omega (
+      arith,
+      message_short (λ (text : List ℕ). front.Query text) 1 MESSAGE_LIMIT text_of bytes
+          (omega arith) q,
+    ))
+    (choice_short _ (eqb kind 100) _ _ (λ q. omega (
+      arith,
+      message_short (λ (piece : List ℕ). front.CopyData piece) 0 COPY_DATA_LIMIT
+          bytes_of bytes (omega arith) q,
+    ))
+    (choice_short _ (eqb kind 99) _ _ (λ q. omega (
+      arith,
+      message_short (λ (_ : Unit {0}). front.CopyDone) 0 MESSAGE_LIMIT nothing_of bytes
+          (omega arith) q,
+    ))
+    (choice_short _ (eqb kind 102) _ _ (λ q. omega (
+      arith,
+      message_short (λ (text : List ℕ). front.CopyFail text) 1 MESSAGE_LIMIT text_of
+          bytes (omega arith) q,
+    ))
+    (choice_short _ (eqb kind 88) _ _ (λ q. omega (
+      arith,
+      message_short (λ (_ : Unit {0}). front.Terminate) 0 MESSAGE_LIMIT nothing_of bytes
+          (omega arith) q,
+    ))
     (λ q. absurd cc))))) e
 
 -- the limit of a row
@@ -208,7 +248,8 @@ rows_limited kind =
 row_short : (r : Option Row) (bytes : List ℕ) → IsLimited r → judge_row r bytes ≡ taken.Short → length bytes < MESSAGE_LIMIT
 row_short None bytes limited e = absurd cc
 row_short (Some r) bytes limited e =
-    let part = frame_short 1 (r.least + 4) r.limit bytes limited.0 (on_frame_short (frame_of 1 (r.least + 4) r.limit bytes) _ (λ body. read_settled _ _ (r.read body)) e) in
+    let part = frame_short 1 (r.least + 4) r.limit bytes limited.0
+    (on_frame_short (frame_of 1 (r.least + 4) r.limit bytes) _ (λ body. read_settled _ _ (r.read body)) e) in
     omega (arith, limited.1)
 
 back_short : (bytes : List ℕ) → judge_back bytes ≡ taken.Short → length bytes ≤ MESSAGE_LIMIT
@@ -218,7 +259,11 @@ back_short (kind ∷ bytes) e = omega (arith, row_short (back_row kind) bytes (r
 
 startup_short : (bytes : List ℕ) → judge_startup bytes ≡ taken.Short → length bytes ≤ MESSAGE_LIMIT
 unfolding judge_startup
-startup_short bytes e = omega (arith, frame_short 0 STARTUP_LEAST STARTUP_LIMIT bytes (omega arith) (on_frame_short (frame_of 0 STARTUP_LEAST STARTUP_LIMIT bytes) judge_packet packet_settled e))
+startup_short bytes e = omega (
+  arith,
+  frame_short 0 STARTUP_LEAST STARTUP_LIMIT bytes (omega arith)
+      (on_frame_short (frame_of 0 STARTUP_LEAST STARTUP_LIMIT bytes) judge_packet packet_settled e),
+)
 
 ended_short : (bytes : List ℕ) → judge_ended bytes ≡ taken.Short → length bytes ≤ MESSAGE_LIMIT
 ended_short [] e = omega arith

@@ -50,26 +50,34 @@ length_fault bytes f out =
     let outside = out.outside in
     omega (arith, n, s.1.within, packet_long s.0, outside)
     in
-    let some : Begins (IsSpelled phase.Startup) [] = (startup_spelling startup.Ssl, (message.Startup startup.Ssl, record { belongs = record { fits = tt; within = omega arith }; spelled = refl })) in
+    let some : Begins (IsSpelled phase.Startup) [] = (
+      startup_spelling startup.Ssl,
+      (message.Startup startup.Ssl, record { belongs = record { fits = tt; within = omega arith }; spelled = refl }),
+    ) in
     subst (IsFault phase.Startup bytes) (sym out.fault_is) (refl, omega (arith, out.field), refl, some, stops)
 
 -- ---- codes
 
-code_fault : (bytes body : List ℕ) → IsFrame STARTUP_LEAST STARTUP_LIMIT bytes body → ((m : Startup) → startup_code m ≢ number body) → IsFault phase.Startup bytes (fault.Code 4 (number body))
+code_fault : (bytes body : List ℕ) → IsFrame STARTUP_LEAST STARTUP_LIMIT bytes body → ((m : Startup) → startup_code m ≢ number body)
+    → IsFault phase.Startup bytes (fault.Code 4 (number body))
 code_fault bytes body frame none =
     let n = length body + 4 in
     let behind = drop n bytes in
     let parts : bytes ≡ int32 n ++ (body ++ behind) = frame_parts STARTUP_LEAST STARTUP_LIMIT bytes body frame in
     let front : take 4 (body ++ behind) ≡ take 4 body = take-append-le 4 body behind (omega (arith, frame.low)) in
     let said : number bytes ≡ n = ap number parts ∙ (int32_again n (body ++ behind) (omega (arith, frame.high))).0 in
-    let code : number body ≡ number (drop 4 bytes) = sym (ap (from_be_bytes w32) front) ∙ ap (λ (t : List ℕ). number (drop 4 t)) (sym parts) in
+    let code : number body ≡ number (drop 4 bytes) = sym (ap (from_be_bytes w32) front)
+    ∙ ap (λ (t : List ℕ). number (drop 4 t)) (sym parts) in
     let begins : take 8 bytes ≡ int32 n ++ take 4 body = ap (take 8) parts ∙ ap (λ (t : List ℕ). int32 n ++ t) front in
     let stops : ¬ Begins (IsSpelled phase.Startup) (take 8 bytes) = λ b.
     let s = startup_spelled b.1.0 (take 8 bytes ++ b.0) b.1.1 in
     let m = s.0 in
-    let whole_is : int32 n ++ (take 4 body ++ b.0) ≡ int32 (length (startup_body m) + 4) ++ startup_body m = ap (λ (t : List ℕ). t ++ b.0) (sym begins) ∙ s.2 in
-    let behind_length : take 4 body ++ b.0 ≡ startup_body m = (bytes_one (int32 n) (int32 (length (startup_body m) + 4)) (take 4 body ++ b.0) (startup_body m) refl whole_is).1 in
-    let code_is = bytes_one (take 4 body) (int32 (startup_code m)) b.0 (concat (startup_fields m)) (omega (arith, frame.low, length-take 4 body)) (behind_length ∙ startup_spell m) in
+    let whole_is : int32 n ++ (take 4 body ++ b.0) ≡ int32 (length (startup_body m) + 4)
+    ++ startup_body m = ap (λ (t : List ℕ). t ++ b.0) (sym begins) ∙ s.2 in
+    let behind_length : take 4 body ++ b.0 ≡ startup_body m =
+    (bytes_one (int32 n) (int32 (length (startup_body m) + 4)) (take 4 body ++ b.0) (startup_body m) refl whole_is).1 in
+    let code_is = bytes_one (take 4 body) (int32 (startup_code m)) b.0 (concat (startup_fields m))
+    (omega (arith, frame.low, length-take 4 body)) (behind_length ∙ startup_spell m) in
     none m (sym (int32_again (startup_code m) [] (codes m)).0 ∙ ap (from_be_bytes w32) (sym code_is.0))
     in
     (refl, omega (arith, frame.low, frame.there), code, omega (arith, said, frame.low), omega (arith, said, frame.high), stops)
@@ -82,7 +90,8 @@ code_fault bytes body frame none =
 
 -- ---- bodies
 
-body_fault : (bytes body : List ℕ) (left : ℕ) → IsFrame STARTUP_LEAST STARTUP_LIMIT bytes body → AreNone phase.Startup bytes → LeavesPacket (number body) (drop 4 body) left → left ≤ length body → IsFault phase.Startup bytes (fault.Body (length body + 4 - left))
+body_fault : (bytes body : List ℕ) (left : ℕ) → IsFrame STARTUP_LEAST STARTUP_LIMIT bytes body → AreNone phase.Startup bytes
+    → LeavesPacket (number body) (drop 4 body) left → left ≤ length body → IsFault phase.Startup bytes (fault.Body (length body + 4 - left))
 body_fault bytes body left frame none leaves short =
     let behind = drop (length body + 4) bytes in
     let parts : bytes ≡ framed body ++ behind = frame_parts STARTUP_LEAST STARTUP_LIMIT bytes body frame in
@@ -111,18 +120,25 @@ body_fault bytes body left frame none leaves short =
     }
 
 -- a packet of this code, of which reading says where its fields are left
-packet_fault : {A : Type 0} (code : ℕ) (make : A → Startup) (read : List ℕ → Result A ℕ) → ((fields : List ℕ) (left : ℕ) → IsBody fields → read fields ≡ Err left → LeavesPacket code fields left × (left ≤ length fields))
-    → (bytes body : List ℕ) (f : WireFault) → IsFrame STARTUP_LEAST STARTUP_LIMIT bytes body → AreNone phase.Startup bytes → number body ≡ code → read_packet make read body ≡ taken.Wrong f → IsFault phase.Startup bytes f
+packet_fault : {A : Type 0} (code : ℕ) (make : A → Startup) (read : List ℕ → Result A ℕ)
+    → ((fields : List ℕ) (left : ℕ) → IsBody fields → read fields ≡ Err left → LeavesPacket code fields left × (left ≤ length fields))
+    → (bytes body : List ℕ) (f : WireFault) → IsFrame STARTUP_LEAST STARTUP_LIMIT bytes body → AreNone phase.Startup bytes → number body
+    ≡ code → read_packet make read body ≡ taken.Wrong f → IsFault phase.Startup bytes f
 packet_fault {A} code make read leaves bytes body f frame none code_is e =
     let r = read_wrong (λ (x : A). message.Startup (make x)) (length body + 4) (read (drop 4 body)) f e in
-    let fields : IsBody (drop 4 body) = record { fits = IsBytes-drop 4 body frame.fits; short = omega (arith, frame.high, length-drop 4 body) } in
+    let fields : IsBody (drop 4 body) = record {
+      fits = IsBytes-drop 4 body frame.fits;
+      short = omega (arith, frame.high, length-drop 4 body);
+    } in
     let l = leaves (drop 4 body) r.0 fields r.1 in
     subst (IsFault phase.Startup bytes) (sym r.2)
-    (body_fault bytes body r.0 frame none (subst (λ (c : ℕ). LeavesPacket c (drop 4 body) r.0) (sym code_is) l.0) (omega (arith, l.1, length-drop 4 body)))
+    (body_fault bytes body r.0 frame none (subst (λ (c : ℕ). LeavesPacket c (drop 4 body) r.0) (sym code_is) l.0)
+    (omega (arith, l.1, length-drop 4 body)))
 
 -- ---- the fields behind each code
 
-behind : (code : ℕ) (fields : List ℕ) (left : ℕ) → code ≢ CANCEL_REQUEST → LeavesAt (IsOfCode code) startup_fields fields left → LeavesPacket code fields left × (left ≤ length fields)
+behind : (code : ℕ) (fields : List ℕ) (left : ℕ) → code ≢ CANCEL_REQUEST → LeavesAt (IsOfCode code) startup_fields fields left
+    → LeavesPacket code fields left × (left ≤ length fields)
 behind code fields left other l = (inr (other, l), left_short l)
 
 abbrev Parameters : Language
@@ -133,10 +149,21 @@ unfolding parameters_of
 parameters_leave fields left is e = leaves_last pairs_part (λ (ps : List Pair). ps) fields left is e
 
 parameters_to : (fs : List (List ℕ)) → Parameters fs → (m : Startup) × IsOfCode 196_608 m × (startup_fields m ≡ fs)
-parameters_to fs p = (startup.Params p.value, record { fits = p.fits; code_is = refl }, sym (p.parts ∙ ap (λ (t : List (List ℕ)). ended_fields pair_fields p.value ++ t) p.behind ∙ append-nil (ended_fields pair_fields p.value)))
+parameters_to fs p = (
+  startup.Params p.value,
+  record { fits = p.fits; code_is = refl },
+  sym (p.parts ∙ ap (λ (t : List (List ℕ)). ended_fields pair_fields p.value ++ t) p.behind
+      ∙ append-nil (ended_fields pair_fields p.value)),
+)
 
 parameters_from : (m : Startup) → IsOfCode 196_608 m → Parameters (startup_fields m)
-parameters_from (startup.Params ps) is = record { value = ps; fits = is.fits; more = []; parts = sym (append-nil (ended_fields pair_fields ps)); behind = refl }
+parameters_from (startup.Params ps) is = record {
+  value = ps;
+  fits = is.fits;
+  more = [];
+  parts = sym (append-nil (ended_fields pair_fields ps));
+  behind = refl;
+}
 parameters_from startup.Ssl is = absurd (omega (arith, is.code_is))
 parameters_from startup.Gss is = absurd (omega (arith, is.code_is))
 parameters_from (startup.Cancel pid key) is = absurd (omega (arith, is.code_is))
@@ -153,7 +180,8 @@ gss_from startup.Ssl is = refl
 gss_from startup.Gss is = refl
 gss_from (startup.Cancel pid key) is = absurd (omega (arith, is.code_is))
 
-cancel_leaves : (fields : List ℕ) (left : ℕ) → two_numbers_of fields ≡ Err left → LeavesPacket 80_877_102 fields left × (left ≤ length fields)
+cancel_leaves : (fields : List ℕ) (left : ℕ) → two_numbers_of fields ≡ Err left → LeavesPacket 80_877_102 fields left
+    × (left ≤ length fields)
 unfolding two_numbers_of
 cancel_leaves fields left e =
     let g = guard_failed (eqb (length fields) 8) (number fields, number (drop 4 fields)) (length fields) left e in
@@ -171,40 +199,49 @@ no_code code a b c d (startup.Cancel pid key) same = b (sym same)
 wrong_is : (f g : WireFault) → taken.Wrong f ≡ taken.Wrong g → f ≡ g
 wrong_is f g e = cc
 
-packets_fault : (bytes body : List ℕ) (f : WireFault) → IsFrame STARTUP_LEAST STARTUP_LIMIT bytes body → AreNone phase.Startup bytes → judge_packet body ≡ taken.Wrong f → IsFault phase.Startup bytes f
+packets_fault : (bytes body : List ℕ) (f : WireFault) → IsFrame STARTUP_LEAST STARTUP_LIMIT bytes body → AreNone phase.Startup bytes
+    → judge_packet body ≡ taken.Wrong f → IsFault phase.Startup bytes f
 unfolding judge_packet
 packets_fault bytes body f frame none e =
     elim (choice (eqb (number body) 196_608) _ _ (taken.Wrong f) e) [
       | inl p ↦
           packet_fault 196_608 (λ ps. startup.Params ps) parameters_of
-          (λ fields left is failed. behind 196_608 fields left (λ same. omega (arith, same)) (leaves_at (IsOfCode 196_608) startup_fields Parameters fields left parameters_to parameters_from (parameters_leave fields left is failed)))
+          (λ fields left is failed. behind 196_608 fields left (λ same. omega (arith, same))
+          (leaves_at (IsOfCode 196_608) startup_fields Parameters fields left parameters_to parameters_from
+          (parameters_leave fields left is failed)))
           bytes body f frame none (eqb-true _ _ p.0) p.1
       | inr e1 ↦ elim (choice (eqb (number body) 80_877_102) _ _ (taken.Wrong f) e1.1) [
-        | inl c ↦ packet_fault 80_877_102 (λ (ids : ℕ × ℕ). startup.Cancel ids.0 ids.1) two_numbers_of (λ fields left is failed. cancel_leaves fields left failed) bytes body f frame none (eqb-true _ _ c.0) c.1
+        | inl c ↦ packet_fault 80_877_102 (λ (ids : ℕ × ℕ). startup.Cancel ids.0 ids.1) two_numbers_of
+            (λ fields left is failed. cancel_leaves fields left failed) bytes body f frame none (eqb-true _ _ c.0) c.1
         | inr e2 ↦ elim (choice (eqb (number body) 80_877_103) _ _ (taken.Wrong f) e2.1) [
           | inl s ↦
               packet_fault 80_877_103 (λ (u : Unit {0}). startup.Ssl) nothing_of
               (λ fields left is failed. behind 80_877_103 fields left (λ same. omega (arith, same))
-              (leaves_at (IsOfCode 80_877_103) startup_fields Nothing fields left (λ fs n. (startup.Ssl, record { fits = tt; code_is = refl }, sym n)) ssl_from (nothing_leaves fields left failed)))
+              (leaves_at (IsOfCode 80_877_103) startup_fields Nothing fields left
+              (λ fs n. (startup.Ssl, record { fits = tt; code_is = refl }, sym n)) ssl_from (nothing_leaves fields left failed)))
               bytes body f frame none (eqb-true _ _ s.0) s.1
           | inr e3 ↦ elim (choice (eqb (number body) 80_877_104) _ _ (taken.Wrong f) e3.1) [
             | inl g ↦
                 packet_fault 80_877_104 (λ (u : Unit {0}). startup.Gss) nothing_of
                 (λ fields left is failed. behind 80_877_104 fields left (λ same. omega (arith, same))
-                (leaves_at (IsOfCode 80_877_104) startup_fields Nothing fields left (λ fs n. (startup.Gss, record { fits = tt; code_is = refl }, sym n)) gss_from (nothing_leaves fields left failed)))
+                (leaves_at (IsOfCode 80_877_104) startup_fields Nothing fields left
+                (λ fs n. (startup.Gss, record { fits = tt; code_is = refl }, sym n)) gss_from (nothing_leaves fields left failed)))
                 bytes body f frame none (eqb-true _ _ g.0) g.1
             | inr e4 ↦
                 subst (IsFault phase.Startup bytes) (wrong_is (fault.Code 4 (number body)) f e4.1)
-                (code_fault bytes body frame (no_code (number body) (eqb-false _ _ e1.0) (eqb-false _ _ e2.0) (eqb-false _ _ e3.0) (eqb-false _ _ e4.0)))
+                (code_fault bytes body frame (no_code (number body) (eqb-false _ _ e1.0) (eqb-false _ _ e2.0) (eqb-false _ _ e3.0)
+                (eqb-false _ _ e4.0)))
           ]
         ]
       ]
     ]
 
-pub startup_fault : (bytes : List ℕ) (f : WireFault) → IsBytes bytes → AreNone phase.Startup bytes → judge_startup bytes ≡ taken.Wrong f → IsFault phase.Startup bytes f
+pub startup_fault : (bytes : List ℕ) (f : WireFault) → IsBytes bytes → AreNone phase.Startup bytes → judge_startup bytes ≡ taken.Wrong f
+    → IsFault phase.Startup bytes f
 unfolding judge_startup
 startup_fault bytes f fits none e =
     elim (frame_wrong (frame_of 0 STARTUP_LEAST STARTUP_LIMIT bytes) judge_packet f e) [
       | inl wrong ↦ length_fault bytes f (length_wrong 0 STARTUP_LEAST STARTUP_LIMIT bytes f wrong)
-      | inr whole ↦ packets_fault bytes whole.0 f (frame_takes 0 STARTUP_LEAST STARTUP_LIMIT bytes whole.0 (omega arith) fits whole.1) none whole.2
+      | inr whole ↦ packets_fault bytes whole.0 f (frame_takes 0 STARTUP_LEAST STARTUP_LIMIT bytes whole.0 (omega arith) fits whole.1) none
+          whole.2
     ]

@@ -12,26 +12,32 @@ use Rattle.repl_wire.specs.Judging.{IsJudged, judge}
 use Rattle.repl_wire.specs.Reader.{Reading, given}
 
 -- the buffer's part behind a message
-pub part_behind : (buffer : List ℕ) (start end used : ℕ) → start + used ≤ end → take (end - (start + used)) (drop (start + used) buffer) ≡ drop used (take (end - start) (drop start buffer))
+pub part_behind : (buffer : List ℕ) (start end used : ℕ) → start + used ≤ end → take (end - (start + used)) (drop (start + used) buffer)
+    ≡ drop used (take (end - start) (drop start buffer))
 part_behind buffer start end used within =
     let parts : end - start ≡ used + (end - (start + used)) = omega arith in
     rw (parts, drop-take used (end - (start + used)) (drop start buffer), drop-drop) refl
 
 -- a part is no longer than its bounds say
-pub part_within : (buffer : List ℕ) (start end used : ℕ) → start ≤ end → used ≤ length (take (end - start) (drop start buffer)) → start + used ≤ end
+pub part_within : (buffer : List ℕ) (start end used : ℕ) → start ≤ end → used ≤ length (take (end - start) (drop start buffer))
+    → start + used ≤ end
 part_within buffer start end used ordered within = omega (arith, length-take (end - start) (drop start buffer))
 
 -- what stands in front is the message's spelling
-pub spelled_front : (p : Phase) (m : Message) (rest : List ℕ) (used : ℕ) → used ≤ length rest → Spells p m (take used rest) → (rest ≡ spelling m ++ drop used rest) × (used ≡ length (spelling m))
-spelled_front p m rest used within s =
-    (sym (take-append-drop used rest) ∙ ap (λ (x : List ℕ). x ++ drop used rest) s.spelled, omega (arith, length-take used rest, ap length s.spelled))
+pub spelled_front : (p : Phase) (m : Message) (rest : List ℕ) (used : ℕ) → used ≤ length rest → Spells p m (take used rest)
+    → (rest ≡ spelling m ++ drop used rest) × (used ≡ length (spelling m))
+spelled_front p m rest used within s = (
+  sym (take-append-drop used rest) ∙ ap (λ (x : List ℕ). x ++ drop used rest) s.spelled,
+  omega (arith, length-take used rest, ap length s.spelled),
+)
 
 -- the reader's parts, as it is seen
 abbrev pub seen : Phase → ℕ → List ℕ → ℕ → ℕ → Reading
 seen phase place buffer start end = record { phase = phase; place = place; rest = take (end - start) (drop start buffer) }
 
 -- the parts behind a message
-pub seen_given : (old : Reading) (m : Message) (phase : Phase) (place : ℕ) (buffer : List ℕ) (start end used : ℕ) → old ≡ seen phase place buffer start end → start + used ≤ end
+pub seen_given : (old : Reading) (m : Message) (phase : Phase) (place : ℕ) (buffer : List ℕ) (start end used : ℕ) → old
+    ≡ seen phase place buffer start end → start + used ≤ end
     → seen (after phase m) (capped (place + used)) buffer (start + used) end ≡ given old m used
 seen_given old m phase place buffer start end used is within = rw (part_behind buffer start end used within, is) refl
 
@@ -42,19 +48,29 @@ judged_whole t judged m used is e = subst (λ (x : Taken). IsJudged x judged) e 
 -- the answer of `take` that a reader hands on, on the bytes that it has
 pub record Took (old : Reading) (t : Taken) : Type 0 where
   pub found : (m : Message) (used : ℕ) → t ≡ taken.Whole m used → (used ≤ length old.rest) × Spells old.phase m (take used old.rest)
-  pub only : (m : Message) (text rest : List ℕ) → Spells old.phase m text → old.rest ≡ text ++ rest → (t ≡ taken.Whole m (length text)) ⊎ (t ≡ taken.Memory)
+  pub only : (m : Message) (text rest : List ℕ) → Spells old.phase m text → old.rest ≡ text ++ rest → (t ≡ taken.Whole m (length text))
+      ⊎ (t ≡ taken.Memory)
   pub exact : IsJudged t (judge old.phase old.rest)
 
 -- a message behind which the reader is this
 pub found_from : (old new : Reading) (t : Taken) (m : Message) (used : ℕ) → Took old t → t ≡ taken.Whole m used → new ≡ given old m used
-    → Belongs old.phase m × ((behind : List ℕ) × (old.rest ≡ spelling m ++ behind) × (new ≡ record { phase = after old.phase m; place = capped (old.place + length (spelling m)); rest = behind }))
+    → Belongs old.phase m × ((behind : List ℕ) × (old.rest ≡ spelling m ++ behind)
+    × (new ≡ record { phase = after old.phase m; place = capped (old.place + length (spelling m)); rest = behind }))
 found_from old new t m used took is new_is =
     let found = took.found m used is in
-    let front = spelled_front old.phase m old.rest used found.0 found.1 in
-    (found.1.belongs, (drop used old.rest, front.0, new_is ∙ ap (λ (n : ℕ). record { phase = after old.phase m; place = capped (old.place + n); rest = drop used old.rest }) front.1))
+    let front = spelled_front old.phase m old.rest used found.0 found.1 in (
+      found.1.belongs,
+      (
+        drop used old.rest,
+        front.0,
+        new_is ∙ ap
+            (λ (n : ℕ). record { phase = after old.phase m; place = capped (old.place + n); rest = drop used old.rest }) front.1,
+      ),
+    )
 
 -- what `take` answers where a spelling stands in front
-pub only_from : (old : Reading) (t : Taken) (m : Message) (behind : List ℕ) → Took old t → Belongs old.phase m → old.rest ≡ spelling m ++ behind → (t ≡ taken.Whole m (length (spelling m))) ⊎ (t ≡ taken.Memory)
+pub only_from : (old : Reading) (t : Taken) (m : Message) (behind : List ℕ) → Took old t → Belongs old.phase m → old.rest ≡ spelling m
+    ++ behind → (t ≡ taken.Whole m (length (spelling m))) ⊎ (t ≡ taken.Memory)
 only_from old t m behind took belongs at = took.only m (spelling m) behind (record { belongs = belongs; spelled = refl }) at
 
 -- what `take` says of a reader's phase and bytes, said of the reader
@@ -69,8 +85,10 @@ took_from old p bytes t phase_is rest_is found only exact = record {
 }
 
 -- the same of a step that gives the message
-pub given_message : (old new : Reading) (t : Taken) (m n : Message) (used : ℕ) → Took old t → t ≡ taken.Whole m used → new ≡ given old m used → step.Message m ≡ step.Message n
-    → Belongs old.phase n × ((behind : List ℕ) × (old.rest ≡ spelling n ++ behind) × (new ≡ record { phase = after old.phase n; place = capped (old.place + length (spelling n)); rest = behind }))
+pub given_message : (old new : Reading) (t : Taken) (m n : Message) (used : ℕ) → Took old t → t ≡ taken.Whole m used → new
+    ≡ given old m used → step.Message m ≡ step.Message n
+    → Belongs old.phase n × ((behind : List ℕ) × (old.rest ≡ spelling n ++ behind)
+    × (new ≡ record { phase = after old.phase n; place = capped (old.place + length (spelling n)); rest = behind }))
 given_message old new t m n used took is new_is e =
     let same : m ≡ n = cc in
     rw (← same) (found_from old new t m used took is new_is)

@@ -102,6 +102,13 @@ LeavesBody phase.Ended kind body left = ⊥
 
 -- ---- faults
 
+-- where a fault stands
+abbrev pub place_of : WireFault → ℕ
+place_of (fault.Kind place) = place
+place_of (fault.Length place said) = place
+place_of (fault.Code place said) = place
+place_of (fault.Body place) = place
+
 -- the bytes spell a message that may be sent in this phase
 abbrev pub IsSpelled : Phase → List ℕ → Type 0
 IsSpelled p bytes = (m : Message) × Spells p m bytes

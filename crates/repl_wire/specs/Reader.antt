@@ -1,6 +1,6 @@
 -- A reader that is fed a stream in pieces. What it has been fed and has not given yet says all that it answers:
 -- how the stream was cut does not matter.
-use Rattle.std.specs.Prelude.{◌≡◌, ℕ, ◌+◌, List, [], ◌∷◌, ◌++◌, drop}
+use Rattle.std.specs.Prelude.{◌≡◌, ℕ, ◌+◌, ◌-◌, List, [], ◌∷◌, ◌++◌, length, drop}
 use Rattle.repl_message.specs.declared.message.Phase.{Phase}
 use Rattle.repl_message.specs.declared.message.Message.{Message}
 use Rattle.repl_message.specs.declared.message.Side.{Side}
@@ -60,6 +60,12 @@ Answers old step.Memory new = new ≡ old
 abbrev pub AreRead : Phase → List ℕ → List Message → Phase → List ℕ → Type 0
 AreRead p bytes [] last rest = (last ≡ p) × (rest ≡ bytes)
 AreRead p bytes (m ∷ ms) last rest = Belongs p m × ((behind : List ℕ) × (bytes ≡ spelling m ++ behind) × AreRead (after p m) behind ms last rest)
+
+-- A reader that was fed these bytes has given these messages, one after another, and is now so. This is what a loop
+-- over a reader keeps.
+pub record HasGiven (old : Reading) (bytes : List ℕ) (messages : List Message) (new : Reading) : Type 0 where
+  pub read : AreRead old.phase (old.rest ++ bytes) messages new.phase new.rest
+  pub place : new.place ≡ capped (old.place + (length old.rest + length bytes - length new.rest))
 
 -- what happens to a reader: it is fed a piece where it waits, and it gives a message
 pub data Event : Type 0 where

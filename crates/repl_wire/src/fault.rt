@@ -1,4 +1,5 @@
 ghost use Rattle.std.specs.Prelude.{◌≡◌};
+ghost use Rattle.repl_wire.specs.Places.{place_of};
 ghost use Rattle.repl_wire.specs.Reader.{at_place};
 
 use thiserror::Error;
@@ -21,6 +22,16 @@ pub enum WireFault {
 }
 
 impl WireFault {
+    /// Where it stands: how many bytes stand before the field that is refused.
+    pub fn place(self) -> u64
+        ensures { result ≡ place_of self }
+    {
+        match self {
+            WireFault::Kind(place) | WireFault::Body(place) => place,
+            WireFault::Length { place, .. } | WireFault::Code { place, .. } => place,
+        }
+    }
+
     /// The fault of bytes that stand at this place, with its own place counted from there on.
     pub(crate) fn moved(self, place: u64) -> WireFault
         ensures { result ≡ at_place place self }

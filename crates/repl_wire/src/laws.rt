@@ -1,19 +1,34 @@
-ghost use Rattle.std.specs.Prelude.{◌≡◌, ◌⊎◌, ℕ, List, ◌++◌};
+ghost use Rattle.std.specs.Prelude.{◌≡◌, ℕ, ◌+◌, ◌^◌, ◌<◌, List, [], ◌∷◌, ◌++◌, length};
+ghost use Rattle.repl_message.specs.Encoding.{capped};
 ghost use Rattle.std.specs.List.{concat};
 ghost use Rattle.repl_message.specs.declared.startup.Startup.{Startup};
 ghost use Rattle.repl_message.specs.declared.front.Front.{Front};
 ghost use Rattle.repl_message.specs.declared.back.Back.{Back};
 ghost use Rattle.repl_message.specs.declared.message.Phase.{Phase};
 ghost use Rattle.repl_message.specs.declared.message.Message.{Message};
-ghost use Rattle.repl_message.specs.Message.{startup_code, startup_body, front_body, back_body, int32, Spells};
+ghost use Rattle.repl_message.specs.Message.{startup_code, startup_body, front_body, back_body, int32, Belongs, Spells, after, spelling};
 ghost use Rattle.repl_wire.specs.declared.reader.Step.{Step};
-ghost use Rattle.repl_wire.specs.Reader.{Reading, ReadsStream};
+ghost use Rattle.repl_wire.specs.Reader.{HasGiven, Reading, ReadsStream, fed};
 ghost use Rattle.repl_wire.specs.Places.{startup_fields, front_fields, back_fields};
 
 /// However a stream is cut, a reader gives the same messages, and stops with the same answer.
 pub fn any_cuts()
     ensures { (r : Reading) (stream : List ℕ) (ms ns : List Message) (a b : Step) →
         ReadsStream r stream ms a → ReadsStream r stream ns b → (ms ≡ ns) × (a ≡ b) }
+{}
+
+/// What a loop over a reader keeps: a reader has given nothing at first, then one more message, or is fed one more
+/// piece; and what it gives of some bytes and then of others is what it gives of all of them.
+pub fn one_after_another()
+    ensures nothing { (r : Reading) → r.place < 2 ^ 64 → HasGiven r [] [] r }
+    ensures message { (old now new : Reading) (bytes behind : List ℕ) (ms : List Message) (m : Message) → HasGiven old bytes ms now →
+        Belongs now.phase m → now.rest ≡ spelling m ++ behind →
+        new ≡ record { phase = after now.phase m; place = capped (now.place + length (spelling m)); rest = behind } →
+        HasGiven old bytes (ms ++ m ∷ []) new }
+    ensures piece { (old now : Reading) (bytes piece : List ℕ) (ms : List Message) → HasGiven old bytes ms now →
+        HasGiven old (bytes ++ piece) ms (fed now piece) }
+    ensures more { (old mid new : Reading) (bytes more : List ℕ) (ms ns : List Message) → HasGiven old bytes ms mid →
+        HasGiven mid more ns new → HasGiven old (bytes ++ more) (ms ++ ns) new }
 {}
 
 /// No spelling is the beginning of another that may be sent in the same phase.

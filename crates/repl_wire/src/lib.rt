@@ -30,12 +30,13 @@ mod server_fields;
 mod taking;
 
 pub use fault::WireFault;
-pub use laws::{any_cuts, fields_spell, one_message};
+pub use laws::{any_cuts, fields_spell, one_after_another, one_message};
 pub use reader::{FrameReader, PIECE_LIMIT, READER_ROOM, Step};
 pub use repl_message::{
     Back, COPY_DATA_LIMIT, Column, Columns, EncodeFault, ErrorField, ErrorFields, Field, Fields,
     Formats, Front, LIST_LIMIT, MESSAGE_LIMIT, Message, PROTOCOL_3_0, Pair, Pairs, Phase,
     STARTUP_LEAST, STARTUP_LIMIT, Side, Startup, Text, TransactionStatus, encode_back,
-    encode_front, encode_startup, length_of, one_back, one_front, one_reading, one_startup,
+    encode_copy_data, encode_front, encode_startup, length_of, one_back, one_front, one_reading,
+    one_startup,
 };
 pub use taking::{Taken, take};

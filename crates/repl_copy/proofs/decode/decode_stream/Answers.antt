@@ -1,3 +1,4 @@
+-- What is spelled is read, and each fault is told where it has its cause.
 use Rattle.repl_copy.proofs.Causes.{exact_stream}
 use Rattle.repl_copy.proofs.decode.decode_stream.Goals as goal
 

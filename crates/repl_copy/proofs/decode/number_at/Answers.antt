@@ -1,3 +1,4 @@
+-- The eight bytes at a place are those of the number that is read there.
 use Rattle.std.proofs.Common.{arith}
 use Rattle.repl_copy.proofs.Numbers.{long_is}
 use Rattle.repl_copy.proofs.decode.number_at.Goals as goal

@@ -1,3 +1,4 @@
+-- The numbers are added one after another, and then the bytes of the log or the flag.
 use Rattle.std.proofs.Common.{◌≡◌, ◌∷◌, ◌++◌, ap, ◌∙◌}
 use Rattle.repl_copy.specs.declared.payload.Stream.TheVariants as stream
 use Rattle.repl_copy.specs.Payload.{int64, flag, stream_spelling}

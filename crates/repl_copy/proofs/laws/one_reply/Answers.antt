@@ -1,3 +1,4 @@
+-- A payload of a standby spells one value.
 use Rattle.repl_copy.proofs.OneValue.{reply_one}
 use Rattle.repl_copy.proofs.laws.one_reply.Goals as goal
 

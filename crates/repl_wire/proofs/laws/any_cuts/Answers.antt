@@ -1,3 +1,4 @@
+-- Two runs over one stream give the same messages and stop with the same answer.
 use Rattle.repl_wire.proofs.Cuts.{cuts_one}
 use Rattle.repl_wire.proofs.laws.any_cuts.Goals as goal
 

@@ -1,3 +1,4 @@
+-- The fields of a body are the body.
 use Rattle.repl_wire.proofs.FieldSpellings.{startup_spell, back_spell}
 use Rattle.repl_wire.proofs.laws.fields_spell.Goals as goal
 

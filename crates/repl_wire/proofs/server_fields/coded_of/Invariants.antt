@@ -1,3 +1,4 @@
+-- The fields so far are read, and the others are read of what is left.
 use Rattle.std.proofs.Common.{◌≡◌, ◌-◌, length}
 use Rattle.repl_wire.specs.Judging.{coded_at}
 use Rattle.repl_wire.proofs.ServerFields.{with_front}

@@ -1,3 +1,4 @@
+-- One more column is read, or the first that is not is told.
 use Rattle.std.proofs.Common.{◌≡◌, ◌++◌, ◌∷◌, [], length, arith}
 use Rattle.std.proofs.lemmas.Result.{err_from_is_err_and}
 use Rattle.repl_wire.specs.Judging.{entries_at, field_at}
@@ -7,20 +8,25 @@ use Rattle.repl_wire.proofs.server_fields.fields_of.Goals as goal
 pub returns-in_err-field : goal.returns-in_err-field
 returns-in_err-field c =
     let p = err_from_is_err_and c.from_residual.result c.from_residual.ensures.1 in
-    rw (p.1, p.2) (entry_fails field_at c.in_err-field.field-0.0 c.loop.fields.items c.args.count c.loop.counter c.loop.rest.now (entries_at field_at c.args.count c.args.bytes.now) c.loop-test.true c.in_err-field.ensures c.loop.invariant)
+    rw (p.1, p.2) (entry_fails field_at c.in_err-field.field-0.0 c.loop.fields.items c.args.count c.loop.counter c.loop.rest.now
+    (entries_at field_at c.args.count c.args.bytes.now) c.loop-test.true c.in_err-field.ensures c.loop.invariant)
 
 pub loop-preserved : goal.loop-preserved
 loop-preserved c =
     let e : c.push.new.self.items ≡ c.loop.fields.items ++ c.in_ok-field.field ∷ [] = c.in_ok-push.ensures.items in
-    rw e (entry_read field_at c.loop.fields.items c.args.count c.loop.counter c.loop.rest.now c.in_ok-field.field c.in_ok-field.after.now (entries_at field_at c.args.count c.args.bytes.now) c.loop-test.true c.in_ok-field.ensures c.loop.invariant)
+    rw e (entry_read field_at c.loop.fields.items c.args.count c.loop.counter c.loop.rest.now c.in_ok-field.field c.in_ok-field.after.now
+    (entries_at field_at c.args.count c.args.bytes.now) c.loop-test.true c.in_ok-field.ensures c.loop.invariant)
 
 pub unreachable-requires : goal.unreachable-requires
 unreachable-requires c =
-    let read = all_read field_at c.loop.fields.items c.args.count c.loop.counter c.loop.rest.now (entries_at field_at c.args.count c.args.bytes.now) c.loop-test.false c.loop.invariant in
-    let len : length c.loop.fields.items ≡ c.args.count = length-entries field_at c.args.count c.args.bytes.now (c.loop.fields.items, c.loop.rest.now) read in
+    let read = all_read field_at c.loop.fields.items c.args.count c.loop.counter c.loop.rest.now
+    (entries_at field_at c.args.count c.args.bytes.now) c.loop-test.false c.loop.invariant in
+    let len : length c.loop.fields.items ≡ c.args.count = length-entries field_at c.args.count c.args.bytes.now
+    (c.loop.fields.items, c.loop.rest.now) read in
     absurd (let e = c.in-None.ensures.taken.1 (omega arith) in cc)
 
 pub returns : goal.returns
 returns c =
-    let read = all_read field_at c.loop.fields.items c.args.count c.loop.counter c.loop.rest.now (entries_at field_at c.args.count c.args.bytes.now) c.loop-test.false c.loop.invariant in
+    let read = all_read field_at c.loop.fields.items c.args.count c.loop.counter c.loop.rest.now
+    (entries_at field_at c.args.count c.args.bytes.now) c.loop-test.false c.loop.invariant in
     rw c.in-Some.ensures.made read

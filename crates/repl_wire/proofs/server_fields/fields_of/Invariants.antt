@@ -1,3 +1,4 @@
+-- So many columns are read, and those that are left are read of what is left.
 use Rattle.std.proofs.Common.{◌≡◌, ◌-◌}
 use Rattle.repl_wire.specs.Judging.{entries_at, field_at}
 use Rattle.repl_wire.proofs.ServerFields.{with_front}

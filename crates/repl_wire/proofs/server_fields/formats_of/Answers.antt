@@ -1,3 +1,4 @@
+-- One more code is read, or the first that is not is told.
 use Rattle.std.proofs.Common.{◌≡◌, ◌++◌, ◌∷◌, [], length, arith}
 use Rattle.std.proofs.lemmas.Result.{err_from_is_err_and}
 use Rattle.repl_wire.specs.Judging.{entries_at, int16_at}
@@ -7,20 +8,26 @@ use Rattle.repl_wire.proofs.server_fields.formats_of.Goals as goal
 pub returns-in_err-format : goal.returns-in_err-format
 returns-in_err-format c =
     let p = err_from_is_err_and c.from_residual.result c.from_residual.ensures.1 in
-    rw (p.1, p.2) (entry_fails int16_at c.in_err-format.field-0.0 c.loop.formats.items c.args.count c.loop.counter c.loop.rest.now (entries_at int16_at c.args.count c.args.bytes.now) c.loop-test.true c.in_err-format.ensures c.loop.invariant)
+    rw (p.1, p.2) (entry_fails int16_at c.in_err-format.field-0.0 c.loop.formats.items c.args.count c.loop.counter c.loop.rest.now
+    (entries_at int16_at c.args.count c.args.bytes.now) c.loop-test.true c.in_err-format.ensures c.loop.invariant)
 
 pub loop-preserved : goal.loop-preserved
 loop-preserved c =
     let e : c.push.new.self.items ≡ c.loop.formats.items ++ c.in_ok-format.format ∷ [] = c.in_ok-push.ensures.items in
-    rw e (entry_read int16_at c.loop.formats.items c.args.count c.loop.counter c.loop.rest.now c.in_ok-format.format c.in_ok-format.after.now (entries_at int16_at c.args.count c.args.bytes.now) c.loop-test.true c.in_ok-format.ensures c.loop.invariant)
+    rw e (entry_read int16_at c.loop.formats.items c.args.count c.loop.counter c.loop.rest.now c.in_ok-format.format
+    c.in_ok-format.after.now (entries_at int16_at c.args.count c.args.bytes.now) c.loop-test.true c.in_ok-format.ensures
+    c.loop.invariant)
 
 pub unreachable-requires : goal.unreachable-requires
 unreachable-requires c =
-    let read = all_read int16_at c.loop.formats.items c.args.count c.loop.counter c.loop.rest.now (entries_at int16_at c.args.count c.args.bytes.now) c.loop-test.false c.loop.invariant in
-    let len : length c.loop.formats.items ≡ c.args.count = length-entries int16_at c.args.count c.args.bytes.now (c.loop.formats.items, c.loop.rest.now) read in
+    let read = all_read int16_at c.loop.formats.items c.args.count c.loop.counter c.loop.rest.now
+    (entries_at int16_at c.args.count c.args.bytes.now) c.loop-test.false c.loop.invariant in
+    let len : length c.loop.formats.items ≡ c.args.count = length-entries int16_at c.args.count c.args.bytes.now
+    (c.loop.formats.items, c.loop.rest.now) read in
     absurd (let e = c.in-None.ensures.taken.1 (omega arith) in cc)
 
 pub returns : goal.returns
 returns c =
-    let read = all_read int16_at c.loop.formats.items c.args.count c.loop.counter c.loop.rest.now (entries_at int16_at c.args.count c.args.bytes.now) c.loop-test.false c.loop.invariant in
+    let read = all_read int16_at c.loop.formats.items c.args.count c.loop.counter c.loop.rest.now
+    (entries_at int16_at c.args.count c.args.bytes.now) c.loop-test.false c.loop.invariant in
     rw c.in-Some.ensures.made read

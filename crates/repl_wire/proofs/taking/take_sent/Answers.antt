@@ -18,7 +18,8 @@ pub returns-in-Ok-Some : goal.returns-in-Ok-Some
 returns-in-Ok-Some c =
     let parts : c.args.bytes.now ≡ c.in-Some.kind.now ∷ c.in-Some.rest.now = c.in-Some.ensures.cases.0 in
     let is : lengths_of c.args.side c.in-Some.kind.now ≡ Some (c.in-Some-lengths.least, c.in-Some-lengths.limit) = search rules in
-    let frame : frame_of 1 c.in-Some-lengths.least c.in-Some-lengths.limit c.in-Some.rest.now ≡ Ok (Some c.in-Ok-Some.body.now) = search rules in
+    let frame : frame_of 1 c.in-Some-lengths.least c.in-Some-lengths.limit c.in-Some.rest.now
+    ≡ Ok (Some c.in-Ok-Some.body.now) = search rules in
     let judged = ap (judge_sent c.args.side) parts ∙ sent_some c.args.side c.in-Some.kind.now c.in-Some.rest.now _ is in
     let read = c.answer.ensures (message_of c.args.side c.in-Some.kind.now c.in-Ok-Some.body.now) c.read_message.ensures in
     rw (judged, frame) read
