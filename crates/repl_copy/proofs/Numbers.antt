@@ -36,7 +36,7 @@ long_is n bytes place fits enough is =
     let rest = drop place bytes in
     let value : n ≡ big_from 0 8 rest = is ∙ big_from-take 0 8 (length bytes - place) rest (omega arith) in
     let front : int64 n ≡ take 8 rest = ap int64 value ∙ long_front rest (AreBytes-drop place bytes fits)
-        (omega (arith, length-drop place bytes)) in
+    (omega (arith, length-drop place bytes)) in
     let behind : drop 8 rest ≡ drop (place + 8) bytes = drop-drop 8 place bytes in
     sym (take-append-drop 8 rest) ∙ ap (λ (t : List ℕ). t ++ drop 8 rest) (sym front) ∙ ap (λ (t : List ℕ). int64 n ++ t) behind
 
@@ -47,9 +47,9 @@ wide_one : (w : Width) (limit : ℕ) → ((n : ℕ) → length (to_be_bytes w n)
     → (a b : ℕ) (x y : List ℕ) → a < limit → b < limit → to_be_bytes w a ++ x ≡ to_be_bytes w b ++ y → (a ≡ b) × (x ≡ y)
 wide_one w limit len back a b x y a_fits b_fits e =
     let front = sym (take_at (to_be_bytes w a) x (byte_len w) (len a)) ∙ ap (take (byte_len w)) e
-        ∙ take_at (to_be_bytes w b) y (byte_len w) (len b) in
+    ∙ take_at (to_be_bytes w b) y (byte_len w) (len b) in
     let rest = sym (drop_at (to_be_bytes w a) x (byte_len w) (len a)) ∙ ap (drop (byte_len w)) e
-        ∙ drop_at (to_be_bytes w b) y (byte_len w) (len b) in
+    ∙ drop_at (to_be_bytes w b) y (byte_len w) (len b) in
     (sym (back a a_fits) ∙ ap (from_be_bytes w) front ∙ back b b_fits, rest)
 
 pub long_one : (a b : ℕ) (x y : List ℕ) → a < 2 ^ 64 → b < 2 ^ 64 → int64 a ++ x ≡ int64 b ++ y → (a ≡ b) × (x ≡ y)

@@ -35,7 +35,7 @@ stream_one (stream.Keepalive e c x) (stream.Wal t f d y) a_fits b_fits same =
 pub reply_one : (a b : Reply) → IsReply a → IsReply b → reply_spelling a ≡ reply_spelling b → a ≡ b
 reply_one (reply.Status w f a c x) (reply.Status v g b d y) a_fits b_fits same =
     let first = long_one w v (int64 f ++ (int64 a ++ (int64 c ++ flag x))) (int64 g ++ (int64 b ++ (int64 d ++ flag y))) a_fits.0 b_fits.0
-        (ap (drop 1) same) in
+    (ap (drop 1) same) in
     let second = long_one f g (int64 a ++ (int64 c ++ flag x)) (int64 b ++ (int64 d ++ flag y)) a_fits.1 b_fits.1 first.1 in
     let third = long_one a b (int64 c ++ flag x) (int64 d ++ flag y) a_fits.2 b_fits.2 second.1 in
     let fourth = long_one c d (flag x) (flag y) a_fits.3 b_fits.3 third.1 in
@@ -43,7 +43,7 @@ reply_one (reply.Status w f a c x) (reply.Status v g b d y) a_fits b_fits same =
     cc
 reply_one (reply.Feedback c x e y f) (reply.Feedback d v g w h) a_fits b_fits same =
     let first = long_one c d (int32 x ++ (int32 e ++ (int32 y ++ int32 f))) (int32 v ++ (int32 g ++ (int32 w ++ int32 h))) a_fits.0 b_fits.0
-        (ap (drop 1) same) in
+    (ap (drop 1) same) in
     let second = short_one x v (int32 e ++ (int32 y ++ int32 f)) (int32 g ++ (int32 w ++ int32 h)) a_fits.1 b_fits.1 first.1 in
     let third = short_one e g (int32 y ++ int32 f) (int32 w ++ int32 h) a_fits.2 b_fits.2 second.1 in
     let fourth = short_one y w (int32 f) (int32 h) a_fits.3 b_fits.3 third.1 in

@@ -7,7 +7,8 @@ use Rattle.repl_message.specs.Lists.{AreCoded, told}
 abbrev IsCoded : ErrorField → Type 0
 IsCoded f = 0 < f.code
 
-one_more : (code : ℕ) (text : List ℕ) (fields : List ErrorField) → 0 < code → AreCoded fields → AreCoded (record { code = code; text = text } ∷ fields)
+one_more : (code : ℕ) (text : List ℕ) (fields : List ErrorField) → 0 < code → AreCoded fields
+    → AreCoded (record { code = code; text = text } ∷ fields)
 one_more code text fields some coded = All-cons IsCoded (record { code = code; text = text }) fields some coded
 
 pub told_coded : (severity code text : List ℕ) → AreCoded (told severity code text)

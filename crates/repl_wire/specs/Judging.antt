@@ -102,7 +102,18 @@ field_at bytes = do
   size ← int16_at type_oid.1
   modifier ← int32_at size.1
   format ← int16_at modifier.1
-  Ok (record { name = name.0; table = table.0; attribute = cast_signed w16 attribute.0; type_oid = type_oid.0; size = cast_signed w16 size.0; modifier = cast_signed w32 modifier.0; format = format.0 }, format.1)
+  Ok (
+    record {
+      name = name.0;
+      table = table.0;
+      attribute = cast_signed w16 attribute.0;
+      type_oid = type_oid.0;
+      size = cast_signed w16 size.0;
+      modifier = cast_signed w32 modifier.0;
+      format = format.0;
+    },
+    format.1,
+  )
 
 -- A value of DataRow. Its length and its bytes are one field: no body goes on with a length that is not that of
 -- a null and is more than what is left.
@@ -223,7 +234,8 @@ judge_startup bytes = on_frame (frame_of 0 STARTUP_LEAST STARTUP_LIMIT bytes) ju
 -- A message of this kind, behind its type byte: its body has so many bytes at least, its length field is
 -- at most the limit, and the body is read so.
 abbrev pub judge_message : {A : Type 0} → (A → Front) → ℕ → ℕ → (List ℕ → Result A ℕ) → List ℕ → Taken
-judge_message make least limit read bytes = on_frame (frame_of 1 (least + 4) limit bytes) (λ body. read_as (λ x. message.Front (make x)) (length body + 5) (read body))
+judge_message make least limit read bytes =
+    on_frame (frame_of 1 (least + 4) limit bytes) (λ body. read_as (λ x. message.Front (make x)) (length body + 5) (read body))
 
 unfoldable pub judge_front : List ℕ → Taken
 judge_front [] = taken.Short
@@ -266,7 +278,8 @@ back_row kind =
 
 abbrev pub judge_row : Option Row → List ℕ → Taken
 judge_row None bytes = taken.Wrong (fault.Kind 0)
-judge_row (Some r) bytes = on_frame (frame_of 1 (r.least + 4) r.limit bytes) (λ body. read_as (λ m. message.Back m) (length body + 5) (r.read body))
+judge_row (Some r) bytes = on_frame (frame_of 1 (r.least + 4) r.limit bytes)
+    (λ body. read_as (λ m. message.Back m) (length body + 5) (r.read body))
 
 unfoldable pub judge_back : List ℕ → Taken
 judge_back [] = taken.Short

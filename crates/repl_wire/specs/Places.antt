@@ -41,7 +41,8 @@ front_fields (front.CopyFail text) = string text ∷ []
 front_fields front.Terminate = []
 
 abbrev pub description_fields : Field → List (List ℕ)
-description_fields f = string f.name ∷ int32 f.table ∷ signed16 f.attribute ∷ int32 f.type_oid ∷ signed16 f.size ∷ signed32 f.modifier ∷ int16 f.format ∷ []
+description_fields f = string f.name ∷ int32 f.table ∷ signed16 f.attribute ∷ int32 f.type_oid ∷ signed16 f.size ∷ signed32 f.modifier ∷
+    int16 f.format ∷ []
 
 abbrev pub coded_fields : ErrorField → List (List ℕ)
 coded_fields f = (f.code ∷ []) ∷ string f.text ∷ []
@@ -71,7 +72,8 @@ pub record LeavesAt {M : Type 0} (Fits : M → Type 0) (fields : M → List (Lis
   pub parts : body ≡ concat before ++ rest
   pub size : length rest ≡ left
   pub goes_on : (m : M) × Fits m × ((more : List (List ℕ)) × (fields m ≡ before ++ more))
-  pub stops : (m : M) (field : List ℕ) (more : List (List ℕ)) (behind : List ℕ) → Fits m → fields m ≡ before ++ field ∷ more → rest ≢ field ++ behind
+  pub stops : (m : M) (field : List ℕ) (more : List (List ℕ)) (behind : List ℕ) → Fits m → fields m ≡ before ++ field ∷ more
+      → rest ≢ field ++ behind
   pub goes_further : (m : M) → Fits m → fields m ≡ before → rest ≢ []
 
 -- the messages of one code, and of one type byte
@@ -139,6 +141,8 @@ pub record IsBodyFault (p : Phase) (bytes : List ℕ) (place : ℕ) : Type 0 whe
 -- What the first fault of these bytes means. A type byte, a length field and a code are named by their first bytes.
 abbrev pub IsFault : Phase → List ℕ → WireFault → Type 0
 IsFault p bytes (fault.Kind place) = (place ≡ 0) × (0 < length bytes) × ¬ Begins (IsSpelled p) (take 1 bytes)
-IsFault p bytes (fault.Length place said) = (place ≡ head p) × (place + 4 ≤ length bytes) × (said ≡ number (drop place bytes)) × Begins (IsSpelled p) (take place bytes) × ¬ Begins (IsSpelled p) (take (place + 4) bytes)
-IsFault p bytes (fault.Code place said) = (place ≡ 4) × (8 ≤ length bytes) × (said ≡ number (drop 4 bytes)) × (STARTUP_LEAST ≤ number bytes) × (number bytes ≤ STARTUP_LIMIT) × ¬ Begins (IsSpelled p) (take 8 bytes)
+IsFault p bytes (fault.Length place said) = (place ≡ head p) × (place + 4 ≤ length bytes) × (said ≡ number (drop place bytes))
+    × Begins (IsSpelled p) (take place bytes) × ¬ Begins (IsSpelled p) (take (place + 4) bytes)
+IsFault p bytes (fault.Code place said) = (place ≡ 4) × (8 ≤ length bytes) × (said ≡ number (drop 4 bytes)) × (STARTUP_LEAST ≤ number bytes)
+    × (number bytes ≤ STARTUP_LIMIT) × ¬ Begins (IsSpelled p) (take 8 bytes)
 IsFault p bytes (fault.Body place) = IsBodyFault p bytes place

@@ -51,7 +51,8 @@ at_place place (fault.Body at) = fault.Body (capped (place + at))
 abbrev pub Answers : Reading → Step → Reading → Type 0
 Answers old (step.Message m) new = (used : ℕ) × (judge old.phase old.rest ≡ taken.Whole m used) × (new ≡ given old m used)
 Answers old step.NeedMore new = Waits old × (new ≡ old)
-Answers old (step.Refused f) new = (found : WireFault) × (judge old.phase old.rest ≡ taken.Wrong found) × (f ≡ at_place old.place found) × (new ≡ old)
+Answers old (step.Refused f) new = (found : WireFault) × (judge old.phase old.rest ≡ taken.Wrong found) × (f ≡ at_place old.place found)
+    × (new ≡ old)
 Answers old step.Memory new = new ≡ old
 
 -- ---- streams
@@ -59,7 +60,8 @@ Answers old step.Memory new = new ≡ old
 -- the bytes are these messages, one after another, and what is left, which is read in the last phase
 abbrev pub AreRead : Phase → List ℕ → List Message → Phase → List ℕ → Type 0
 AreRead p bytes [] last rest = (last ≡ p) × (rest ≡ bytes)
-AreRead p bytes (m ∷ ms) last rest = Belongs p m × ((behind : List ℕ) × (bytes ≡ spelling m ++ behind) × AreRead (after p m) behind ms last rest)
+AreRead p bytes (m ∷ ms) last rest = Belongs p m
+    × ((behind : List ℕ) × (bytes ≡ spelling m ++ behind) × AreRead (after p m) behind ms last rest)
 
 -- A reader that was fed these bytes has given these messages, one after another, and is now so. This is what a loop
 -- over a reader keeps.

@@ -22,7 +22,7 @@ returns-in_ok-put_number-in-Status-3-clause-ok c =
     let flushed_added = then_added old head (int64 flushed) _ _ head_added c.in_ok-put_number-in-Status.ensures.ok in
     let positions = head ++ int64 flushed ++ int64 applied in
     let positions_added = then_added old (head ++ int64 flushed) (int64 applied) _ _ flushed_added c.in_ok-put_number-in-Status-2.ensures.ok
-        in
+    in
     let clock_added = then_added old positions (int64 clock) _ _ positions_added c.in_ok-put_number-in-Status-3.ensures.ok in
     last_added _ old (positions ++ int64 clock) (flag asks) _ _ _ clock_added (ap reply_spelling value_is) c.put_flag.ensures.ok
 
@@ -35,7 +35,7 @@ returns-in_ok-put_short-in-Feedback-3-clause-ok c =
     let xmin_added = then_added old head (int32 said.xmin) _ _ head_added c.in_ok-put_short-in-Feedback.ensures.ok in
     let first = head ++ int32 said.xmin ++ int32 said.epoch in
     let first_added = then_added old (head ++ int32 said.xmin) (int32 said.epoch) _ _ xmin_added c.in_ok-put_short-in-Feedback-2.ensures.ok
-        in
+    in
     let catalog_added = then_added old first (int32 said.catalog_xmin) _ _ first_added c.in_ok-put_short-in-Feedback-3.ensures.ok in
     last_added _ old (first ++ int32 said.catalog_xmin) (int32 said.catalog_epoch) _ _ _ catalog_added (ap reply_spelling (sym said.is))
-        c.put_short-in-Feedback-3.ensures.ok
+    c.put_short-in-Feedback-3.ensures.ok

@@ -17,7 +17,8 @@ lent files name place (Some x) here is some = folder_found files name ∙ ap byt
 
 pub returns-in-Ok : goal.returns-in-Ok
 returns-in-Ok c =
-    let here : IsAt c.args.files.now c.args.name.now c.in-Ok.place = at_from c.args.files.now c.args.files.now c.args.name.now c.in-Ok.place c.in-Ok.ensures refl in
+    let here : IsAt c.args.files.now c.args.name.now c.in-Ok.place = at_from c.args.files.now c.args.files.now c.args.name.now c.in-Ok.place
+    c.in-Ok.ensures refl in
     let within : c.in-Ok.place < length c.args.files.now = at_within c.args.files.now c.args.name.now c.in-Ok.place here in
     lent c.args.files.now c.args.name.now c.in-Ok.place c.get.result here c.get.ensures.lookup.1 (c.get.ensures.lookup.2 within)
 

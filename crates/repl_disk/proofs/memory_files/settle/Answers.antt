@@ -25,13 +25,16 @@ changed files name place file new here ordered read is =
 
 pub returns-in-Ok-clause-there : goal.returns-in-Ok-clause-there
 returns-in-Ok-clause-there c =
-    let here : IsAt c.args.files.now.items c.args.name.now c.in-Ok.place = at_from c.deref.result.now c.args.files.now.items c.args.name.now c.in-Ok.place c.in-Ok.ensures c.deref.ensures.value in
+    let here : IsAt c.args.files.now.items c.args.name.now c.in-Ok.place = at_from c.deref.result.now c.args.files.now.items c.args.name.now
+    c.in-Ok.place c.in-Ok.ensures c.deref.ensures.value in
     sym (ap (λ (o : Option Stored). is_some o) (found_at c.args.files.now.items c.args.name.now c.in-Ok.place c.index_mut.result.now here))
 
 pub returns-in-Ok-clause-files : goal.returns-in-Ok-clause-files
 returns-in-Ok-clause-files c =
-    let here : IsAt c.args.files.now.items c.args.name.now c.in-Ok.place = at_from c.deref.result.now c.args.files.now.items c.args.name.now c.in-Ok.place c.in-Ok.ensures c.deref.ensures.value in
-    changed c.args.files.now.items c.args.name.now c.in-Ok.place c.index_mut.result.now c.settle.new.self here c.requires c.index_mut.ensures.value c.settle.ensures
+    let here : IsAt c.args.files.now.items c.args.name.now c.in-Ok.place = at_from c.deref.result.now c.args.files.now.items c.args.name.now
+    c.in-Ok.place c.in-Ok.ensures c.deref.ensures.value in
+    changed c.args.files.now.items c.args.name.now c.in-Ok.place c.index_mut.result.now c.settle.new.self here c.requires
+    c.index_mut.ensures.value c.settle.ensures
 
 pub returns-in-Err-clause-there : goal.returns-in-Err-clause-there
 returns-in-Err-clause-there c =
@@ -41,6 +44,8 @@ returns-in-Err-clause-there c =
 
 pub returns-in-Err-clause-files : goal.returns-in-Err-clause-files
 returns-in-Err-clause-files c =
-    let none : found c.args.files.now.items c.args.name.now ≡ None = found_none c.args.files.now.items c.args.name.now c.in-Err.field-0 c.requires (stands_from c.deref.result.now c.args.files.now.items c.args.name.now c.in-Err.field-0 c.in-Err.ensures c.deref.ensures.value) in
+    let none : found c.args.files.now.items c.args.name.now ≡ None = found_none c.args.files.now.items c.args.name.now c.in-Err.field-0
+    c.requires (stands_from c.deref.result.now c.args.files.now.items c.args.name.now c.in-Err.field-0 c.in-Err.ensures
+    c.deref.ensures.value) in
     subst (λ (f : Option Stored). Changed c.args.files.now.items c.args.files.now.items c.args.name.now (option_map settled f)) (sym none)
     (none_changed c.args.files.now.items c.args.name.now none c.requires)

@@ -37,19 +37,23 @@ changed files name place file new at bytes here ordered read is =
 
 pub returns-in_ok-write-in-Ok-clause-undo : goal.returns-in_ok-write-in-Ok-clause-undo
 returns-in_ok-write-in-Ok-clause-undo c =
-    let here : IsAt c.args.files.now.items c.args.name.now c.in-Ok.place = at_from c.deref.result.now c.args.files.now.items c.args.name.now c.in-Ok.place c.in-Ok.ensures c.deref.ensures.value in
+    let here : IsAt c.args.files.now.items c.args.name.now c.in-Ok.place = at_from c.deref.result.now c.args.files.now.items c.args.name.now
+    c.in-Ok.place c.in-Ok.ensures c.deref.ensures.value in
     ap (λ (u : Cut). Some u) c.in_ok-write-in-Ok.ensures.undo ∙ sym
     (ap (λ (o : Option Stored). undo_after o c.args.at c.args.bytes.now)
     (there c.args.files.now.items c.args.name.now c.in-Ok.place c.index_mut.result.now here c.index_mut.ensures.value))
 
 pub returns-in_ok-write-in-Ok-clause-ok : goal.returns-in_ok-write-in-Ok-clause-ok
 returns-in_ok-write-in-Ok-clause-ok c =
-    let here : IsAt c.args.files.now.items c.args.name.now c.in-Ok.place = at_from c.deref.result.now c.args.files.now.items c.args.name.now c.in-Ok.place c.in-Ok.ensures c.deref.ensures.value in
-    changed c.args.files.now.items c.args.name.now c.in-Ok.place c.index_mut.result.now c.write.new.self c.args.at c.args.bytes.now here c.requires.ordered c.index_mut.ensures.value c.in_ok-write-in-Ok.ensures.ok
+    let here : IsAt c.args.files.now.items c.args.name.now c.in-Ok.place = at_from c.deref.result.now c.args.files.now.items c.args.name.now
+    c.in-Ok.place c.in-Ok.ensures c.deref.ensures.value in
+    changed c.args.files.now.items c.args.name.now c.in-Ok.place c.index_mut.result.now c.write.new.self c.args.at c.args.bytes.now here
+    c.requires.ordered c.index_mut.ensures.value c.in_ok-write-in-Ok.ensures.ok
 
 pub returns-in_ok-insert-in-Err-clause-undo : goal.returns-in_ok-insert-in-Err-clause-undo
 returns-in_ok-insert-in-Err-clause-undo c =
-    let here : WouldStand c.args.files.now.items c.args.name.now c.in-Err.place = stands_from c.deref.result.now c.args.files.now.items c.args.name.now c.in-Err.place c.in-Err.ensures c.deref.ensures.value in
+    let here : WouldStand c.args.files.now.items c.args.name.now c.in-Err.place =
+    stands_from c.deref.result.now c.args.files.now.items c.args.name.now c.in-Err.place c.in-Err.ensures c.deref.ensures.value in
     sym (ap (λ (o : Option Stored). undo_after o c.args.at c.args.bytes.now)
     (found_none c.args.files.now.items c.args.name.now c.in-Err.place c.requires.ordered here))
 
@@ -66,6 +70,8 @@ made files name place new at bytes here ordered is =
 
 pub returns-in_ok-insert-in-Err-clause-ok : goal.returns-in_ok-insert-in-Err-clause-ok
 returns-in_ok-insert-in-Err-clause-ok c =
-    let here : WouldStand c.args.files.now.items c.args.name.now c.in-Err.place = stands_from c.deref.result.now c.args.files.now.items c.args.name.now c.in-Err.place c.in-Err.ensures c.deref.ensures.value in
+    let here : WouldStand c.args.files.now.items c.args.name.now c.in-Err.place =
+    stands_from c.deref.result.now c.args.files.now.items c.args.name.now c.in-Err.place c.in-Err.ensures c.deref.ensures.value in
     rw c.in_ok-insert-in-Err.ensures.items
-    (made c.args.files.now.items c.args.name.now c.in-Err.place c.in_ok-made-in-Err.field-0 c.args.at c.args.bytes.now here c.requires.ordered c.in_ok-made-in-Err.ensures)
+    (made c.args.files.now.items c.args.name.now c.in-Err.place c.in_ok-made-in-Err.field-0 c.args.at c.args.bytes.now here
+    c.requires.ordered c.in_ok-made-in-Err.ensures)

@@ -15,7 +15,8 @@ returns-in_err-write_aside-clause-any_moment g c =
 
 pub returns-in_err-write_aside-clause-half_done : goal.returns-in_err-write_aside-clause-half_done
 returns-in_err-write_aside-clause-half_done g c =
-    on_err _ _ (half_aside_is_half_done c.args.name.now c.args.aside.now c.args.bytes.now c.requires _ _ c.in_err-write_aside.ensures.half_done)
+    on_err _ _ (half_aside_is_half_done c.args.name.now c.args.aside.now c.args.bytes.now c.requires _ _
+    c.in_err-write_aside.ensures.half_done)
 
 pub returns-clause-any_moment : goal.returns-clause-any_moment
 returns-clause-any_moment g c =

@@ -11,7 +11,8 @@ use Rattle.repl_disk.specs.declared.call.Done.TheVariants as done
 pub returns-in_default-clause-done : goal.returns-in_default-clause-done
 returns-in_default-clause-done c =
     let none : found c.self.inside.files.items c.args.name.now ≡ None = sym c.in_default.ensures.file in
-    not_done c.args.self.now c.self.inside.files.items c.take.new.files.items c.self.inside.done.items c.reserve.new.self.items c.args.name.now c.self.view_is (search rules) (search rules) none
+    not_done c.args.self.now c.self.inside.files.items c.take.new.files.items c.self.inside.done.items c.reserve.new.self.items
+    c.args.name.now c.self.view_is (search rules) (search rules) none
 
 pub invariant_of-self-2 : goal.invariant_of-self-2
 invariant_of-self-2 c =
@@ -21,8 +22,13 @@ invariant_of-self-2 c =
     let is : found c.self.inside.files.items c.args.name.now ≡ Some c.in-Some.file = sym c.in-Some.ensures.file in
     let named : string_bytes c.into_parts-call_name.result.0 ≡ c.args.name.now = c.into_parts-call_name.ensures.0
     ∙ found_name c.self.inside.files.items c.args.name.now c.in-Some.file is in
-    let pushed : c.push_reserved.new.self.items ≡ c.self.inside.done.items ++ call ∷ [] = search rules in
-    (c.take.ensures.files.ordered, removed_tied old new c.into_parts-call_name.result.0 c.into_parts-call_name.result.1 c.args.name.now c.in-Some.file named is c.into_parts-call_name.ensures.1 c.take.ensures.files (one_more c.self.inside.done.items c.push_reserved.new.self.items (reverse c.self.inside.done.items) call pushed refl) c.self.invariant.1)
+    let pushed : c.push_reserved.new.self.items ≡ c.self.inside.done.items ++ call ∷ [] = search rules in (
+      c.take.ensures.files.ordered,
+      removed_tied old new c.into_parts-call_name.result.0 c.into_parts-call_name.result.1 c.args.name.now
+          c.in-Some.file named is c.into_parts-call_name.ensures.1 c.take.ensures.files
+          (one_more c.self.inside.done.items c.push_reserved.new.self.items (reverse c.self.inside.done.items) call pushed refl)
+          c.self.invariant.1,
+    )
 
 pub returns-clause-there : goal.returns-clause-there
 returns-clause-there c =
@@ -40,4 +46,6 @@ returns-clause-done c =
     ∙ found_name c.self.inside.files.items c.args.name.now c.in-Some.file is in
     let pushed : c.push_reserved.new.self.items ≡ c.self.inside.done.items ++ call ∷ [] = search rules in
     subst (λ (h : Held). Did h new (λ folder. put folder c.args.name.now None) (Removes c.args.name.now)) c.self.view_is
-    (removed old new c.into_parts-call_name.result.0 c.into_parts-call_name.result.1 c.args.name.now c.in-Some.file named is c.into_parts-call_name.ensures.1 c.take.ensures.files (one_more c.self.inside.done.items c.push_reserved.new.self.items (reverse c.self.inside.done.items) call pushed refl))
+    (removed old new c.into_parts-call_name.result.0 c.into_parts-call_name.result.1 c.args.name.now c.in-Some.file named is
+    c.into_parts-call_name.ensures.1 c.take.ensures.files
+    (one_more c.self.inside.done.items c.push_reserved.new.self.items (reverse c.self.inside.done.items) call pushed refl))

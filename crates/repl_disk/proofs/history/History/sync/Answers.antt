@@ -12,7 +12,8 @@ returns-then-not-settle-clause-done c =
     let answer : c.settle.result ≡ false = search rules in
     let none : found c.self.inside.files.items c.args.name.now ≡ None = none_if c.self.inside.files.items c.args.name.now
     (sym c.settle.ensures.there ∙ answer) in
-    not_done c.args.self.now c.self.inside.files.items c.settle.new.files.items c.self.inside.done.items c.reserve.new.self.items c.args.name.now c.self.view_is (c.settle.ensures.none answer) (search rules) none
+    not_done c.args.self.now c.self.inside.files.items c.settle.new.files.items c.self.inside.done.items c.reserve.new.self.items
+    c.args.name.now c.self.view_is (c.settle.ensures.none answer) (search rules) none
 
 pub invariant_of-self-2 : goal.invariant_of-self-2
 invariant_of-self-2 c =

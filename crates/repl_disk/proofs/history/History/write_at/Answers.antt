@@ -13,8 +13,13 @@ invariant_of-self-2 c =
     let new : Held = record { files = c.write.new.files.items; calls = reverse c.push_reserved.new.self.items } in
     let call : Done = done.Wrote c.in_ok-call_name.call_name c.args.at (length c.args.bytes.now) c.in_ok-undo.undo in
     let pushed : c.push_reserved.new.self.items ≡ c.self.inside.done.items ++ call ∷ [] = search rules in
-    let named : string_bytes c.in_ok-call_name.call_name ≡ c.args.name.now = search rules in
-    (c.in_ok-undo.ensures.ok.ordered, wrote_tied old new c.in_ok-call_name.call_name c.args.name.now c.args.at c.args.bytes.now c.in_ok-undo.undo named c.in_ok-undo.ensures.ok c.in_ok-undo.ensures.undo (one_more c.self.inside.done.items c.push_reserved.new.self.items (reverse c.self.inside.done.items) call pushed refl) c.self.invariant.1)
+    let named : string_bytes c.in_ok-call_name.call_name ≡ c.args.name.now = search rules in (
+      c.in_ok-undo.ensures.ok.ordered,
+      wrote_tied old new c.in_ok-call_name.call_name c.args.name.now c.args.at c.args.bytes.now
+          c.in_ok-undo.undo named c.in_ok-undo.ensures.ok c.in_ok-undo.ensures.undo
+          (one_more c.self.inside.done.items c.push_reserved.new.self.items (reverse c.self.inside.done.items) call pushed refl)
+          c.self.invariant.1,
+    )
 
 pub returns : goal.returns
 returns c =
@@ -25,4 +30,6 @@ returns c =
     let named : string_bytes c.in_ok-call_name.call_name ≡ c.args.name.now = search rules in
     subst (λ (h : Held). Did h new (λ folder. written folder c.args.name.now c.args.at c.args.bytes.now)
     (Tears c.args.name.now c.args.at (length c.args.bytes.now))) c.self.view_is
-    (wrote old new c.in_ok-call_name.call_name c.args.name.now c.args.at c.args.bytes.now c.in_ok-undo.undo named c.in_ok-undo.ensures.ok c.in_ok-undo.ensures.undo (one_more c.self.inside.done.items c.push_reserved.new.self.items (reverse c.self.inside.done.items) call pushed refl))
+    (wrote old new c.in_ok-call_name.call_name c.args.name.now c.args.at c.args.bytes.now c.in_ok-undo.undo named c.in_ok-undo.ensures.ok
+    c.in_ok-undo.ensures.undo (one_more c.self.inside.done.items c.push_reserved.new.self.items (reverse c.self.inside.done.items) call
+    pushed refl))

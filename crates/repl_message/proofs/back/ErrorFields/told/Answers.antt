@@ -7,6 +7,7 @@ use Rattle.repl_message.proofs.back.ErrorFields.told.Goals as goal
 
 pub unreachable-requires : goal.unreachable-requires
 unreachable-requires c =
-    let is : c.push-4.new.self.items ≡ told c.args.severity c.args.code c.args.text = first_of (search rules, grind (arith, common_steps)) in
+    let is : c.push-4.new.self.items ≡ told c.args.severity c.args.code c.args.text = first_of (search rules, grind (arith, common_steps))
+    in
     let coded = subst AreCoded (sym is) (told_coded c.args.severity c.args.code c.args.text) in
     absurd (let e = c.in-None.ensures.taken.1 coded in cc)
