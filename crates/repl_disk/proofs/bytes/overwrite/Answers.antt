@@ -1,3 +1,4 @@
+-- The bytes are those written at their place, whether they reach past the old end or not.
 use Rattle.std.proofs.Common.{◌≡◌, ◌∙◌, ◌≤◌, ◌+◌, ◌<◌, length, arith, List, ℕ, ◌-◌, take, drop, replicate, ◌++◌, ap, rules}
 use Rattle.repl_disk.proofs.bytes.overwrite.Goals as goal
 use Rattle.repl_disk.proofs.bytes.overwrite.Goals.{then-len-end+in_ok-resize, else-len-end}

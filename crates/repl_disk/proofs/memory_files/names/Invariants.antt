@@ -1,3 +1,4 @@
+-- The names of the files so far, in their order.
 use Rattle.std.proofs.Common.{◌≡◌, map, take, string_bytes}
 use Rattle.repl_disk.proofs.memory_files.names.Given as goal
 use Rattle.repl_disk.specs.Stored.{Stored}

@@ -1,3 +1,4 @@
+-- The files with this one put in the place of the one of that name, or between its neighbours.
 use Rattle.std.proofs.Common.{◌≡◌, ◌∙◌, ℕ, ◌<◌, ◌≤◌, List, length, get_or, refl, sym, ap, rules, Some}
 use Rattle.repl_disk.specs.Files.{found, bytes_of}
 use Rattle.repl_disk.specs.Stored.{Stored}

@@ -1,3 +1,4 @@
+-- With all writes taken back, the files are those that are certain.
 use Rattle.std.proofs.Common.{◌≡◌, ◌∙◌, ap, map, filter, List, rules}
 use Rattle.std.proofs.lemmas.Fn.{filter_same}
 use Rattle.repl_disk.specs.Stored.{Stored, reverted, is_kept}

@@ -1,3 +1,4 @@
+-- The files before the index are taken back, the others are as they were.
 use Rattle.std.proofs.Common.{◌≡◌, ◌++◌, map, take, drop}
 use Rattle.repl_disk.proofs.memory_files.revert_each.Given as goal
 use Rattle.repl_disk.specs.Stored.{reverted}

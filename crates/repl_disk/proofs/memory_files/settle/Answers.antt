@@ -1,3 +1,4 @@
+-- The file of that name is certain as it reads, and the others are as they were.
 use Rattle.std.proofs.Common.{◌≡◌, ◌∙◌, ℕ, ◌<◌, List, length, get_or, set, sym, ap, subst, rules, Option, Some, None, option_map, is_some}
 use Rattle.repl_disk.specs.Files.{AreOrdered, found, Changed}
 use Rattle.repl_disk.specs.Stored.{Stored, settled}

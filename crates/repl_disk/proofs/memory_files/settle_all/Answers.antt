@@ -1,3 +1,4 @@
+-- One file more is certain as it reads.
 use Rattle.std.proofs.Common.{◌<◌, length, get_or, rules}
 use Rattle.std.proofs.lemmas.List.{get_or_default}
 use Rattle.std.proofs.lemmas.List.Edits.{map_over_more}

@@ -1,3 +1,4 @@
+-- The file of that name is taken out, and the others stay in order.
 use Rattle.std.proofs.Common.{◌∙◌, ◌<◌, length, sym, ap, rules, Some}
 use Rattle.repl_disk.proofs.memory_files.take.Goals as goal
 use Rattle.repl_disk.proofs.Places.{IsAt, at_from, stands_from, at_within, found_at, found_none, remove_changed, none_changed}

@@ -1,3 +1,4 @@
+-- The file of that name is written to, or made, and the others are as they were.
 use Rattle.std.proofs.Common.{◌≡◌, ◌∙◌, ℕ, ◌<◌, ◌≤◌, List, length, get_or, set, sym, ap, subst, rules, Option, Some}
 use Rattle.std.specs.List.{insert}
 use Rattle.repl_disk.specs.Files.{AreOrdered, found, file_after, undo_after, Changed}

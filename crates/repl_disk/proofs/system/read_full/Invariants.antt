@@ -1,3 +1,4 @@
+-- So many bytes are read into the front of the room.
 use Rattle.std.proofs.Common.{length, ◌-◌, ◌≤◌}
 use Rattle.repl_disk.proofs.system.read_full.Given as goal
 

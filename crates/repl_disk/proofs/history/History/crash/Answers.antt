@@ -1,3 +1,4 @@
+-- What a crash leaves of the files: all that they read, or what is certain of them.
 use Rattle.std.proofs.Common.{◌∙◌, List, ap, sym, map}
 use Rattle.std.proofs.lemmas.Bool.{true≢false}
 use Rattle.repl_disk.proofs.history.History.crash.Goals as goal

@@ -1,3 +1,4 @@
+-- The names are those of the files that are there, in order.
 use Rattle.std.proofs.Common.{◌≡◌, map, string_bytes, rules, subst}
 use Rattle.repl_disk.proofs.history.History.names.Goals as goal
 use Rattle.repl_disk.proofs.Listing.{are_names, names_of}

@@ -1,3 +1,4 @@
+-- The file is gone where it was there, and the call is kept so that it can be taken back.
 use Rattle.std.proofs.Common.{◌≡◌, ◌∙◌, [], ◌∷◌, ◌++◌, refl, sym, rules, reverse, subst, string_bytes, Some, None, IsSome}
 use Rattle.repl_disk.proofs.history.History.remove.Goals as goal
 use Rattle.repl_disk.proofs.Calls.{one_more, removed, removed_tied, found_name, in_folder, not_done}

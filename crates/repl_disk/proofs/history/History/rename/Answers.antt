@@ -1,3 +1,4 @@
+-- The file has its new name where it was there, and the call is kept so that it can be taken back.
 use Rattle.std.proofs.Common.{◌≡◌, ◌∙◌, List, [], ◌∷◌, ◌++◌, ℕ, ap, refl, sym, rules, reverse, subst, string_bytes, Some, None, IsSome}
 use Rattle.repl_disk.proofs.history.History.rename.Goals as goal
 use Rattle.repl_disk.proofs.Calls.{Renaming, one_more, steps_known, renamed_call, renamed_tied, found_name, in_folder, not_done}

@@ -1,3 +1,4 @@
+-- What the file reads is certain where it was there, and the call is kept.
 use Rattle.std.proofs.Common.{◌≡◌, ◌∙◌, [], ◌∷◌, ◌++◌, true, false, refl, sym, rules, reverse, subst, string_bytes, None, IsSome}
 use Rattle.repl_disk.proofs.history.History.sync.Goals as goal
 use Rattle.repl_disk.proofs.Calls.{one_more, synced_if, found_if, none_if, not_done}

@@ -1,3 +1,4 @@
+-- The file reads as it was written, and the call is kept so that it can be taken back.
 use Rattle.std.proofs.Common.{◌≡◌, [], ◌++◌, refl, rules, reverse, subst, ◌∷◌, length, string_bytes}
 use Rattle.repl_disk.proofs.history.History.write_at.Goals as goal
 use Rattle.repl_disk.proofs.Calls.{one_more, wrote, wrote_tied}

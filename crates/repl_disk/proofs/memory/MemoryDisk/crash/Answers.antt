@@ -1,3 +1,4 @@
+-- What a crash leaves is one of the images.
 use Rattle.std.proofs.Common.{⊎_elim, subst, sym}
 use Rattle.std.proofs.lemmas.Bool.{cases_Bool}
 use Rattle.repl_disk.proofs.memory.MemoryDisk.crash.Goals as goal

@@ -1,3 +1,4 @@
+-- The writes that are left to take back, newest first.
 use Rattle.std.proofs.Common.{◌≡◌, length, reverse}
 use Rattle.std.specs.Prelude.{false}
 use Rattle.repl_disk.proofs.memory_file.File.revert.Given as goal

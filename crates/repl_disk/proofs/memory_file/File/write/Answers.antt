@@ -1,3 +1,4 @@
+-- The file after a write, and how the write is taken back.
 use Rattle.std.proofs.Common.{rules}
 use Rattle.repl_disk.proofs.memory_file.File.write.Goals as goal
 use Rattle.repl_disk.proofs.Writes.{within_from}
