@@ -27,14 +27,23 @@ module _ {S E R : Type 0} (steps : S → E → R → S → Type 0) (opening : S)
   Rule = Kept steps opening
 
   -- a step that changes nothing
-  pub unmoved : (s : St) (i id : ℕ) (m : Sits S E R) → get_elem? s.views id ≡ some m.0 → Rule s → Rule (stepped s i (get_or s.words i 0) id m.1 m.0 keeps)
-  unmoved s i id m at r = subst Rule (λ k. record { words = sym (set-get_or s.words i 0) k; homes = s.homes; views = sym (set_again s.views id m.0 at) k }) r
+  pub unmoved : (s : St) (i id : ℕ) (m : Sits S E R) → get_elem? s.views id ≡ some m.0 → Rule s
+      → Rule (stepped s i (get_or s.words i 0) id m.1 m.0 keeps)
+  unmoved s i id m at r = subst Rule (λ k. record {
+    words = sym (set-get_or s.words i 0) k;
+    homes = s.homes;
+    views = sym (set_again s.views id m.0 at) k;
+  }) r
 
   pub idle_free : (v : V) → v.stage ≡ Idle → (k : ℕ) (x : S) → v.stage ≢ Holding k x
   idle_free v idle k x e = absurd (cc)
 
   new_ticket : (s : St) (r : Rule s) (id : ℕ) (v : V) → get_elem? s.views id ≡ some v → v.stage ≡ Idle → get_or s.words 0 0 < 2 ^ 63
-      → Rule record { words = set s.words 0 (get_or s.words 0 0 + 1); homes = s.homes; views = set s.views id (at_stage v (Waiting (get_or s.words 0 0))) }
+      → Rule record {
+        words = set s.words 0 (get_or s.words 0 0 + 1);
+        homes = s.homes;
+        views = set s.views id (at_stage v (Waiting (get_or s.words 0 0)));
+      }
   new_ticket s r id v at idle low =
       let k : ℕ = get_or s.words 0 0 in
       let w : V = at_stage v (Waiting k) in
@@ -42,9 +51,10 @@ module _ {S E R : Type 0} (steps : S → E → R → S → Type 0) (opening : S)
       let ordered = r.ordered in
       let words : List ℕ = set s.words 0 (k + 1) in
       let first : get_or words 0 0 ≡ k + 1 = get_or-set_same s.words 0 (k + 1) 0 (omega arith) in
-      let second : get_or words 1 0 ≡ get_or s.words 1 0 = get_or-set_other s.words 0 1 (k + 1) 0 (λ e. omega arith) in
+      let second : get_or words 16 0 ≡ get_or s.words 16 0 = get_or-set_other s.words 0 16 (k + 1) 0 (λ e. omega arith) in
       let f = r.each_view id v at in
-      settled steps opening s r words s.homes r.top id w (length-set s.words 0 (k + 1) ∙ wide) (second ∙ r.counted) (omega arith) (omega arith) (le_refl r.top)
+      settled steps opening s r words s.homes r.top id w (length-set s.words 0 (k + 1) ∙ wide) (second ∙ r.counted) (omega arith)
+      (omega arith) (le_refl r.top)
       record {
         opened = f.opened;
         begins = f.begins;
@@ -61,7 +71,8 @@ module _ {S E R : Type 0} (steps : S → E → R → S → Type 0) (opening : S)
       (place_set r.state s words id v w at (idle_free v idle) r.place)
     where
       -- each ticket of a pass was drawn before
-      other_ticket : (s : St) (r : Rule s) (ns : List ℕ) (st : Stage S E R) → StageFits r.log r.top r.state (get_or s.words 0 0) (length r.log) ns st
+      other_ticket : (s : St) (r : Rule s) (ns : List ℕ) (st : Stage S E R)
+          → StageFits r.log r.top r.state (get_or s.words 0 0) (length r.log) ns st
           → (n : ℕ) → get_or s.words 0 0 ≡ n → ticket st ≢ Some n
       other_ticket s r ns Idle p n e t = absurd cc
       other_ticket s r ns (Waiting k) p n e t = let same : k ≡ n = ap (λ o. unwrap_or o 0) t in let l = p.1 in absurd (omega arith)
@@ -78,7 +89,8 @@ module _ {S E R : Type 0} (steps : S → E → R → S → Type 0) (opening : S)
         at_stage m.0 (Waiting x),
         keeps,
         tt,
-        subst (λ n. Rule (stepped s 0 n id m.1 (at_stage m.0 (Waiting x)) keeps)) (let e : x + 1 ≡ new = omega arith in e ∙ ap (λ b. either b new x) (sym (eq-eqb x old hit)))
+        subst (λ n. Rule (stepped s 0 n id m.1 (at_stage m.0 (Waiting x)) keeps)) (let e : x + 1 ≡ new = omega arith in e
+            ∙ ap (λ b. either b new x) (sym (eq-eqb x old hit)))
             (new_ticket s r id m.0 at idle (omega arith)),
         record { hit = λ _. refl; miss = λ not. absurd (not hit) },
       ))

@@ -18,7 +18,8 @@ module _ {A : Type 0} where
 
 module _ {S E R : Type 0} (steps : S → E → R → S → Type 0) (opening : S) where
   -- no seat has the machine out
-  home : (s : State S (View S E R)) (r : Kept steps opening s) → get_or s.words 0 0 ≡ get_or s.words 1 0 → get_elem? s.homes 0 ≡ some (some r.state)
+  home : (s : State S (View S E R)) (r : Kept steps opening s) → get_or s.words 0 0 ≡ get_or s.words 16 0
+      → get_elem? s.homes 0 ≡ some (some r.state)
   home s r same = ⊎_elim (λ e. e) (λ p. absurd (held p.0 p.1 p.2 p.3 p.4 p.5)) r.place
     where
       held : (j : ℕ) (u : View S E R) (k : ℕ) (x : S) → get_elem? s.views j ≡ some u → u.stage ≡ Holding k x → ⊥
@@ -29,14 +30,15 @@ module _ {S E R : Type 0} (steps : S → E → R → S → Type 0) (opening : S)
           let drawn : k < get_or s.words 0 0 = fits.1 in
           omega arith
 
-  pub ended : (t : TableId) (id : ℕ) (v : View S E R) (words : List ℕ) (slots : List S) (n : ℕ) (x : S) → v.opening ≡ Some opening → Final (Seen (Kept steps opening) id v) words slots
-      → get_elem? words 0 ≡ some n → get_elem? words 1 ≡ some n → get_elem? slots 0 ≡ some x → Ends steps (known t v) x
+  pub ended : (t : TableId) (id : ℕ) (v : View S E R) (words : List ℕ) (slots : List S) (n : ℕ) (x : S) → v.opening ≡ Some opening
+      → Final (Seen (Kept steps opening) id v) words slots
+      → get_elem? words 0 ≡ some n → get_elem? words 16 ≡ some n → get_elem? slots 0 ≡ some x → Ends steps (known t v) x
   ended t id v words slots n x o final drawn served there =
       let s : State S (View S E R) = final.0 in
       let r : Kept steps opening s = final.1.0 in
       let b = (r.each_view id v final.1.1).begins in
       let first : get_or s.words 0 0 ≡ n = ap (λ ws. get_or ws 0 0) final.2 ∙ read_there words 0 n 0 drawn in
-      let second : get_or s.words 1 0 ≡ n = ap (λ ws. get_or ws 1 0) final.2 ∙ read_there words 1 n 0 served in
+      let second : get_or s.words 16 0 ≡ n = ap (λ ws. get_or ws 16 0) final.2 ∙ read_there words 16 n 0 served in
       let same : r.state ≡ x = some-injective r.state x (sym (final.4 0 r.state (home s r (first ∙ sym second))) ∙ there) in
       record {
         opening = opening;

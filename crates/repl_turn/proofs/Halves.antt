@@ -15,7 +15,8 @@ module _ {S E R : Type 0} (steps : S → E → R → S → Type 0) (opening : S)
   apart_unborn : (v u : View S E R) → Apart (unborn v) u
   apart_unborn v u = record { tickets = λ k e. absurd cc; numbers = λ n e. absurd (true≢false (sym e)) }
 
-  new_half : (s : State S (View S E R)) (r : Kept steps opening s) (id : ℕ) (v : View S E R) → get_elem? s.views id ≡ some v → Fits r.log r.top r.state (get_or s.words 0 0) (length r.log) opening (unborn v)
+  new_half : (s : State S (View S E R)) (r : Kept steps opening s) (id : ℕ) (v : View S E R) → get_elem? s.views id ≡ some v
+      → Fits r.log r.top r.state (get_or s.words 0 0) (length r.log) opening (unborn v)
   new_half s r id v at =
       let f = r.each_view id v at in
       let b = f.begins in
@@ -28,7 +29,8 @@ module _ {S E R : Type 0} (steps : S → E → R → S → Type 0) (opening : S)
 
   pub halves : (id : ℕ) (v : View S E R) → Splits (Kept steps opening) id v v (unborn v)
   halves id v s r at =
-      subst (λ (vs : List (View S E R)). Kept steps opening record { words = s.words; homes = s.homes; views = vs ++ unborn v ∷ [] }) (sym (set_again s.views id v at)) record {
+      subst (λ (vs : List (View S E R)). Kept steps opening record { words = s.words; homes = s.homes; views = vs ++ unborn v ∷ [] })
+      (sym (set_again s.views id v at)) record {
         log = r.log;
         top = r.top;
         state = r.state;
@@ -42,7 +44,8 @@ module _ {S E R : Type 0} (steps : S → E → R → S → Type 0) (opening : S)
             (λ new. subst (Fits r.log r.top r.state (get_or s.words 0 0) (length r.log) opening) new (new_half s r id v at))
             (at_snoc s.views (unborn v) u j e);
         apart = λ i j a b e d n. ⊎_elim
-            (λ old. ⊎_elim (λ other. r.apart i j a b old other n) (λ new. subst (Apart a) new (apart_sym (unborn v) a (apart_unborn v a))) (at_snoc s.views (unborn v) b j d))
+            (λ old. ⊎_elim (λ other. r.apart i j a b old other n) (λ new. subst (Apart a) new (apart_sym (unborn v) a (apart_unborn v a)))
+            (at_snoc s.views (unborn v) b j d))
             (λ new. subst (λ (x : View S E R). Apart x b) new (apart_unborn v b))
             (at_snoc s.views (unborn v) a i e);
         place = ⊎_elim inl (λ p. inr (p.0, p.1, p.2, p.3, at_longer s.views (unborn v ∷ []) p.0 p.1 p.4, p.5)) r.place;
@@ -51,7 +54,8 @@ module _ {S E R : Type 0} (steps : S → E → R → S → Type 0) (opening : S)
   unborn_free : (v : View S E R) (ns : List ℕ) → v.stage ≡ Unborn ns → (k : ℕ) (x : S) → v.stage ≢ Holding k x
   unborn_free v ns is k x e = let both : Unborn ns ≡ Holding k x = sym is ∙ e in absurd cc
 
-  pub christens : (slots id : ℕ) (m : Sits S E R) (ns : List ℕ) → m.0.stage ≡ Unborn ns → Allows (Kept steps opening) slots id m 0 (λ n. n) (Christened (step slots 0 0 0 none) m)
+  pub christens : (slots id : ℕ) (m : Sits S E R) (ns : List ℕ) → m.0.stage ≡ Unborn ns
+      → Allows (Kept steps opening) slots id m 0 (λ n. n) (Christened (step slots 0 0 0 none) m)
   christens slots id m ns is s r _ at _ =
       let v : View S E R = m.0 in
       let f = r.each_view id v at in
@@ -75,5 +79,11 @@ module _ {S E R : Type 0} (steps : S → E → R → S → Type 0) (opening : S)
               tickets = λ k p. absurd cc;
               numbers = λ k t. ap (λ x. has x (owned u)) (has_one k n t) ∙ lacks_above n n (owned u) g.below (le_refl n);
             }),
-        λ ms same. (n, refl, lacks_above n n ms (subst (StageFits r.log r.top r.state (get_or s.words 0 0) (length r.log) v.numbers) same f.stage) (le_refl n), none_yet.1),
+        λ ms same. (
+          n,
+          refl,
+          lacks_above n n ms (subst (StageFits r.log r.top r.state (get_or s.words 0 0)
+              (length r.log) v.numbers) same f.stage) (le_refl n),
+          none_yet.1,
+        ),
       )

@@ -86,7 +86,8 @@ module _ {X : Type 0} where
   head_none false x ys e = (refl, e)
 
   -- what three tests keep, where the third passes only what one of the first two does
-  filter_none : (p q r : X → Bool) → ((x : X) → p x ≡ false → q x ≡ false → r x ≡ false) → (xs : List X) → filter p xs ≡ [] → filter q xs ≡ [] → filter r xs ≡ []
+  filter_none : (p q r : X → Bool) → ((x : X) → p x ≡ false → q x ≡ false → r x ≡ false) → (xs : List X) → filter p xs ≡ []
+      → filter q xs ≡ [] → filter r xs ≡ []
   filter_none p q r h [] a b = refl
   filter_none p q r h (x ∷ xs) a b =
       let c = head_none (p x) x (filter p xs) a in
@@ -108,7 +109,8 @@ module _ {X : Type 0} where
   prefix_either (x ∷ xs) (y ∷ ys) [] p q = absurd (cc (p.1))
   prefix_either (x ∷ xs) (y ∷ ys) (z ∷ zs) p q =
       let heads : x ≡ y = cc (p.1, q.1) in
-      ⊎_elim (λ (r : IsPrefix xs ys). inl (r.0, cc (heads, r.1))) (λ (r : IsPrefix ys xs). inr (r.0, cc (heads, r.1))) (prefix_either xs ys zs (p.0, cc (p.1)) (q.0, cc (q.1)))
+      ⊎_elim (λ (r : IsPrefix xs ys). inl (r.0, cc (heads, r.1))) (λ (r : IsPrefix ys xs). inr (r.0, cc (heads, r.1)))
+      (prefix_either xs ys zs (p.0, cc (p.1)) (q.0, cc (q.1)))
 
   -- what stands in a beginning stands in the whole, at the same place
   pub prefix_get : (xs ys : List X) (k : ℕ) (x : X) → IsPrefix xs ys → slice_get xs k ≡ Some x → slice_get ys k ≡ Some x
@@ -134,10 +136,13 @@ module _ {E R : Type 0} where
   calls_of_other ns e h = ap (λ t. cond t (e ∷ []) []) h
 
   pub calls_of_both : (ms ns : List ℕ) (h : List (Entry E R)) → calls_by ms h ≡ [] → calls_by ns h ≡ [] → calls_by (ms ++ ns) h ≡ []
-  calls_of_both ms ns h p q = filter_none (λ (e : Entry E R). has e.by ms) (λ (e : Entry E R). has e.by ns) (λ (e : Entry E R). has e.by (ms ++ ns)) (λ e a b. has_neither e.by ms ns a b) h p q
+  calls_of_both ms ns h p q = filter_none (λ (e : Entry E R). has e.by ms) (λ (e : Entry E R). has e.by ns)
+      (λ (e : Entry E R). has e.by (ms ++ ns)) (λ e a b. has_neither e.by ms ns a b) h p q
 
-  pub calls_of_part : (ms ns : List ℕ) (h : List (Entry E R)) → ((n : ℕ) → has n ns ≡ false → has n ms ≡ false) → calls_by ns h ≡ [] → calls_by ms h ≡ []
-  calls_of_part ms ns h part p = filter_none (λ (e : Entry E R). has e.by ns) (λ (e : Entry E R). has e.by ns) (λ (e : Entry E R). has e.by ms) (λ e a _. part e.by a) h p p
+  pub calls_of_part : (ms ns : List ℕ) (h : List (Entry E R)) → ((n : ℕ) → has n ns ≡ false → has n ms ≡ false) → calls_by ns h ≡ []
+      → calls_by ms h ≡ []
+  calls_of_part ms ns h part p = filter_none (λ (e : Entry E R). has e.by ns) (λ (e : Entry E R). has e.by ns)
+      (λ (e : Entry E R). has e.by ms) (λ e a _. part e.by a) h p p
 
   pub calls_of_nobody : (h : List (Entry E R)) → calls_by [] h ≡ []
   calls_of_nobody [] = refl
@@ -153,7 +158,8 @@ module _ {E R : Type 0} where
   pub begins_all : (ns : List ℕ) (log : List (Entry E R)) → Begins ns log log
   begins_all ns log = record { rest = []; whole = append-nil log; others = refl }
 
-  pub begins_push : (ns : List ℕ) (seen log : List (Entry E R)) (e : Entry E R) → has e.by ns ≡ false → Begins ns seen log → Begins ns seen (log ++ e ∷ [])
+  pub begins_push : (ns : List ℕ) (seen log : List (Entry E R)) (e : Entry E R) → has e.by ns ≡ false → Begins ns seen log
+      → Begins ns seen (log ++ e ∷ [])
   begins_push ns seen log e other b = record {
     rest = b.rest ++ e ∷ [];
     whole = sym (append_assoc seen b.rest (e ∷ [])) ∙ ap (λ l. l ++ e ∷ []) b.whole;
@@ -161,15 +167,18 @@ module _ {E R : Type 0} where
   }
 
   -- what stands between two beginnings, and behind the longer
-  pub between : (ns : List ℕ) (xs ys log : List (Entry E R)) → Begins ns xs log → (p : IsPrefix xs ys) → (q : IsPrefix ys log) → (calls_by ns p.0 ≡ []) × (calls_by ns q.0 ≡ [])
+  pub between : (ns : List ℕ) (xs ys log : List (Entry E R)) → Begins ns xs log → (p : IsPrefix xs ys) → (q : IsPrefix ys log)
+      → (calls_by ns p.0 ≡ []) × (calls_by ns q.0 ≡ [])
   between ns xs ys log b p q =
-      let same : b.rest ≡ p.0 ++ q.0 = append_cancel_left xs b.rest (p.0 ++ q.0) (b.whole ∙ (sym q.1 ∙ (ap (λ l. l ++ q.0) (sym p.1) ∙ append_assoc xs p.0 q.0))) in
+      let same : b.rest ≡ p.0 ++ q.0 = append_cancel_left xs b.rest (p.0 ++ q.0) (b.whole
+      ∙ (sym q.1 ∙ (ap (λ l. l ++ q.0) (sym p.1) ∙ append_assoc xs p.0 q.0))) in
       nil_parts (calls_by ns p.0) (calls_by ns q.0) (sym (calls_by-append ns p.0 q.0) ∙ (ap (calls_by ns) (sym same) ∙ b.others))
 
   pub begins_on : (ns : List ℕ) (xs ys log : List (Entry E R)) → Begins ns xs log → IsPrefix xs ys → IsPrefix ys log → Begins ns ys log
   begins_on ns xs ys log b p q = record { rest = q.0; whole = q.1; others = (between ns xs ys log b p q).1 }
 
-  pub begins_calls : (ns : List ℕ) (xs ys log : List (Entry E R)) → Begins ns xs log → IsPrefix xs ys → IsPrefix ys log → calls_by ns ys ≡ calls_by ns xs
+  pub begins_calls : (ns : List ℕ) (xs ys log : List (Entry E R)) → Begins ns xs log → IsPrefix xs ys → IsPrefix ys log
+      → calls_by ns ys ≡ calls_by ns xs
   begins_calls ns xs ys log b p q = ap (calls_by ns) (sym p.1) ∙ same_calls ns xs p.0 (between ns xs ys log b p q).0
 
   pub begins_both : (ms ns : List ℕ) (seen log : List (Entry E R)) → Begins ms seen log → Begins ns seen log → Begins (ms ++ ns) seen log
@@ -177,13 +186,15 @@ module _ {E R : Type 0} where
       let same : c.rest ≡ b.rest = append_cancel_left seen c.rest b.rest (c.whole ∙ sym b.whole) in
       record { rest = b.rest; whole = b.whole; others = calls_of_both ms ns b.rest b.others (ap (calls_by ns) (sym same) ∙ c.others) }
 
-  pub begins_none : (ns : List ℕ) (seen log : List (Entry E R)) → IsPrefix seen log → calls_by ns log ≡ [] → Begins ns seen log × (calls_by ns seen ≡ [])
+  pub begins_none : (ns : List ℕ) (seen log : List (Entry E R)) → IsPrefix seen log → calls_by ns log ≡ []
+      → Begins ns seen log × (calls_by ns seen ≡ [])
   begins_none ns seen log p none =
       let parts = nil_parts (calls_by ns seen) (calls_by ns p.0) (sym (calls_by-append ns seen p.0) ∙ (ap (calls_by ns) p.1 ∙ none)) in
       (record { rest = p.0; whole = p.1; others = parts.1 }, parts.0)
 
 module _ {S E R : Type 0} (steps : S → E → R → S → Type 0) where
-  pub replays_push : (x : S) (h : List (Entry E R)) (y : S) (e : Entry E R) (z : S) → Replays steps x h y → steps y e.event e.reply z → Replays steps x (h ++ e ∷ []) z
+  pub replays_push : (x : S) (h : List (Entry E R)) (y : S) (e : Entry E R) (z : S) → Replays steps x h y → steps y e.event e.reply z
+      → Replays steps x (h ++ e ∷ []) z
   replays_push x [] y e z p q = (z, subst (λ w. steps w e.event e.reply z) (sym p) q, refl)
   replays_push x (d ∷ h) y e z p q = (p.0, p.1, replays_push p.0 h y e z p.2 q)
 

@@ -21,7 +21,8 @@ module _ {S E R : Type 0} where
   ticket_of _ = 0
 
   -- a seat that waits for this ticket finds the machine in the slot
-  pub at_home : (s : State S (View S E R)) (state : S) (id : ℕ) (v : View S E R) (k : ℕ) → get_elem? s.views id ≡ some v → v.stage ≡ Waiting k
+  pub at_home : (s : State S (View S E R)) (state : S) (id : ℕ) (v : View S E R) (k : ℕ) → get_elem? s.views id ≡ some v
+      → v.stage ≡ Waiting k
       → ((j : ℕ) (u : View S E R) → j ≢ id → get_elem? s.views j ≡ some u → Apart v u)
       → ((j : ℕ) (u : View S E R) (n : ℕ) (x : S) → get_elem? s.views j ≡ some u → u.stage ≡ Holding n x → n ≡ k)
       → HasPlace state s → get_elem? s.homes 0 ≡ some (some state)
@@ -40,13 +41,15 @@ module _ {S E R : Type 0} where
           a.tickets k (ap ticket waits) (ap ticket h ∙ ap Some (served j u n x e h))
 
 module _ {S E R : Type 0} (steps : S → E → R → S → Type 0) (opening : S) where
-  taken : (s : State S (View S E R)) (r : Kept steps opening s) (id : ℕ) (v : View S E R) (k : ℕ) → get_elem? s.views id ≡ some v → v.stage ≡ Waiting k → k ≡ length r.log → 0 < length s.homes
+  taken : (s : State S (View S E R)) (r : Kept steps opening s) (id : ℕ) (v : View S E R) (k : ℕ) → get_elem? s.views id ≡ some v
+      → v.stage ≡ Waiting k → k ≡ length r.log → 0 < length s.homes
       → Kept steps opening record { words = s.words; homes = set s.homes 0 none; views = set s.views id (at_stage v (Holding k r.state)) }
   taken s r id v k at waits now some_slot =
       let w : View S E R = at_stage v (Holding k r.state) in
       let f = r.each_view id v at in
       let fits = subst (StageFits r.log r.top r.state (get_or s.words 0 0) (length r.log) v.numbers) waits f.stage in
-      settled steps opening s r s.words (set s.homes 0 none) r.top id w r.wide r.counted (le_refl (get_or s.words 0 0)) r.low (le_refl r.top)
+      settled steps opening s r s.words (set s.homes 0 none) r.top id w r.wide r.counted (le_refl (get_or s.words 0 0)) r.low
+      (le_refl r.top)
       record {
         opened = f.opened;
         begins = f.begins;
@@ -59,9 +62,10 @@ module _ {S E R : Type 0} (steps : S → E → R → S → Type 0) (opening : S)
       })
       (inr (id, w, k, r.state, set_there s.views id v w at, refl))
 
-  pub looks : (slots id : ℕ) (m : Sits S E R) (k : ℕ) → slots ≡ 1 → m.0.stage ≡ Waiting k → Allows (Kept steps opening) slots id m 1 (λ n. n) (Looked (step slots 1 0 0 none) m)
+  pub looks : (slots id : ℕ) (m : Sits S E R) (k : ℕ) → slots ≡ 1 → m.0.stage ≡ Waiting k
+      → Allows (Kept steps opening) slots id m 16 (λ n. n) (Looked (step slots 16 0 0 none) m)
   looks slots id m k one waits s r sized at _ =
-      let found : ℕ = get_or s.words 1 0 in
+      let found : ℕ = get_or s.words 16 0 in
       dite (ℕ_discrete k found)
       (λ hit.
       let w : View S E R = at_stage m.0 (Holding found r.state) in
@@ -75,14 +79,19 @@ module _ {S E R : Type 0} (steps : S → E → R → S → Type 0) (opening : S)
         w,
         takes 0 r.state,
         home,
-        subst (λ ws. Kept steps opening record { words = ws; homes = set s.homes 0 none; views = set s.views id w }) (sym (set-get_or s.words 1 0))
-            (subst (λ n. Kept steps opening record { words = s.words; homes = set s.homes 0 none; views = set s.views id (at_stage m.0 (Holding n r.state)) }) hit (taken s r id m.0 k at waits now (omega arith))),
+        subst (λ ws. Kept steps opening record { words = ws; homes = set s.homes 0 none; views = set s.views id w })
+            (sym (set-get_or s.words 16 0))
+            (subst (λ n. Kept steps opening record {
+              words = s.words;
+              homes = set s.homes 0 none;
+              views = set s.views id (at_stage m.0 (Holding n r.state));
+            }) hit (taken s r id m.0 k at waits now (omega arith))),
         record { hit = λ _. (r.state, refl); miss = λ not. absurd (not (waits ∙ ap Waiting hit)) },
       ))
       (λ miss. (
         m.0,
         keeps,
         tt,
-        unmoved steps opening s 1 id m at r,
+        unmoved steps opening s 16 id m at r,
         record { hit = λ is. absurd (miss (ap ticket_of (sym waits ∙ is))); miss = λ _. refl },
       ))

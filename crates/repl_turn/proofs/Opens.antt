@@ -1,5 +1,5 @@
 -- The rule holds at the start.
-use Rattle.std.proofs.Common.{◌≡◌, ◌≢◌, ℕ, zero, suc, [], ◌∷◌, inl, refl, sym, ap, subst, arith, le_refl}
+use Rattle.std.proofs.Common.{replicate, ◌≡◌, ◌≢◌, ℕ, zero, suc, [], ◌∷◌, inl, refl, sym, ap, subst, arith, le_refl}
 use Rattle.std.specs.Option.{unwrap_or}
 use mathlib.Core.Option.{some, some-injective, some-ne-none}
 use lib.ListN.{get_elem?}
@@ -17,7 +17,7 @@ module _ {S E R : Type 0} (steps : S → E → R → S → Type 0) where
     stage = tt;
   }
 
-  pub opens : (x : S) → Kept steps x (opening (0 ∷ 0 ∷ []) (x ∷ []) (newcomer x))
+  pub opens : (x : S) → Kept steps x (opening (replicate 17 0) (x ∷ []) (newcomer x))
   opens x = record {
     log = [];
     top = 1;
@@ -37,7 +37,8 @@ module _ {S E R : Type 0} (steps : S → E → R → S → Type 0) where
       one zero v e = subst (Fits [] 1 x 0 0 x) (some-injective (newcomer {E = E} {R = R} x) v e) (first_fits x)
       one (suc j) v e = absurd (some-ne-none v (sym e))
 
-      alone : (i j : ℕ) (v w : View S E R) → get_elem? (newcomer {E = E} {R = R} x ∷ []) i ≡ some v → get_elem? (newcomer {E = E} {R = R} x ∷ []) j ≡ some w → i ≢ j → Apart v w
+      alone : (i j : ℕ) (v w : View S E R) → get_elem? (newcomer {E = E} {R = R} x ∷ []) i ≡ some v
+          → get_elem? (newcomer {E = E} {R = R} x ∷ []) j ≡ some w → i ≢ j → Apart v w
       alone zero zero v w e d n = absurd (n refl)
       alone zero (suc j) v w e d n = absurd (some-ne-none w (sym d))
       alone (suc i) j v w e d n = absurd (some-ne-none v (sym e))

@@ -28,10 +28,12 @@ module _ {S E R : Type 0} (steps : S → E → R → S → Type 0) (opening : S)
   apart_union : (v w u : View S E R) → Apart v u → Apart w u → Apart (joining v w) u
   apart_union v w u a b = record {
     tickets = λ k e. absurd cc;
-    numbers = λ n e. ⊎_elim (λ l. a.numbers n (has_left n v.numbers (taken_in v.stage) l)) (λ l. b.numbers n (has_left n w.numbers (taken_in w.stage) l)) (has_either n v.numbers w.numbers e);
+    numbers = λ n e. ⊎_elim (λ l. a.numbers n (has_left n v.numbers (taken_in v.stage) l))
+        (λ l. b.numbers n (has_left n w.numbers (taken_in w.stage) l)) (has_either n v.numbers w.numbers e);
   }
 
-  pub unites : (id : ℕ) (v : View S E R) (other : ℕ) (w : View S E R) → v.stage ≡ Idle → w.stage ≡ Idle → Joins (Kept steps opening) id v other w (joining v w) nobody
+  pub unites : (id : ℕ) (v : View S E R) (other : ℕ) (w : View S E R) → v.stage ≡ Idle → w.stage ≡ Idle
+      → Joins (Kept steps opening) id v other w (joining v w) nobody
   unites id v other w idle idle' s r at n there =
       let both : View S E R = joining v w in
       let at' : get_elem? s.views other ≡ some w = sym (set_else s.views id other both n) ∙ there in
@@ -50,10 +52,16 @@ module _ {S E R : Type 0} (steps : S → E → R → S → Type 0) (opening : S)
       let both_fit : P id both = record {
         opened = f.opened;
         begins = f.begins;
-        below = λ m e. ⊎_elim (λ l. f.below m (has_left m v.numbers (taken_in v.stage) l)) (λ l. g.below m (has_left m w.numbers (taken_in w.stage) l)) (has_either m v.numbers w.numbers e);
-        stage = (g.begins, λ m e. lacks_left m w.numbers (taken_in w.stage) (apart_vw.numbers m (has_left m v.numbers (taken_in v.stage) e)));
+        below = λ m e. ⊎_elim (λ l. f.below m (has_left m v.numbers (taken_in v.stage) l))
+            (λ l. g.below m (has_left m w.numbers (taken_in w.stage) l)) (has_either m v.numbers w.numbers e);
+        stage = (
+          g.begins,
+          λ m e. lacks_left m w.numbers (taken_in w.stage)
+              (apart_vw.numbers m (has_left m v.numbers (taken_in v.stage) e)),
+        );
       } in
-      subst (λ (vs : List (View S E R)). Kept steps opening record { words = s.words; homes = s.homes; views = vs }) (set_comm s.views other id nobody both n) record {
+      subst (λ (vs : List (View S E R)). Kept steps opening record { words = s.words; homes = s.homes; views = vs })
+      (set_comm s.views other id nobody both n) record {
         log = r.log;
         top = r.top;
         state = r.state;
@@ -63,26 +71,33 @@ module _ {S E R : Type 0} (steps : S → E → R → S → Type 0) (opening : S)
         low = r.low;
         legal = r.legal;
         unused = r.unused;
-        each_view = each_set P fewer id both both_fit (λ j u _ e. each_set P s.views other nobody nobody_fits (λ i x _ d. r.each_view i x d) j u e);
+        each_view = each_set P fewer id both both_fit (λ j u _ e. each_set P s.views other nobody nobody_fits
+            (λ i x _ d. r.each_view i x d) j u e);
         apart = apart_set fewer id both (apart_set s.views other nobody r.apart (λ j u _ _. apart_nobody u))
             (λ j u m e. each_set (λ i x. i ≢ id → Apart both x) s.views other nobody (λ _. apart_sym nobody both (apart_nobody both))
-            (λ i x k d l. apart_union v w x (r.apart id i v x at d (λ same. l (sym same))) (r.apart other i w x at' d (λ same. k (sym same)))) j u e m);
-        place = place_set r.state record { words = s.words; homes = s.homes; views = fewer } s.words id v both still (free v idle) (place_set r.state s s.words other w nobody at' (free w idle') r.place);
+            (λ i x k d l. apart_union v w x (r.apart id i v x at d (λ same. l (sym same)))
+            (r.apart other i w x at' d (λ same. k (sym same)))) j u e m);
+        place = place_set r.state record { words = s.words; homes = s.homes; views = fewer } s.words id v both still (free v idle)
+            (place_set r.state s s.words other w nobody at' (free w idle') r.place);
       }
 
-  merged : (s : State S (View S E R)) (r : Kept steps opening s) (slots id : ℕ) (m : Sits S E R) (ns : List ℕ) (h seen : List (Entry E R)) → get_elem? s.views id ≡ some m.0 → m.0.stage ≡ Joining ns h
+  merged : (s : State S (View S E R)) (r : Kept steps opening s) (slots id : ℕ) (m : Sits S E R) (ns : List ℕ) (h seen : List (Entry E R))
+      → get_elem? s.views id ≡ some m.0 → m.0.stage ≡ Joining ns h
       → (seen ≡ m.0.seen) ⊎ (seen ≡ h) → IsPrefix m.0.seen seen → IsPrefix h seen → IsPrefix seen r.log
-      → Kept steps opening (stepped s 0 (get_or s.words 0 0) id m.1 (resting m.0.opening seen (m.0.numbers ++ ns)) keeps) × TakesIn steps ns h m (resting m.0.opening seen (m.0.numbers ++ ns), m.1)
+      → Kept steps opening (stepped s 0 (get_or s.words 0 0) id m.1 (resting m.0.opening seen (m.0.numbers ++ ns)) keeps)
+      × TakesIn steps ns h m (resting m.0.opening seen (m.0.numbers ++ ns), m.1)
   merged s r slots id m ns h seen at is one first second front =
       let v : View S E R = m.0 in
       let w : View S E R = resting v.opening seen (v.numbers ++ ns) in
       let f = r.each_view id v at in
       let taken = subst (StageFits r.log r.top r.state (get_or s.words 0 0) (length r.log) v.numbers) is f.stage in
-      let part : (n : ℕ) → has n (owned w) ≡ true → has n (owned v) ≡ true = λ n e. subst (λ st. has n (v.numbers ++ taken_in st) ≡ true) (sym is) (⊎_elim (λ l. l) (λ l. absurd (true≢false (sym l))) (has_either n (v.numbers ++ ns) [] e)) in (
+      let part : (n : ℕ) → has n (owned w) ≡ true → has n (owned v) ≡ true = λ n e. subst (λ st. has n (v.numbers ++ taken_in st) ≡ true)
+      (sym is) (⊎_elim (λ l. l) (λ l. absurd (true≢false (sym l))) (has_either n (v.numbers ++ ns) [] e)) in (
         loaded steps opening s r 0 r.top id m.1 v w at (joining_free v ns h is) (le_refl r.top)
             record {
               opened = f.opened;
-              begins = begins_both v.numbers ns seen r.log (begins_on v.numbers v.seen seen r.log f.begins first front) (begins_on ns h seen r.log taken.0 second front);
+              begins = begins_both v.numbers ns seen r.log (begins_on v.numbers v.seen seen r.log f.begins first front)
+                  (begins_on ns h seen r.log taken.0 second front);
               below = λ n e. f.below n (part n e);
               stage = tt;
             }
@@ -100,13 +115,17 @@ module _ {S E R : Type 0} (steps : S → E → R → S → Type 0) (opening : S)
         },
       )
     where
-      joining_free : (v : View S E R) (ns : List ℕ) (h : List (Entry E R)) → v.stage ≡ Joining ns h → (k : ℕ) (x : S) → v.stage ≢ Holding k x
+      joining_free : (v : View S E R) (ns : List ℕ) (h : List (Entry E R)) → v.stage ≡ Joining ns h → (k : ℕ) (x : S)
+          → v.stage ≢ Holding k x
       joining_free v ns h is k x e = let both : Joining ns h ≡ Holding k x = sym is ∙ e in absurd cc
 
-  told : (ns : List ℕ) (h : List (Entry E R)) (m n : Sits S E R) → m.0.stage ≡ Joining ns h → TakesIn steps ns h m n → (ns' : List ℕ) (h' : List (Entry E R)) → m.0.stage ≡ Joining ns' h' → TakesIn steps ns' h' m n
-  told ns h m n is t ns' h' is' = subst (λ (z : List ℕ × List (Entry E R)). TakesIn steps z.0 z.1 m n) (λ i. (ap taken_in (sym is ∙ is') i, ap taken_seen (sym is ∙ is') i)) t
+  told : (ns : List ℕ) (h : List (Entry E R)) (m n : Sits S E R) → m.0.stage ≡ Joining ns h → TakesIn steps ns h m n
+      → (ns' : List ℕ) (h' : List (Entry E R)) → m.0.stage ≡ Joining ns' h' → TakesIn steps ns' h' m n
+  told ns h m n is t ns' h' is' = subst (λ (z : List ℕ × List (Entry E R)). TakesIn steps z.0 z.1 m n)
+      (λ i. (ap taken_in (sym is ∙ is') i, ap taken_seen (sym is ∙ is') i)) t
 
-  pub merges : (slots id : ℕ) (m : Sits S E R) (ns : List ℕ) (h : List (Entry E R)) → m.0.stage ≡ Joining ns h → Allows (Kept steps opening) slots id m 0 (λ n. n) (Merged steps (step slots 0 0 0 none) m)
+  pub merges : (slots id : ℕ) (m : Sits S E R) (ns : List ℕ) (h : List (Entry E R)) → m.0.stage ≡ Joining ns h
+      → Allows (Kept steps opening) slots id m 0 (λ n. n) (Merged steps (step slots 0 0 0 none) m)
   merges slots id m ns h is s r _ at _ =
       let f = r.each_view id m.0 at in
       let b = f.begins in
@@ -115,6 +134,9 @@ module _ {S E R : Type 0} (steps : S → E → R → S → Type 0) (opening : S)
       let p : IsPrefix m.0.seen r.log = (b.rest, b.whole) in
       let q : IsPrefix h r.log = (c.rest, c.whole) in
       ⊎_elim
-      (λ (pre : IsPrefix m.0.seen h). let t = merged s r slots id m ns h h at is (inr refl) pre (prefix_self h) q in let w = resting m.0.opening h (m.0.numbers ++ ns) in (w, keeps, tt, t.0, told ns h m (w, m.1) is t.1))
-      (λ (pre : IsPrefix h m.0.seen). let t = merged s r slots id m ns h m.0.seen at is (inl refl) (prefix_self m.0.seen) pre p in let w = resting m.0.opening m.0.seen (m.0.numbers ++ ns) in (w, keeps, tt, t.0, told ns h m (w, m.1) is t.1))
+      (λ (pre : IsPrefix m.0.seen h). let t = merged s r slots id m ns h h at is (inr refl) pre
+      (prefix_self h) q in let w = resting m.0.opening h (m.0.numbers ++ ns) in (w, keeps, tt, t.0, told ns h m (w, m.1) is t.1))
+      (λ (pre : IsPrefix h m.0.seen). let t = merged s r slots id m ns h m.0.seen at is (inl refl)
+      (prefix_self m.0.seen) pre p in let w = resting m.0.opening m.0.seen (m.0.numbers ++ ns) in
+      (w, keeps, tt, t.0, told ns h m (w, m.1) is t.1))
       (prefix_either m.0.seen h r.log p q)

@@ -12,7 +12,7 @@ use Rattle.repl_turn.proofs.Views.{loaded, leads}
 use Rattle.repl_turn.proofs.Draws.{idle_free}
 
 module _ {S E R : Type 0} (steps : S → E → R → S → Type 0) (opening : S) where
-  pub watches : (slots id : ℕ) (m : Sits S E R) → m.0.stage ≡ Idle → Allows (Kept steps opening) slots id m 1 (λ n. n) (Watched steps m)
+  pub watches : (slots id : ℕ) (m : Sits S E R) → m.0.stage ≡ Idle → Allows (Kept steps opening) slots id m 16 (λ n. n) (Watched steps m)
   watches slots id m idle s r _ at _ =
       let v : View S E R = m.0 in
       let f = r.each_view id v at in
@@ -22,7 +22,7 @@ module _ {S E R : Type 0} (steps : S → E → R → S → Type 0) (opening : S)
         w,
         keeps,
         tt,
-        loaded steps opening s r 1 r.top id m.1 v w at (idle_free steps opening v idle) (le_refl r.top)
+        loaded steps opening s r 16 r.top id m.1 v w at (idle_free steps opening v idle) (le_refl r.top)
             record {
               opened = f.opened;
               begins = subst (Begins v.numbers seen) b.whole (begins_all v.numbers seen);

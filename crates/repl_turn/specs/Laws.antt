@@ -8,7 +8,8 @@ use Rattle.repl_turn.specs.History.{TurnId, Known, Replays, Legal, StepAt, Acts}
 
 module _ {S E R : Type 0} (steps : S → E → R → S → Type 0) where
   -- events that lead somewhere are split at an entry
-  pub step_at : (x : S) (h : List (Entry E R)) (y : S) (at : ℕ) (e : Entry E R) → Replays steps x h y → slice_get h at ≡ Some e → StepAt steps x h y at e
+  pub step_at : (x : S) (h : List (Entry E R)) (y : S) (at : ℕ) (e : Entry E R) → Replays steps x h y → slice_get h at ≡ Some e
+      → StepAt steps x h y at e
   step_at x [] y at e p is = absurd cc
   step_at x (d ∷ h) y zero e p is =
       let same : d ≡ e = cc is in
@@ -48,7 +49,8 @@ module _ {S E R : Type 0} (steps : S → E → R → S → Type 0) where
       replays_front x (d ∷ g) h z p = let rest = replays_front p.0 g h z p.2 in (rest.0, (p.0, p.1, rest.1))
 
   -- quiet events leave what a quiet event leaves
-  module _ {W : Type 0} (awaited : S → W) (quiet : E → Bool) (stays : (x : S) (event : E) (reply : R) (y : S) → quiet event ≡ true → steps x event reply y → awaited y ≡ awaited x) where
+  module _ {W : Type 0} (awaited : S → W) (quiet : E → Bool) (stays : (x : S) (event : E) (reply : R) (y : S) → quiet event ≡ true
+      → steps x event reply y → awaited y ≡ awaited x) where
     abbrev pub IsQuiet : Entry E R → Type 0
     IsQuiet e = quiet e.event ≡ true
 

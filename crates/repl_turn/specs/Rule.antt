@@ -1,5 +1,5 @@
 -- The rule of the table under a turn, and what each step tells.
--- Word 0 is the number of tickets drawn, and word 1 the length of the history, which is the ticket that is served. The slot has the machine.
+-- Word 0 is the number of tickets drawn, and word 16 the length of the history, which is the ticket that is served. The slot has the machine.
 use Rattle.std.specs.Prelude.{◌≡◌, ◌≢◌, ◌⊎◌, ℕ, ◌<◌, ◌≤◌, ◌^◌, true, false, Option, Some, None, List, [], ◌∷◌, ◌++◌, length, slice_index}
 use mathlib.Core.List.{IsPrefix}
 use mathlib.Core.Option.{some}
@@ -80,7 +80,8 @@ module _ {S E R : Type 0} where
 
   -- the machine is in the slot, in this state, or a seat has it out
   abbrev pub HasPlace : S → State S (View S E R) → Type 0
-  HasPlace state s = (get_elem? s.homes 0 ≡ some (some state)) ⊎ ((j : ℕ) × (u : View S E R) × (k : ℕ) × (x : S) × (get_elem? s.views j ≡ some u) × (u.stage ≡ Holding k x))
+  HasPlace state s = (get_elem? s.homes 0 ≡ some (some state)) ⊎
+      ((j : ℕ) × (u : View S E R) × (k : ℕ) × (x : S) × (get_elem? s.views j ≡ some u) × (u.stage ≡ Holding k x))
 
   module _ (steps : S → E → R → S → Type 0) where
     -- There is one legal history, which leads to this state. Each view fits it, and numbers from `top` on were given to nobody
@@ -88,13 +89,14 @@ module _ {S E R : Type 0} where
       pub log : List (Entry E R)
       pub top : ℕ
       pub state : S
-      pub wide : length s.words ≡ 2
-      pub counted : slice_index s.words 1 ≡ length log
+      pub wide : length s.words ≡ 17
+      pub counted : slice_index s.words 16 ≡ length log
       pub ordered : length log ≤ slice_index s.words 0
       pub low : slice_index s.words 0 ≤ 2 ^ 63
       pub legal : Replays steps opening log state
       pub unused : (n : ℕ) → top ≤ n → calls_by (n ∷ []) log ≡ []
-      pub each_view : (j : ℕ) (v : View S E R) → get_elem? s.views j ≡ some v → Fits log top state (slice_index s.words 0) (length log) opening v
+      pub each_view : (j : ℕ) (v : View S E R) → get_elem? s.views j ≡ some v
+          → Fits log top state (slice_index s.words 0) (length log) opening v
       pub apart : (i j : ℕ) (v w : View S E R) → get_elem? s.views i ≡ some v → get_elem? s.views j ≡ some w → i ≢ j → Apart v w
       pub place : HasPlace state s
 
@@ -122,7 +124,11 @@ module _ {S E R : Type 0} where
     -- the turn was given on, and the entry of this event stands at the end of the history
     pub record Gave (call : Option (E × R)) (st : Step S) (m : Sits S E R) (found : ℕ) (n : Sits S E R) : Type 0 where
       pub between : List (Entry E R)
-      pub view : (e : E) (r : R) → call ≡ Some (e, r) → n ≡ (resting m.0.opening ((m.0.seen ++ between) ++ entry (slice_index m.0.numbers 0) e r ∷ []) m.0.numbers, [])
+      pub view : (e : E) (r : R) → call ≡ Some (e, r) → n ≡ (
+        resting m.0.opening
+            ((m.0.seen ++ between) ++ entry (slice_index m.0.numbers 0) e r ∷ []) m.0.numbers,
+        [],
+      )
       pub place : length (m.0.seen ++ between) ≡ found
       pub low : found < 2 ^ 63
       pub others : calls_by m.0.numbers between ≡ []

@@ -17,7 +17,10 @@ use std::sync::atomic::Ordering::SeqCst;
 const LOW_HALF: u64 = 1 << 32;
 
 // How often a thread looks, and finds nothing new, before it sleeps.
-const LOOKS: u32 = 100;
+const LOOKS: u32 = 160;
+
+// How often who is next looks without a rest.
+const EAGER: u32 = 60;
 
 #[derive(Drop)]
 pub(crate) struct Bell {
@@ -63,8 +66,9 @@ impl Patience {
     }
 
     // Whether the thread looked long enough and found nothing new, and is to sleep now. Each number that was not
-    // found before gives it new patience: where the turn goes round fast, nobody falls asleep.
-    pub(crate) fn is_over(&mut self, found: u64) -> bool {
+    // found before gives it new patience: where the turn goes round fast, nobody falls asleep. Who is next looks all the
+    // time at first; others look more seldom, by how many are before them, so that their looks do not slow down the turn.
+    pub(crate) fn is_over(&mut self, found: u64, ahead: u64) -> bool {
         if found != self.last {
             self.last = found;
             self.looks = 0;
@@ -74,7 +78,16 @@ impl Patience {
             return true;
         }
         self.looks += 1;
-        hint::spin_loop();
+        if ahead > 1 || self.looks > EAGER {
+            rest(ahead);
+        }
         false
+    }
+}
+
+// Lets the processor rest for a moment for each of so many.
+fn rest(ahead: u64) {
+    for _ in 0..ahead.min(8) {
+        hint::spin_loop();
     }
 }

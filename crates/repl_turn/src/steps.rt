@@ -3,7 +3,7 @@ ghost use Rattle.std.specs.Prelude.{◌≡◌, ◌<◌, ◌^◌, Some, [], ◌�
 ghost use Rattle.repl_turn.specs.declared.rule.Stage.TheVariants.{Idle, Waiting, Holding};
 ghost use Rattle.repl_turn.specs.Rule.{IsSameSeat, at_stage, IsHeld, Gives, Watched};
 
-use crate::bell::Patience;
+use crate::bell::{Bell, Patience};
 use crate::machine::Machine;
 use crate::rule::{Draw, Give, Look, Said, Token, Watch};
 use crate::turn::Turn;
@@ -14,16 +14,20 @@ use std::sync::atomic::Ordering::SeqCst;
 // No more tickets than this are drawn, so that no word wraps.
 const TICKETS: u64 = 1 << 63;
 
+// The word that counts the events made. It is far from word 0, which counts the tickets drawn, so that who draws one does
+// not slow down those who look whether theirs is served.
+const SERVED: usize = 16;
+
 impl<M: Machine> Turn<M> {
-    // Draws the next ticket. Where all are drawn it does not return.
-    pub(crate) fn draw<R: Wait>(&self, rt: &R, token: &mut Token<M>) -> u64
+    // Draws the next ticket, which `likely` guesses at first. Where all are drawn it does not return.
+    pub(crate) fn draw<R: Wait>(&self, rt: &R, token: &mut Token<M>, likely: u64) -> u64
         requires seat { token.old.table_id ≡ self.now.table }
         requires idle { (token.old.me.0.stage ≡ Idle) × (token.old.me.1 ≡ []) }
         ensures seat { IsSameSeat token.old token.new }
         ensures drawn { token.new.me ≡ (at_stage token.old.me.0 (Waiting result), []) }
     {
+        let mut ticket = likely;
         for _ in rt.forever() {
-            let ticket = self.table.shared.peek(0);
             if ticket < TICKETS {
                 let found = self
                     .table
@@ -32,6 +36,7 @@ impl<M: Machine> Turn<M> {
                 if found == ticket {
                     return ticket;
                 }
+                ticket = found;
             }
         }
         unreachable!()
@@ -46,22 +51,27 @@ impl<M: Machine> Turn<M> {
     {
         let mut patience = Patience::new();
         for _ in rt.forever() {
-            let served = self.table.shared.load::<Look>(token, 1);
+            let served = self.table.shared.load::<Look>(token, SERVED);
             if served == ticket {
                 return;
             }
-            if patience.is_over(served) {
+            if patience.is_over(served, ticket.saturating_sub(served)) {
                 self.sleep_before(rt, ticket);
             }
         }
         unreachable!()
     }
 
+    // Where a thread with this ticket sleeps. Few tickets are out at a time, so seldom do two threads share a bell.
+    fn bell(&self, ticket: u64) -> &Bell {
+        &self.bells[(ticket % 64) as usize]
+    }
+
     // Sleeps until the ticket is served. It may return too early.
     fn sleep_before<R: Wait>(&self, rt: &R, ticket: u64) {
-        let bell = &self.bells[(ticket % 64) as usize];
+        let bell = self.bell(ticket);
         let heard = bell.listen();
-        if self.table.shared.peek(1) != ticket {
+        if self.table.shared.peek(SERVED) != ticket {
             bell.sleep(rt, heard);
         }
     }
@@ -80,13 +90,13 @@ impl<M: Machine> Turn<M> {
         ensures gave { Gives M.steps asked.value reply.now token.old.me.0 result token.new.me }
     {
         let _ = asked;
-        self.table.shared.fetch_add::<Give<J>>(token, 1, 1)
+        self.table.shared.fetch_add::<Give<J>>(token, SERVED, 1)
     }
 
     // Wakes who waits with this ticket, which is served now, and where the event behind which it came was not quiet, who
     // waits for a change.
     pub(crate) fn wake(&self, served: u64, quiet: bool) {
-        self.bells[(served % 64) as usize].ring();
+        self.bell(served).ring();
         if !quiet {
             self.loud.fetch_max(served, SeqCst);
             self.change.ring();
@@ -105,7 +115,7 @@ impl<M: Machine> Turn<M> {
     {
         for _ in rt.forever() {
             self.sleep_behind(rt, count);
-            let found = self.table.shared.load::<Watch>(token, 1);
+            let found = self.table.shared.load::<Watch>(token, SERVED);
             if found > count {
                 return found;
             }
@@ -121,7 +131,7 @@ impl<M: Machine> Turn<M> {
             if loud > count {
                 return;
             }
-            if patience.is_over(loud) {
+            if patience.is_over(loud, 1) {
                 let heard = self.change.listen();
                 if self.loud.load(SeqCst) <= count {
                     self.change.sleep(rt, heard);

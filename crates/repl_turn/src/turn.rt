@@ -34,7 +34,7 @@ impl<M: Machine> Model for Turn<M> {
 
     ghost view = { λ t. record { table = t.table.shared.table_id; opening = Some t.table.shared.key.value } };
 
-    ghost invariant = { λ t. (t.table.shared.table_id.words ≡ 2) × (t.table.shared.table_id.slots ≡ 1) };
+    ghost invariant = { λ t. (t.table.shared.table_id.words ≡ 17) × (t.table.shared.table_id.slots ≡ 1) };
 }
 
 /// The reply to an event, and the event's place in the history, from 0.
@@ -69,7 +69,7 @@ impl<M: Machine> Turn<M> {
             slots.destroy_empty();
             return Err(NoMemory { machine: value });
         }
-        match Table::new(alloc, &[0, 0], slots, &opening) {
+        match Table::new(alloc, &[0; 17], slots, &opening) {
             Ok((table, token)) => {
                 let turn = Turn {
                     table,
@@ -95,7 +95,7 @@ impl<M: Machine> Turn<M> {
         ensures acts { Acts M.steps pass.old event result.reply result.at pass.new }
         ensures made { (before : M) × (after : M) × M.steps before event result.reply after }
     {
-        let ticket = self.draw(rt, &mut pass.token);
+        let ticket = self.draw(rt, &mut pass.token, pass.count);
         self.await_turn(rt, &mut pass.token, ticket);
         let quiet = M::is_quiet(&event);
         let asked = Snapshot::of(&event);
@@ -157,7 +157,7 @@ impl<M: Machine> Turn<M> {
         let Pass { count: _, token } = pass;
         let mut closed = table.close_with(token);
         let drawn = closed.word(0);
-        let served = closed.word(1);
+        let served = closed.word(16);
         let machine = closed.take(0);
         closed.free();
         if drawn == served {

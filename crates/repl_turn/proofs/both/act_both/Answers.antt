@@ -1,3 +1,4 @@
+-- The joined pass knows both events, at different places.
 use Rattle.std.proofs.Common.{◌≡◌, slice_get, sym, ap, ◌∙◌}
 use Rattle.std.specs.Option.{unwrap_or}
 use Rattle.repl_turn.specs.History.{entry, number}
@@ -17,5 +18,6 @@ returns-clause-apart g c e =
     let one = prefix_get _ _ _ _ c.join.ensures.first c.join-left.ensures.first.place in
     let other = prefix_get _ _ _ _ c.join.ensures.second c.join-left.ensures.second.place in
     let same = sym other ∙ (ap (slice_get c.join.result.seen) (sym e) ∙ one) in
-    let by : number c.split-one.result.1 ≡ number c.split-one.result.0 = ap (λ o. (unwrap_or o (entry 0 c.args.first c.join-left.result.0.1.reply)).by) same in
+    let by : number c.split-one.result.1 ≡ number c.split-one.result.0 = ap
+    (λ o. (unwrap_or o (entry 0 c.args.first c.join-left.result.0.1.reply)).by) same in
     new.other (by ∙ ap number c.split-one.ensures.first)

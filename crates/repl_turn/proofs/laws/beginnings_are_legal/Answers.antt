@@ -1,3 +1,4 @@
+-- A beginning of a legal history is legal.
 use Rattle.repl_turn.specs.Laws.{legal_front}
 use Rattle.repl_turn.proofs.laws.beginnings_are_legal.Goals as goal
 

@@ -1,3 +1,4 @@
+-- A legal history is split at an entry.
 use Rattle.repl_turn.specs.Laws.{step_at}
 use Rattle.repl_turn.proofs.laws.each_entry_is_a_step.Goals as goal
 

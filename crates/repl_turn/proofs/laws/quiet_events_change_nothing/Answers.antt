@@ -1,3 +1,4 @@
+-- Each quiet event leaves what is awaited, and so do all.
 use Rattle.repl_turn.specs.Laws.{all_quiet}
 use Rattle.repl_turn.proofs.laws.quiet_events_change_nothing.Goals as goal
 

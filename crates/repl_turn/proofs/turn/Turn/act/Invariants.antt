@@ -1,3 +1,4 @@
+-- The call that `give` adds to the history: this event, with this reply.
 use Rattle.std.specs.Prelude.{Some}
 use Rattle.repl_turn.proofs.turn.Turn.act.Given as goal
 

@@ -1,3 +1,4 @@
+-- Where nothing new was found, the seat is as it was.
 use Rattle.std.proofs.Common.{◌≡◌}
 use Rattle.repl_turn.specs.Rule.{IsSameSeat}
 use Rattle.repl_turn.proofs.turn.Turn.await_change.Given as goal

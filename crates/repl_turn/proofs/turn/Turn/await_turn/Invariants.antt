@@ -1,3 +1,4 @@
+-- Until its turn comes, the seat is as it was.
 use Rattle.std.proofs.Common.{◌≡◌}
 use Rattle.repl_turn.specs.Rule.{IsSameSeat}
 use Rattle.repl_turn.proofs.turn.Turn.await_turn.Given as goal

@@ -1,3 +1,4 @@
+-- A failed draw leaves the seat as it is.
 use Rattle.std.proofs.Common.{◌≡◌}
 use Rattle.repl_turn.specs.Rule.{IsSameSeat}
 use Rattle.repl_turn.proofs.turn.Turn.draw.Given as goal
