@@ -1,5 +1,5 @@
 -- Messages after the startup: the type byte says which lengths they may have and how their bodies are read, on either side.
-use Rattle.std.proofs.Common.{◌≡◌, ℕ, ◌+◌, Bool, true, false, cond, eqb, List, [], ◌∷◌, length, Option, Some, None, Result, Ok, Err, refl, arith}
+use Rattle.std.proofs.Common.{◌≡◌, ℕ, ◌+◌, Bool, true, false, cond, eqb, List, [], ◌∷◌, length, Option, Some, None, Result, Err, refl, arith}
 use Rattle.std.specs.Option.{option_map}
 use Rattle.repl_message.specs.declared.front.Front.TheVariants as front
 use Rattle.repl_message.specs.declared.message.Side.{Side}

@@ -1,7 +1,6 @@
 -- A message after the startup is what judging gives, by the lengths and the reading that its type byte has.
-use Rattle.std.proofs.Common.{◌≡◌, List, [], ◌∷◌, ◌+◌, length, Some, None, Ok, Err, ap, sym, ◌∙◌, arith, rules, refl}
-use Rattle.repl_wire.specs.declared.taking.Taken.{Taken}
-use Rattle.repl_wire.specs.Judging.{IsJudged, judge_sent, lengths_of, frame_of, ended_at, on_frame, message_of}
+use Rattle.std.proofs.Common.{◌≡◌, ◌∷◌, Some, None, Ok, Err, ap, ◌∙◌, arith, rules, refl}
+use Rattle.repl_wire.specs.Judging.{judge_sent, lengths_of, frame_of, message_of}
 use Rattle.repl_wire.proofs.Sent.{sent_some, sent_none, sent_empty}
 use Rattle.repl_wire.proofs.taking.take_sent.Goals as goal
 
