@@ -24,3 +24,4 @@ pub mod Relations
 pub mod Equals
 pub mod Holders
 pub mod HistoryNames
+pub mod SizeTexts

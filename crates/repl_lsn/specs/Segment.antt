@@ -1,5 +1,5 @@
 -- Segments of the log and the names of its files (PostgreSQL 17 manual, section "WAL Internals").
-use Rattle.std.specs.Prelude.{◌≡◌, ◌≢◌, ℕ, ◌+◌, ◌*◌, ◌/◌, ◌%◌, ◌^◌, ◌<◌, ◌≤◌, ◌⊎◌, true, List, ◌++◌, length, take, drop, replicate, ◌-◌, codes, All}
+use Rattle.std.specs.Prelude.{◌≡◌, ◌≢◌, ℕ, ◌+◌, ◌*◌, ◌/◌, ◌%◌, ◌^◌, ◌<◌, ◌≤◌, ◌⊎◌, true, List, [], ◌∷◌, ◌++◌, get_or, length, take, drop, replicate, ◌-◌, codes, All}
 use Rattle.std.specs.Char.{digit_value}
 use Rattle.std.specs.Fmt.{digits}
 use Rattle.std.specs.Str.Parse.{digits_value}
@@ -10,6 +10,20 @@ pub record IsSegSize (size : ℕ) : Type 0 where
   pub power : size ≡ 2 ^ exponent
   pub least : 2 ^ 20 ≤ size
   pub most : size ≤ 2 ^ 30
+
+-- what `SHOW wal_segment_size` says of a size, by the number of megabytes
+abbrev pub settings : List (List ℕ)
+settings =
+    codes "1MB" ∷ codes "2MB" ∷ codes "4MB" ∷ codes "8MB" ∷ codes "16MB" ∷ codes "32MB" ∷ codes "64MB" ∷ codes "128MB" ∷ codes "256MB"
+    ∷ codes "512MB" ∷ codes "1GB" ∷ []
+
+-- the text is that of the size of 2 ^ log2 bytes
+abbrev pub IsSettingOf : List ℕ → ℕ → Type 0
+IsSettingOf text log2 = (20 ≤ log2) × (log2 ≤ 30) × (text ≡ get_or settings (log2 - 20) [])
+
+-- the text is that of the size
+abbrev pub IsSetting : List ℕ → ℕ → Type 0
+IsSetting text size = (log2 : ℕ) × IsSettingOf text log2 × (size ≡ 2 ^ log2)
 
 -- the segment starts below 2^64
 abbrev pub Fits : ℕ → ℕ → Type 0

@@ -33,6 +33,7 @@ mod position;
 mod relation;
 mod segment;
 mod segment_laws;
+mod settings;
 mod timeline;
 mod words;
 
