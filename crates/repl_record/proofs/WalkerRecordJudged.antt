@@ -68,7 +68,8 @@ fault_taken w timeline from prev log piece reason t = wrong reason
         let whole = total_is (with_record w piece) (so_far w from (log ++ piece)) c (omega (arith, c.count_is, h.0)) in
         (record { count_is = sym c.count_is ∙ h.0; last = last_taken w timeline from prev log piece t }, h.1 ∙ whole, h.2)
     wrong (why.Prev found expected) h =
-        let field_8 = field_is (with_record w piece) (so_far w from (log ++ piece)) 8 8 c (omega (arith, c.count_is, h.0)) (omega arith) in (
+        let field_8 = field_is (with_record w piece) (so_far w from (log ++ piece)) 8 8 c (omega (arith, c.count_is, h.0)) (omega arith)
+        in (
           record { count_is = sym c.count_is ∙ h.0; last = last_taken w timeline from prev log piece t },
           c.has_length (omega (arith, c.count_is, h.0)),
           h.1 ∙ field_8,
