@@ -69,6 +69,20 @@ impl Walker {
         self.at
     }
 
+    /// Where the last whole record ends, behind which the walker stands, or where the walker began while none was whole.
+    pub fn last_end(&self) -> Lsn
+        ensures { (timeline : ℕ → ℕ) (from prev : ℕ) (log : List ℕ) → Stands self.now timeline from prev log → result ≡ from }
+    {
+        self.from
+    }
+
+    /// Where that record starts.
+    pub fn last_start(&self) -> Lsn
+        ensures { (timeline : ℕ → ℕ) (from prev : ℕ) (log : List ℕ) → Stands self.now timeline from prev log → result ≡ prev }
+    {
+        self.prev
+    }
+
     /// Takes the log's next bytes, up to the end of the record in them or to a fault. Pages that begin in them are on
     /// this timeline. Once a fault was met it is answered again.
     pub fn step(&mut self, tli: Tli, bytes: &[u8]) -> WalkStep
