@@ -50,13 +50,19 @@ impl<M: Machine> Turn<M> {
         ensures held { (x : M) × (token.new.me ≡ (at_stage token.old.me.0 (Holding ticket x), (0, x) ∷ [])) }
     {
         let mut patience = Patience::new();
+        let mut slept = false;
+        let mut early = false;
         for _ in rt.forever() {
             let served = self.table.shared.load::<Look>(token, SERVED);
             if served == ticket {
+                self.note_early(early, 1);
                 return;
             }
+            early = slept;
             if patience.is_over(served, ticket.saturating_sub(served)) {
+                self.note_early(early, 0);
                 self.sleep_before(rt, ticket);
+                slept = true;
             }
         }
         unreachable!()
@@ -73,6 +79,13 @@ impl<M: Machine> Turn<M> {
         let heard = bell.listen();
         if self.table.shared.peek(SERVED) != ticket {
             bell.sleep(rt, heard);
+        }
+    }
+
+    // Where a thread was woken before its turn, says whether that was of use.
+    fn note_early(&self, early: bool, useful: u64) {
+        if early && self.early.load(SeqCst) != useful {
+            self.early.store(useful, SeqCst);
         }
     }
 
@@ -93,10 +106,15 @@ impl<M: Machine> Turn<M> {
         self.table.shared.fetch_add::<Give<J>>(token, SERVED, 1)
     }
 
-    // Wakes who waits with this ticket, which is served now, and where the event behind which it came was not quiet, who
-    // waits for a change.
+    // Wakes who waits with this ticket, which is served now. Where events are short it wakes the one behind it too, so
+    // that it is awake when its turn comes: else, once all are asleep, each event would wait for a wake-up. It tries that
+    // now and then, and goes on with it as long as it is of use. Where the event before was not quiet, it wakes all who
+    // wait for a change.
     pub(crate) fn wake(&self, served: u64, quiet: bool) {
         self.bell(served).ring();
+        if self.early.load(SeqCst) == 1 || served % 64 == 0 {
+            self.bell(served.wrapping_add(1)).ring();
+        }
         if !quiet {
             self.loud.fetch_max(served, SeqCst);
             self.change.ring();

@@ -20,6 +20,8 @@ pub struct Turn<M: Machine> {
     pub(crate) table: Table<M, View<M, M::Event, M::Reply>, Snapshot<M>, OneHistory, Global>,
     // Who waits with a ticket sleeps on the bell with this number modulo 64.
     pub(crate) bells: [Bell; 64],
+    // 1 where who was last woken before its turn found it while it was awake.
+    pub(crate) early: AtomicU64,
     // Who waits for a change sleeps on this one.
     pub(crate) change: Bell,
     // How long the history was behind the last event that was not quiet.
@@ -74,6 +76,7 @@ impl<M: Machine> Turn<M> {
                 let turn = Turn {
                     table,
                     bells: array::from_fn(|_| Bell::new()),
+                    early: AtomicU64::new(0),
                     change: Bell::new(),
                     loud: AtomicU64::new(0),
                 };
@@ -151,6 +154,7 @@ impl<M: Machine> Turn<M> {
         let Turn {
             table,
             bells: _,
+            early: _,
             change: _,
             loud: _,
         } = self;
