@@ -2,7 +2,6 @@
 //! trusted.
 ghost use Rattle.std.specs.Prelude.{◌≤◌, length, IfOk};
 
-use std::alloc::Global;
 use std::fs::{self, File};
 use std::io::{self, ErrorKind};
 use std::os::unix::fs::{FileExt, OpenOptionsExt};
