@@ -17,7 +17,7 @@ use Rattle.repl_io.specs.Sink.{WritesFront}
 use Rattle.repl_wire.specs.Reader.{Reading, AreRead}
 use Rattle.repl_top.specs.Frames.{line, lines}
 use Rattle.repl_top.specs.Printing.{GivesLines}
-use Rattle.repl_top.proofs.Streams.{read_then, read_within, read_one}
+use Rattle.repl_wire.proofs.Streams.{read_then, read_within, read_one}
 
 -- ---- lines
 

@@ -15,7 +15,7 @@ use Rattle.repl_top.specs.Frames.{lines, FramesEnd, Framed}
 use Rattle.repl_top.specs.Outcome.{ReadNothing, Wrote, WroteFront, WroteNothing, WroteSome}
 use Rattle.repl_top.specs.Printing.{GivesLines, PieceEnds}
 use Rattle.repl_top.proofs.Moves.{Lost-none, Lost-then}
-use Rattle.repl_top.proofs.Streams.{read_then, read_more, read_within, judge_empty}
+use Rattle.repl_wire.proofs.Streams.{read_then, read_more, read_within, judge_empty}
 use Rattle.repl_top.proofs.FrameLines.{lines_then, Gained-none, Gained-then, front_then}
 
 -- what has been read and printed before a turn

@@ -11,6 +11,5 @@ pub mod Messages
 pub mod Ends
 pub mod Steps
 pub mod HistoryEnds
-pub mod Streams
 pub mod FrameLines
 pub mod FrameProgress

@@ -17,7 +17,7 @@ use Rattle.repl_top.specs.declared.stage.Stage.TheVariants as stage
 use Rattle.repl_top.specs.Session.{AreSomeSession, IsSession, IsNoSessionAt}
 use Rattle.repl_top.specs.Stages.{asks, Goes, Lead, Halts, Walked, Stuck}
 use Rattle.repl_top.proofs.Stages.{lead_then, lead_one, lead_to_one, goes_few, session_from, session_leads, stage_begins, begins_goes, session_over, over}
-use Rattle.repl_top.proofs.Streams.{read_then, read_more, read_one, spelling_some, stuck_short, stuck_wrong, judge_empty, refused_some, front_one, Further, readings, none_further, all_one}
+use Rattle.repl_wire.proofs.Streams.{read_then, read_more, read_one, spelling_some, stuck_short, stuck_wrong, judge_empty, refused_some, front_one, Further, readings, none_further, all_one}
 
 -- ---- a reader gives messages
 

@@ -12,9 +12,9 @@ use Rattle.repl_message.specs.Encoding.{capped}
 use Rattle.repl_io.specs.Source.{SourceState}
 use Rattle.repl_io.specs.Sink.{SinkState}
 use Rattle.repl_wire.specs.declared.fault.WireFault.{WireFault}
-use Rattle.repl_wire.specs.declared.fault.WireFault.TheVariants as fault
 use Rattle.repl_wire.specs.declared.taking.Taken.TheVariants as taken
 use Rattle.repl_wire.specs.Judging.{judge}
+use Rattle.repl_wire.specs.Places.{place_of}
 use Rattle.repl_wire.specs.Reader.{AreRead, first_phase, at_place}
 use Rattle.repl_top.specs.declared.status.Status.{Status}
 use Rattle.repl_top.specs.declared.status.Status.TheVariants as status
@@ -34,12 +34,6 @@ line place m = decimal place ++ codes " " ++ kind_text m ++ codes " " ++ decimal
 abbrev pub lines : ℕ → List Message → List ℕ
 lines place [] = []
 lines place (m ∷ ms) = line place m ++ lines (capped (place + length (spelling m))) ms
-
-abbrev pub place_of : WireFault → ℕ
-place_of (fault.Kind place) = place
-place_of (fault.Length place said) = place
-place_of (fault.Code place said) = place
-place_of (fault.Body place) = place
 
 -- What is left behind the messages is refused there. Or it is the beginning of a message and the input ends in it,
 -- and then the place is that of its first byte.

@@ -11,7 +11,8 @@ use Rattle.repl_top.specs.declared.frames.Drained.{Drained}
 use Rattle.repl_top.specs.declared.frames.Drained.TheVariants as drained
 use Rattle.repl_top.specs.declared.status.Status.{Status}
 use Rattle.repl_top.specs.declared.status.Status.TheVariants as status
-use Rattle.repl_top.specs.Frames.{lines, place_of}
+use Rattle.repl_wire.specs.Places.{place_of}
+use Rattle.repl_top.specs.Frames.{lines}
 use Rattle.repl_io.specs.Sink.{SinkState}
 use Rattle.repl_top.specs.Outcome.{Wrote, WroteFront, WroteNothing}
 

@@ -4,7 +4,7 @@ ghost use Rattle.repl_top.specs.Outcome.{Wrote, TellsReadFault, TellsWriteFault}
 ghost use Rattle.repl_message.specs.Message.{length_field};
 ghost use Rattle.repl_wire.specs.Reader.{Waits, fed};
 ghost use Rattle.repl_top.specs.declared.status.Status.TheVariants as status;
-ghost use Rattle.repl_top.specs.Frames.{Framed, kind_text, line, place_of};
+ghost use Rattle.repl_top.specs.Frames.{Framed, kind_text, line};
 ghost use Rattle.repl_top.specs.Printing.{GivesLines, Drains, PieceEnds};
 
 use crate::limits::FRAME_TURNS;
@@ -119,7 +119,7 @@ fn drain(alloc: Global, reader: &mut FrameReader, lines: &mut Vec<u8>) -> Draine
                 place = reader.place();
             }
             Step::NeedMore => return Drained::Waits,
-            Step::Refused(fault) => return Drained::Refused(fault_place(&fault)),
+            Step::Refused(fault) => return Drained::Refused(fault.place()),
             Step::Memory => return Drained::Memory,
         }
     }
@@ -161,15 +161,5 @@ fn kind_byte(message: &Message) -> u8
         Message::Back(Back::CopyData(_)) => b'd',
         Message::Back(Back::CopyDone) => b'c',
         Message::Back(Back::CopyBoth { .. }) => b'W',
-    }
-}
-
-/// The place of a fault.
-fn fault_place(fault: &WireFault) -> u64
-    ensures { result ≡ place_of fault.now }
-{
-    match fault {
-        WireFault::Kind(place) | WireFault::Body(place) => *place,
-        WireFault::Length { place, .. } | WireFault::Code { place, .. } => *place,
     }
 }

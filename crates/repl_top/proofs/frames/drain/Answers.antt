@@ -3,7 +3,7 @@ use Rattle.std.proofs.Common.{◌≡◌, false, Result, Ok, Err, sym, arith}
 use Rattle.std.specs.Result.{is_err, OnOk}
 use Rattle.std.specs.declared.alloc.AllocError.{AllocError}
 use Rattle.repl_top.proofs.FrameLines.{printed_none, printed_more, belongs_short}
-use Rattle.repl_top.proofs.Streams.{rest_less}
+use Rattle.repl_wire.proofs.Streams.{rest_less}
 use Rattle.repl_top.proofs.frames.drain.Goals as goal
 
 -- what is said of a success holds where there is no error

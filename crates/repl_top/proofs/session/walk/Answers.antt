@@ -2,7 +2,7 @@
 use Rattle.std.proofs.Common.{◌≡◌, Err, sym, ◌∙◌, arith}
 use Rattle.std.proofs.lemmas.Result.{err_from_is_err_and}
 use Rattle.repl_top.specs.declared.session.NoSession.TheVariants.{At}
-use Rattle.repl_top.proofs.Streams.{rest_less}
+use Rattle.repl_wire.proofs.Streams.{rest_less}
 use Rattle.repl_top.proofs.Sessions.{walked_none, walked_more, counted_less, stuck_refused, stuck_message}
 use Rattle.repl_top.proofs.session.walk.Goals as goal
 
