@@ -81,7 +81,8 @@ module _ {S E R : Type 0} where
       p.2,
       p.3,
       set_else s.views id p.0 w
-          (λ same. free p.2 p.3 (ap (λ (u : View S E R). u.stage) (some-injective v p.1 (sym at ∙ (ap (get_elem? s.views) (sym same) ∙ p.4)))
+          (λ same. free p.2 p.3 (ap (λ (u : View S E R). u.stage)
+          (some-injective v p.1 (sym at ∙ (ap (get_elem? s.views) (sym same) ∙ p.4)))
           ∙ p.5)) ∙ p.4,
       p.5,
     )

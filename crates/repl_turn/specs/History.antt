@@ -9,7 +9,8 @@ pub record TurnId (S : Type 0) : Type 0 where
   pub table : TableId
   pub opening : Option S
 
--- what a pass knows: its turn, a beginning of the turn's history, and the numbers that it stands for. Its own number comes first, and then those of the passes that were joined into it
+-- what a pass knows: its turn, a beginning of the turn's history, and the numbers that it stands for. Its own number comes first, and then
+-- those of the passes that were joined into it
 pub record Known (S E R : Type 0) : Type 0 where
   pub turn : TurnId S
   pub seen : List (Entry E R)
@@ -50,7 +51,8 @@ module _ {S E R : Type 0} where
     abbrev pub Legal : TurnId S → List (Entry E R) → Type 0
     Legal turn h = (x : S) × (turn.opening ≡ Some x) × (y : S) × Replays x h y
 
-    -- From x these events lead to y, and this entry, at this place, is a step on the way: the earlier events lead to the state `before`, where the relation gives the entry's reply and the state `after`, from which the later ones go on
+    -- From x these events lead to y, and this entry, at this place, is a step on the way: the earlier events lead to the state `before`,
+    -- where the relation gives the entry's reply and the state `after`, from which the later ones go on
     pub record StepAt (x : S) (h : List (Entry E R)) (y : S) (at : ℕ) (e : Entry E R) : Type 0 where
       pub earlier : List (Entry E R)
       pub later : List (Entry E R)
@@ -62,7 +64,8 @@ module _ {S E R : Type 0} where
       pub made : steps before e.event e.reply after
       pub goes_on : Replays after later y
 
-    -- The pass made one event. The history that it now knows begins with all that it had seen and ends with the event, and what stands in between is of other passes
+    -- The pass made one event. The history that it now knows begins with all that it had seen and ends with the event, and what stands in
+    -- between is of other passes
     pub record Acts (p : Known S E R) (event : E) (reply : R) (at : ℕ) (q : Known S E R) : Type 0 where
       pub between : List (Entry E R)
       pub seen : q.seen ≡ (p.seen ++ between) ++ entry (number p) event reply ∷ []

@@ -1,5 +1,6 @@
 -- The rule of the table under a turn, and what each step tells.
--- Word 0 is the number of tickets drawn, and word 16 the length of the history, which is the ticket that is served. The slot has the machine.
+-- Word 0 is the number of tickets drawn, and word 16 the length of the history, which is the ticket that is served. The slot has the
+-- machine.
 use Rattle.std.specs.Prelude.{◌≡◌, ◌≢◌, ◌⊎◌, ℕ, ◌<◌, ◌≤◌, ◌^◌, true, false, Option, Some, None, List, [], ◌∷◌, ◌++◌, length, slice_index}
 use mathlib.Core.List.{IsPrefix}
 use mathlib.Core.Option.{some}

@@ -21,7 +21,8 @@ returns-clause-acts g c =
     let after = known c.give-at.new.token.table_id c.give-at.new.token.me.0 in
     let acts = acts_known g.M.Machine.steps table _ u _ _ _ _ _ (c.give-at.ensures.seat.0
     ∙ (c.await_turn.ensures.seat.0 ∙ c.draw-ticket.ensures.seat.0)) (ap (λ w. w.opening) is ∙ opened) numbered c.give-at.ensures.gave in
-    subst (λ (p : Known g.row.M.Denot g.row.M-Event.Denot g.row.M-Reply.Denot). Acts g.M.Machine.steps p c.args.event c.act-reply.result c.give-at.result after)
+    subst (λ (p : Known g.row.M.Denot g.row.M-Event.Denot g.row.M-Reply.Denot). Acts g.M.Machine.steps p c.args.event c.act-reply.result
+    c.give-at.result after)
     (ap (known table) is ∙ c.pass.view_is)
     (subst (λ (event : g.row.M-Event.Denot). Acts g.M.Machine.steps
     (known table u) event c.act-reply.result c.give-at.result after) c.of-asked.ensures acts)

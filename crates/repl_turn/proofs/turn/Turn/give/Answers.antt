@@ -9,5 +9,6 @@ fetch_add-requires g c =
     let held = c.requires.held in (
       c.requires.seat ∙ ap (λ t. t.table) (sym c.self.view_is),
       omega (arith, sized.0),
-      gives_on _ _ _ _ _ held.ticket held.before held.after c.args.asked.value c.args.reply.now _ sized.1 held.stage held.carried held.numbered held.made c.requires.said,
+      gives_on _ _ _ _ _ held.ticket held.before held.after c.args.asked.value c.args.reply.now _ sized.1 held.stage held.carried
+          held.numbered held.made c.requires.said,
     )
