@@ -37,11 +37,7 @@ impl ByteSink {
 }
 
 impl Sink for ByteSink {
-    ghost written = { λ s. Some s.taken.items };
-
-    ghost faults = { λ s. s.faults };
-
-    ghost wants = { λ s. s.wants };
+    ghost sink = { λ s. record { written = Some s.taken.items; faults = s.faults; wants = s.wants } };
 
     fn write(&mut self, piece: &[u8]) -> Put {
         self.writes = self.writes.saturating_add(1);
