@@ -1,0 +1,137 @@
+//! A disk in memory, which stays from one row of the subject to the next.
+use crate::miss::{Answer, Miss};
+use crate::values::{number, text};
+use crate::words::{Call, debug, joined, said};
+use repl_disk::{Disk, DiskError, MemoryDisk, replace};
+use std::alloc::Global;
+use std::mem;
+
+/// The calls that put the old file onto a disk where it is replaced.
+const BEFORE: u64 = 2;
+
+pub fn answer(alloc: Global, disk: &mut MemoryDisk, call: &Call) -> Answer {
+    if let Some(numbers) = call.words("fresh") {
+        *disk = fresh(alloc, numbers)?;
+        return said(alloc, "done");
+    }
+    if let Some([calls]) = call.words("fuse") {
+        disk.fuse(number(calls)?);
+        return said(alloc, "done");
+    }
+    if let Some([way]) = call.words("crash") {
+        let keep = is_keep(way)?;
+        let before = mem::replace(disk, MemoryDisk::new(alloc, Vec::new(alloc)));
+        *disk = before.crash(keep);
+        return said(alloc, "done");
+    }
+    if let Some([]) = call.words("calls") {
+        return debug(alloc, &disk.calls());
+    }
+    if let Some([way, how, calls]) = call.words("replacing") {
+        return replacing(alloc, is_keep(way)?, text(how)?, number(calls)?);
+    }
+    ask(alloc, disk, call)
+}
+
+/// A disk without files, whose calls with these numbers fail.
+fn fresh(alloc: Global, numbers: &[Vec<u8>]) -> Result<MemoryDisk, Miss> {
+    let mut failing = Vec::new(alloc);
+    for word in numbers {
+        failing.push(number(word)?)?;
+    }
+    Ok(MemoryDisk::new(alloc, failing))
+}
+
+/// Whether a crash keeps what was not synced.
+fn is_keep(way: &[u8]) -> Result<bool, Miss> {
+    match text(way)? {
+        "keep" => Ok(true),
+        "lose" => Ok(false),
+        _ => Err(Miss::Words),
+    }
+}
+
+/// Makes a call of the disk, and says how it was answered.
+fn ask<D: Disk>(alloc: Global, disk: &mut D, call: &Call) -> Answer {
+    if let Some([name]) = call.words("size") {
+        return match disk.size(text(name)?) {
+            Ok(size) => debug(alloc, &size),
+            Err(error) => debug(alloc, &error),
+        };
+    }
+    if let Some([name, at, room]) = call.words("read") {
+        return read(alloc, disk, text(name)?, number(at)?, number(room)?);
+    }
+    if let Some([name, at, bytes]) = call.words("write") {
+        return done(alloc, disk.write_at(text(name)?, number(at)?, bytes));
+    }
+    if let Some([name]) = call.words("sync") {
+        return done(alloc, disk.sync(text(name)?));
+    }
+    if let Some([from, to]) = call.words("rename") {
+        return done(alloc, disk.rename(text(from)?, text(to)?));
+    }
+    if let Some([name]) = call.words("remove") {
+        return done(alloc, disk.remove(text(name)?));
+    }
+    if let Some([]) = call.words("names") {
+        return match disk.names() {
+            Ok(names) => debug(alloc, &names),
+            Err(error) => debug(alloc, &error),
+        };
+    }
+    if let Some([name, bytes]) = call.words("replace") {
+        return done(alloc, replace(alloc, disk, text(name)?, bytes));
+    }
+    Err(Miss::Call)
+}
+
+fn done(alloc: Global, answer: Result<(), DiskError>) -> Answer {
+    match answer {
+        Ok(()) => said(alloc, "done"),
+        Err(error) => debug(alloc, &error),
+    }
+}
+
+/// How many bytes were read, and the room, which was full of `-` before.
+fn read<D: Disk>(alloc: Global, disk: &mut D, name: &str, at: u64, room: u64) -> Answer {
+    if room > 1 << 20 {
+        return Err(Miss::Words);
+    }
+    let mut room = vec![in alloc; b'-'; room as usize]?;
+    match disk.read_at(name, at, &mut room) {
+        Ok(count) => {
+            let head = format!(in alloc; "{count}")?;
+            joined(alloc, &[head.as_bytes(), &room])
+        }
+        Err(error) => debug(alloc, &error),
+    }
+}
+
+/// A disk with the synced file `a` of the bytes `old`, on which `a` is replaced by `newer` and the program crashes: how
+/// the replacement ended, and what `a` is then. The replacement's call of this number fails, or the disk fails behind so
+/// many calls.
+fn replacing(alloc: Global, keep: bool, how: &str, calls: u64) -> Answer {
+    let mut failing = Vec::new(alloc);
+    if how == "failing" {
+        failing.push(calls.saturating_add(BEFORE))?;
+    }
+    let mut disk = MemoryDisk::new(alloc, failing);
+    let old = put_old(&mut disk);
+    if old.is_err() {
+        return done(alloc, old);
+    }
+    match how {
+        "failing" => {}
+        "fuse" => disk.fuse(calls),
+        _ => return Err(Miss::Words),
+    }
+    let ended = done(alloc, replace(alloc, &mut disk, "a", b"newer"))?;
+    let mut after = disk.crash(keep);
+    joined(alloc, &[&ended, &read(alloc, &mut after, "a", 0, 5)?])
+}
+
+fn put_old(disk: &mut MemoryDisk) -> Result<(), DiskError> {
+    disk.write_at("a", 0, b"old")?;
+    disk.sync("a")
+}

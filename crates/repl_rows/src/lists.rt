@@ -1,0 +1,40 @@
+//! Lists of synchronous standbys.
+use crate::miss::{Answer, Miss};
+use crate::words::{Call, debug};
+use repl_names::{StandbyList, parse_names, print_names, priority};
+use std::alloc::{AllocError, Global};
+
+pub fn answer(alloc: Global, call: &Call) -> Answer {
+    if let Some([]) = call.words("none") {
+        return Ok(shown(alloc, &StandbyList::none(alloc))?);
+    }
+    if let Some([text]) = call.words("list") {
+        return match parse_names(alloc, text) {
+            Ok(list) => Ok(shown(alloc, &list)?),
+            Err(fault) => debug(alloc, &fault),
+        };
+    }
+    if let Some([text]) = call.words("printed") {
+        return Ok(print_names(alloc, &list(alloc, text)?)?);
+    }
+    if let Some([text, name]) = call.words("priority") {
+        return debug(alloc, &priority(&list(alloc, text)?, name));
+    }
+    Err(Miss::Call)
+}
+
+/// The list that a text says.
+pub fn list(alloc: Global, text: &[u8]) -> Result<StandbyList, Miss> {
+    parse_names(alloc, text).ok().ok_or(Miss::Words)
+}
+
+/// The method, the number, and the names, each with `|` behind it.
+fn shown(alloc: Global, list: &StandbyList) -> Result<Vec<u8>, AllocError> {
+    let (method, number) = (list.method(), list.number());
+    let mut out = format!(in alloc; "{method:?} {number} ")?.into_bytes();
+    for name in list.names().as_slice() {
+        out.extend_from_slice(name.as_slice())?;
+        out.push(b'|')?;
+    }
+    Ok(out)
+}

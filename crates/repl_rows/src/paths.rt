@@ -1,0 +1,52 @@
+//! Where a history's timelines are, and how two histories stand to one another.
+ghost use Rattle.std.specs.Prelude.{◌≡◌};
+ghost use Rattle.repl_lsn.specs.History.{last_switch};
+
+use crate::histories::{history, shown};
+use crate::miss::{Answer, Miss};
+use crate::segments::timeline;
+use crate::values::number;
+use crate::words::{Call, apart, debug, said};
+use repl_lsn::{History, Lsn, Tli};
+use std::alloc::Global;
+
+pub fn answer(alloc: Global, call: &Call) -> Answer {
+    if let Some([at, words @ ..]) = call.words("timeline_at") {
+        let path = history(alloc, words)?;
+        return debug(alloc, &path.timeline_at(Lsn(number(at)?)).number());
+    }
+    if let Some([tli, words @ ..]) = call.words("end_of") {
+        return match history(alloc, words)?.end_of(timeline(tli)?) {
+            Some(end) => debug(alloc, &end.0),
+            None => said(alloc, "none"),
+        };
+    }
+    if let Some(words) = call.words("relation") {
+        let (ours, theirs) = apart(words)?;
+        let path = history(alloc, ours)?;
+        return debug(alloc, &path.relation_to(&history(alloc, theirs)?));
+    }
+    if let Some([tli, switch, words @ ..]) = call.words("child") {
+        let path = history(alloc, words)?;
+        return child(alloc, &path, timeline(tli)?, Lsn(number(switch)?));
+    }
+    Err(Miss::Call)
+}
+
+/// The history of a timeline that leaves the path's own at this position.
+fn child(alloc: Global, path: &History, tli: Tli, switch: Lsn) -> Answer {
+    if path.own() >= tli || last_switch(path) > switch {
+        return said(alloc, "refused");
+    }
+    shown(alloc, &path.child(alloc, tli, switch)?)
+}
+
+/// The last position at which a timeline was left, 0 where none was.
+fn last_switch(path: &History) -> Lsn
+    ensures { result ≡ last_switch path.now.parents }
+{
+    match path.parents().as_slice().split_last() {
+        Some((part, _)) => part.switch,
+        None => Lsn(0),
+    }
+}

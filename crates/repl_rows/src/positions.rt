@@ -1,0 +1,25 @@
+//! Positions and timelines.
+use crate::miss::{Answer, Miss};
+use crate::values::{number, short};
+use crate::words::{Call, said};
+use repl_lsn::{Lsn, Tli};
+use std::alloc::Global;
+
+pub fn answer(alloc: Global, call: &Call) -> Answer {
+    if let Some([text]) = call.words("lsn") {
+        return match Lsn::parse(text) {
+            Ok(at) => Ok(format!(in alloc; "0x{:x}", at.0)?.into_bytes()),
+            Err(fault) => Ok(format!(in alloc; "place {}", fault.place)?.into_bytes()),
+        };
+    }
+    if let Some([at]) = call.words("lsn_text") {
+        return Ok(Lsn(number(at)?).text(alloc)?.into_bytes());
+    }
+    if let Some([tli]) = call.words("timeline") {
+        return match Tli::new(short(tli)?) {
+            Some(tli) => Ok(format!(in alloc; "{tli:?} {}", tli.number())?.into_bytes()),
+            None => said(alloc, "none"),
+        };
+    }
+    Err(Miss::Call)
+}

@@ -1,0 +1,59 @@
+//! Reading messages.
+use crate::messages::{front_words, startup_words};
+use crate::miss::{Answer, Miss};
+use crate::server_words::back_words;
+use crate::values::text;
+use crate::words::{Call, debug, joined, said};
+use repl_wire::{Message, Phase, Taken, take};
+use std::alloc::Global;
+
+pub fn answer(alloc: Global, call: &Call) -> Answer {
+    if let Some([phase, bytes]) = call.words("take") {
+        return taken(alloc, &take(alloc, phase_of(text(phase)?)?, bytes));
+    }
+    if let Some([phase, bytes]) = call.words("fronts") {
+        return fronts(alloc, phase_of(text(phase)?)?, bytes);
+    }
+    Err(Miss::Call)
+}
+
+fn phase_of(word: &str) -> Result<Phase, Miss> {
+    match word {
+        "startup" => Ok(Phase::Startup),
+        "front" => Ok(Phase::Front),
+        "back" => Ok(Phase::Back),
+        "ended" => Ok(Phase::Ended),
+        _ => Err(Miss::Words),
+    }
+}
+
+/// How many bytes a message takes, and the message in words; or what is wrong.
+fn taken(alloc: Global, taken: &Taken) -> Answer {
+    match taken {
+        Taken::Whole { message, used } => {
+            let used = format!(in alloc; "{used}")?;
+            joined(alloc, &[used.as_bytes(), &message_words(alloc, message)?])
+        }
+        Taken::Short => said(alloc, "Short"),
+        Taken::Wrong(fault) => debug(alloc, fault),
+        Taken::Memory => Err(Miss::Memory),
+    }
+}
+
+fn message_words(alloc: Global, message: &Message) -> Answer {
+    match message {
+        Message::Startup(message) => startup_words(alloc, message),
+        Message::Front(message) => front_words(alloc, message),
+        Message::Back(message) => back_words(alloc, message),
+    }
+}
+
+/// Whether each front of a message that is not all of it waits for more.
+fn fronts(alloc: Global, phase: Phase, bytes: &[u8]) -> Answer {
+    for end in 0..bytes.len() {
+        if !matches!(take(alloc, phase, &bytes[..end]), Taken::Short) {
+            return Ok(format!(in alloc; "another answer at {end}")?.into_bytes());
+        }
+    }
+    Ok(format!(in alloc; "all {} Short", bytes.len())?.into_bytes())
+}
