@@ -9,28 +9,46 @@ pub fn answer(alloc: Global, call: &Call) -> Answer {
         return debug(alloc, &is_slot_name(bytes));
     }
     if let Some([bytes]) = call.words("slot_name") {
-        return match SlotName::new(bytes.clone()?) {
-            Some(name) => Ok(name.as_slice().to_vec(alloc)?),
-            None => said(alloc, "none"),
-        };
+        return slot_name(alloc, bytes);
     }
     if let Some([bytes]) = call.words("parameter_name") {
-        return match ParameterName::new(bytes.clone()?) {
-            Some(name) => Ok(name.as_slice().to_vec(alloc)?),
-            None => said(alloc, "none"),
-        };
+        return parameter_name(alloc, bytes);
     }
     if let Some([text]) = call.words("command") {
-        return match parse_command(alloc, text) {
-            Ok(command) => debug(alloc, &command),
-            Err(fault) => debug(alloc, &fault),
-        };
+        return parsed(alloc, text);
     }
     if let Some([text]) = call.words("printed") {
-        return match parse_command(alloc, text) {
-            Ok(command) => Ok(print_command(alloc, &command)?),
-            Err(fault) => debug(alloc, &fault),
-        };
+        return printed(alloc, text);
     }
     Err(Miss::Call)
+}
+
+fn slot_name(alloc: Global, bytes: &Vec<u8>) -> Answer {
+    match SlotName::new(bytes.clone()?) {
+        Some(name) => Ok(name.as_slice().to_vec(alloc)?),
+        None => said(alloc, "none"),
+    }
+}
+
+fn parameter_name(alloc: Global, bytes: &Vec<u8>) -> Answer {
+    match ParameterName::new(bytes.clone()?) {
+        Some(name) => Ok(name.as_slice().to_vec(alloc)?),
+        None => said(alloc, "none"),
+    }
+}
+
+/// The command that a text says, or what is wrong with it.
+fn parsed(alloc: Global, text: &[u8]) -> Answer {
+    match parse_command(alloc, text) {
+        Ok(command) => debug(alloc, &command),
+        Err(fault) => debug(alloc, &fault),
+    }
+}
+
+/// The same command, as it is printed.
+fn printed(alloc: Global, text: &[u8]) -> Answer {
+    match parse_command(alloc, text) {
+        Ok(command) => Ok(print_command(alloc, &command)?),
+        Err(fault) => debug(alloc, &fault),
+    }
 }

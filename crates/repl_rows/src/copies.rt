@@ -12,37 +12,57 @@ use std::alloc::Global;
 
 pub fn answer(alloc: Global, call: &Call) -> Answer {
     if let Some([payload]) = call.words("stream") {
-        return match decode_stream(bytes_of(payload)?) {
-            Ok(stream) => stream_words(alloc, &stream),
-            Err(fault) => debug(alloc, &fault),
-        };
+        return stream(alloc, payload);
     }
     if let Some([payload]) = call.words("stream_fronts") {
         return stream_fronts(alloc, payload);
     }
     if let Some([payload]) = call.words("reply") {
-        return match decode_reply(payload) {
-            Ok(reply) => reply_words(alloc, reply),
-            Err(fault) => debug(alloc, &fault),
-        };
+        return reply(alloc, payload);
     }
     if let Some([before, words @ ..]) = call.words("put_stream") {
-        let mut out = before.clone()?;
-        let stream = stream_of(words)?;
-        if let Stream::Wal { bytes, .. } = &stream {
-            if bytes.len() as u64 > WAL_LIMIT {
-                return said(alloc, "refused");
-            }
-        }
-        encode_stream(&stream, &mut out)?;
-        return Ok(out);
+        return put_stream(alloc, before, words);
     }
     if let Some([before, words @ ..]) = call.words("put_reply") {
-        let mut out = before.clone()?;
-        encode_reply(&reply_of(words)?, &mut out)?;
-        return Ok(out);
+        return put_reply(before, words);
     }
     Err(Miss::Call)
+}
+
+fn stream(alloc: Global, payload: &Vec<u8>) -> Answer {
+    match decode_stream(bytes_of(payload)?) {
+        Ok(stream) => stream_words(alloc, &stream),
+        Err(fault) => debug(alloc, &fault),
+    }
+}
+
+fn reply(alloc: Global, payload: &[u8]) -> Answer {
+    match decode_reply(payload) {
+        Ok(reply) => reply_words(alloc, reply),
+        Err(fault) => debug(alloc, &fault),
+    }
+}
+
+fn put_stream(alloc: Global, before: &Vec<u8>, words: &[Vec<u8>]) -> Answer {
+    encoded(alloc, before.clone()?, &stream_of(words)?)
+}
+
+/// The bytes, and behind them the payload.
+fn encoded(alloc: Global, mut out: Vec<u8>, stream: &Stream) -> Answer {
+    if let Stream::Wal { bytes, .. } = stream {
+        if bytes.len() as u64 > WAL_LIMIT {
+            return said(alloc, "refused");
+        }
+    }
+    encode_stream(stream, &mut out)?;
+    Ok(out)
+}
+
+fn put_reply(before: &Vec<u8>, words: &[Vec<u8>]) -> Answer {
+    let reply = reply_of(words)?;
+    let mut out = before.clone()?;
+    encode_reply(&reply, &mut out)?;
+    Ok(out)
 }
 
 /// Whether each front of a payload that is neither empty nor all of it is refused for its length.
@@ -104,26 +124,40 @@ fn stream_words(alloc: Global, stream: &Stream) -> Answer {
 }
 
 fn reply_of(words: &[Vec<u8>]) -> Result<Reply, Miss> {
-    let [kind, first, second, third, fourth, fifth] = words else {
+    let [kind, words @ ..] = words else {
         return Err(Miss::Words);
     };
     match text(kind)? {
-        "status" => Ok(Reply::Status {
-            written: Lsn(number(first)?),
-            flushed: Lsn(number(second)?),
-            applied: Lsn(number(third)?),
-            clock: number(fourth)?,
-            reply: flag(fifth)?,
-        }),
-        "feedback" => Ok(Reply::Feedback {
-            clock: number(first)?,
-            xmin: short(second)?,
-            epoch: short(third)?,
-            catalog_xmin: short(fourth)?,
-            catalog_epoch: short(fifth)?,
-        }),
+        "status" => status(words),
+        "feedback" => feedback(words),
         _ => Err(Miss::Words),
     }
+}
+
+fn status(words: &[Vec<u8>]) -> Result<Reply, Miss> {
+    let [written, flushed, applied, clock, reply] = words else {
+        return Err(Miss::Words);
+    };
+    Ok(Reply::Status {
+        written: Lsn(number(written)?),
+        flushed: Lsn(number(flushed)?),
+        applied: Lsn(number(applied)?),
+        clock: number(clock)?,
+        reply: flag(reply)?,
+    })
+}
+
+fn feedback(words: &[Vec<u8>]) -> Result<Reply, Miss> {
+    let [clock, xmin, epoch, catalog_xmin, catalog_epoch] = words else {
+        return Err(Miss::Words);
+    };
+    Ok(Reply::Feedback {
+        clock: number(clock)?,
+        xmin: short(xmin)?,
+        epoch: short(epoch)?,
+        catalog_xmin: short(catalog_xmin)?,
+        catalog_epoch: short(catalog_epoch)?,
+    })
 }
 
 fn reply_words(alloc: Global, reply: Reply) -> Answer {

@@ -8,41 +8,62 @@ use std::alloc::Global;
 
 pub fn answer(alloc: Global, call: &Call) -> Answer {
     if let Some([own, text]) = call.words("history") {
-        return canonical(alloc, timeline(own)?, text);
+        return canonical(alloc, own, text);
     }
     if let Some([own, text]) = call.words("parts") {
-        return match parse_history(alloc, timeline(own)?, text) {
-            Ok(history) => shown(alloc, &history),
-            Err(fault) => debug(alloc, &fault),
-        };
+        return parsed(alloc, own, text);
     }
     if let Some([bytes]) = call.words("line") {
-        return match Line::new(bytes.clone()?) {
-            Some(line) => Ok(line.copy(alloc)?.as_slice().to_vec(alloc)?),
-            None => said(alloc, "none"),
-        };
+        return line(alloc, bytes);
     }
     if let Some([own]) = call.words("first") {
-        return shown(alloc, &History::first(alloc, timeline(own)?));
+        return first(alloc, own);
     }
     if let Some(words) = call.words("made") {
-        return match made(alloc, words)? {
-            Some(history) => shown(alloc, &history),
-            None => said(alloc, "none"),
-        };
+        return made_of(alloc, words);
     }
     if let Some(words) = call.words("text") {
-        return match history_text(alloc, &history(alloc, words)?) {
-            Ok(text) => Ok(text),
-            Err(fault) => debug(alloc, &fault),
-        };
+        return printed(alloc, words);
     }
     Err(Miss::Call)
 }
 
+fn parsed(alloc: Global, own: &[u8], text: &[u8]) -> Answer {
+    match parse_history(alloc, timeline(own)?, text) {
+        Ok(history) => shown(alloc, &history),
+        Err(fault) => debug(alloc, &fault),
+    }
+}
+
+fn line(alloc: Global, bytes: &Vec<u8>) -> Answer {
+    match Line::new(bytes.clone()?) {
+        Some(line) => Ok(line.copy(alloc)?.as_slice().to_vec(alloc)?),
+        None => said(alloc, "none"),
+    }
+}
+
+fn first(alloc: Global, own: &[u8]) -> Answer {
+    shown(alloc, &History::first(alloc, timeline(own)?))
+}
+
+fn made_of(alloc: Global, words: &[Vec<u8>]) -> Answer {
+    match made(alloc, words)? {
+        Some(history) => shown(alloc, &history),
+        None => said(alloc, "none"),
+    }
+}
+
+fn printed(alloc: Global, words: &[Vec<u8>]) -> Answer {
+    match history_text(alloc, &history(alloc, words)?) {
+        Ok(text) => Ok(text),
+        Err(fault) => debug(alloc, &fault),
+    }
+}
+
 /// The number of the history that a text says, how many parents it has as it is read and as its canonical text is read
 /// again, and that text.
-fn canonical(alloc: Global, own: Tli, text: &[u8]) -> Answer {
+fn canonical(alloc: Global, own: &[u8], text: &[u8]) -> Answer {
+    let own = timeline(own)?;
     let history = match parse_history(alloc, own, text) {
         Ok(history) => history,
         Err(fault) => return debug(alloc, &fault),
@@ -51,13 +72,18 @@ fn canonical(alloc: Global, own: Tli, text: &[u8]) -> Answer {
         Ok(printed) => printed,
         Err(fault) => return debug(alloc, &fault),
     };
-    let again = match parse_history(alloc, own, &printed) {
+    again(alloc, &history, &printed)
+}
+
+/// The same, of a history and its canonical text.
+fn again(alloc: Global, history: &History, printed: &[u8]) -> Answer {
+    let again = match parse_history(alloc, history.own(), printed) {
         Ok(again) => again.parents().as_slice().len(),
         Err(fault) => return debug(alloc, &fault),
     };
-    let count = history.parents().as_slice().len();
-    let head = format!(in alloc; "{} {count} {again}", history.own().number())?;
-    joined(alloc, &[head.as_bytes(), &printed])
+    let (own, count) = (history.own().number(), history.parents().as_slice().len());
+    let head = format!(in alloc; "{own} {count} {again}")?;
+    joined(alloc, &[head.as_bytes(), printed])
 }
 
 /// The number of the history, and behind it each parent's number, switch point and reason.
@@ -79,16 +105,21 @@ fn made(alloc: Global, words: &[Vec<u8>]) -> Result<Option<History>, Miss> {
     };
     let mut parts = Vec::new(alloc);
     for part in rest.chunks(3) {
-        let [tli, switch, reason] = part else {
-            return Err(Miss::Words);
-        };
-        parts.push(Part {
-            tli: timeline(tli)?,
-            switch: Lsn(number(switch)?),
-            reason: Line::new(reason.clone()?).ok_or(Miss::Words)?,
-        })?;
+        parts.push(parent(part)?)?;
     }
     Ok(History::new(timeline(own)?, Parts::new(parts)))
+}
+
+/// A parent's number, switch point and reason.
+fn parent(words: &[Vec<u8>]) -> Result<Part, Miss> {
+    let [tli, switch, reason] = words else {
+        return Err(Miss::Words);
+    };
+    Ok(Part {
+        tli: timeline(tli)?,
+        switch: Lsn(number(switch)?),
+        reason: Line::new(reason.clone()?).ok_or(Miss::Words)?,
+    })
 }
 
 /// The same, where they have to make one.

@@ -2,25 +2,37 @@
 use crate::miss::{Answer, Miss};
 use crate::words::{Call, debug};
 use repl_names::{StandbyList, parse_names, print_names, priority};
-use std::alloc::{AllocError, Global};
+use std::alloc::Global;
 
 pub fn answer(alloc: Global, call: &Call) -> Answer {
     if let Some([]) = call.words("none") {
-        return Ok(shown(alloc, &StandbyList::none(alloc))?);
+        return shown(alloc, &StandbyList::none(alloc));
     }
     if let Some([text]) = call.words("list") {
-        return match parse_names(alloc, text) {
-            Ok(list) => Ok(shown(alloc, &list)?),
-            Err(fault) => debug(alloc, &fault),
-        };
+        return parsed(alloc, text);
     }
     if let Some([text]) = call.words("printed") {
-        return Ok(print_names(alloc, &list(alloc, text)?)?);
+        return printed(alloc, text);
     }
     if let Some([text, name]) = call.words("priority") {
-        return debug(alloc, &priority(&list(alloc, text)?, name));
+        return priority_of(alloc, text, name);
     }
     Err(Miss::Call)
+}
+
+fn parsed(alloc: Global, text: &[u8]) -> Answer {
+    match parse_names(alloc, text) {
+        Ok(list) => shown(alloc, &list),
+        Err(fault) => debug(alloc, &fault),
+    }
+}
+
+fn printed(alloc: Global, text: &[u8]) -> Answer {
+    Ok(print_names(alloc, &list(alloc, text)?)?)
+}
+
+fn priority_of(alloc: Global, text: &[u8], name: &[u8]) -> Answer {
+    debug(alloc, &priority(&list(alloc, text)?, name))
 }
 
 /// The list that a text says.
@@ -29,7 +41,7 @@ pub fn list(alloc: Global, text: &[u8]) -> Result<StandbyList, Miss> {
 }
 
 /// The method, the number, and the names, each with `|` behind it.
-fn shown(alloc: Global, list: &StandbyList) -> Result<Vec<u8>, AllocError> {
+fn shown(alloc: Global, list: &StandbyList) -> Answer {
     let (method, number) = (list.method(), list.number());
     let mut out = format!(in alloc; "{method:?} {number} ")?.into_bytes();
     for name in list.names().as_slice() {

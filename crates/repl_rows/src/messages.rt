@@ -12,21 +12,33 @@ use std::alloc::Global;
 /// The message is spelled behind the bytes of the first word.
 pub fn answer(alloc: Global, call: &Call) -> Answer {
     if let Some([before, kind, words @ ..]) = call.words("startup") {
-        let mut out = before.clone()?;
-        let message = startup(alloc, &Call::new(text(kind)?, words))?;
-        return spelled(alloc, encode_startup(&message, &mut out), out);
+        return spelled_startup(alloc, before, kind, words);
     }
     if let Some([before, kind, words @ ..]) = call.words("front") {
-        let mut out = before.clone()?;
-        let message = front(&Call::new(text(kind)?, words))?;
-        return spelled(alloc, encode_front(&message, &mut out), out);
+        return spelled_front(alloc, before, kind, words);
     }
     if let Some([before, kind, words @ ..]) = call.words("back") {
-        let mut out = before.clone()?;
-        let message = back(alloc, &Call::new(text(kind)?, words))?;
-        return spelled(alloc, encode_back(&message, &mut out), out);
+        return spelled_back(alloc, before, kind, words);
     }
     Err(Miss::Call)
+}
+
+fn spelled_startup(alloc: Global, before: &Vec<u8>, kind: &[u8], words: &[Vec<u8>]) -> Answer {
+    let message = startup(alloc, &Call::new(text(kind)?, words))?;
+    let mut out = before.clone()?;
+    spelled(alloc, encode_startup(&message, &mut out), out)
+}
+
+fn spelled_front(alloc: Global, before: &Vec<u8>, kind: &[u8], words: &[Vec<u8>]) -> Answer {
+    let message = front(&Call::new(text(kind)?, words))?;
+    let mut out = before.clone()?;
+    spelled(alloc, encode_front(&message, &mut out), out)
+}
+
+fn spelled_back(alloc: Global, before: &Vec<u8>, kind: &[u8], words: &[Vec<u8>]) -> Answer {
+    let message = back(alloc, &Call::new(text(kind)?, words))?;
+    let mut out = before.clone()?;
+    spelled(alloc, encode_back(&message, &mut out), out)
 }
 
 /// What is spelled, behind the fault where there is one.
@@ -50,17 +62,7 @@ pub fn bytes_of(word: &Vec<u8>) -> Result<Bytes, Miss> {
 /// What a client sends first.
 fn startup(alloc: Global, call: &Call) -> Result<Startup, Miss> {
     if let Some(words) = call.words("params") {
-        let mut pairs = Vec::new(alloc);
-        for pair in words.chunks(2) {
-            let [name, value] = pair else {
-                return Err(Miss::Words);
-            };
-            pairs.push(Pair {
-                name: text_of(name)?,
-                value: text_of(value)?,
-            })?;
-        }
-        return Ok(Startup::Params(Pairs::new(pairs).ok_or(Miss::Words)?));
+        return params(alloc, words);
     }
     if let Some([]) = call.words("ssl") {
         return Ok(Startup::Ssl);
@@ -69,12 +71,34 @@ fn startup(alloc: Global, call: &Call) -> Result<Startup, Miss> {
         return Ok(Startup::Gss);
     }
     if let Some([pid, key]) = call.words("cancel") {
-        return Ok(Startup::Cancel {
-            pid: short(pid)?,
-            key: short(key)?,
-        });
+        return cancel(pid, key);
     }
     Err(Miss::Words)
+}
+
+fn params(alloc: Global, words: &[Vec<u8>]) -> Result<Startup, Miss> {
+    let mut pairs = Vec::new(alloc);
+    for words in words.chunks(2) {
+        pairs.push(pair(words)?)?;
+    }
+    Ok(Startup::Params(Pairs::new(pairs).ok_or(Miss::Words)?))
+}
+
+fn pair(words: &[Vec<u8>]) -> Result<Pair, Miss> {
+    let [name, value] = words else {
+        return Err(Miss::Words);
+    };
+    Ok(Pair {
+        name: text_of(name)?,
+        value: text_of(value)?,
+    })
+}
+
+fn cancel(pid: &[u8], key: &[u8]) -> Result<Startup, Miss> {
+    Ok(Startup::Cancel {
+        pid: short(pid)?,
+        key: short(key)?,
+    })
 }
 
 /// What a client sends then.

@@ -12,25 +12,42 @@ use std::alloc::Global;
 
 pub fn answer(alloc: Global, call: &Call) -> Answer {
     if let Some([at, words @ ..]) = call.words("timeline_at") {
-        let path = history(alloc, words)?;
-        return debug(alloc, &path.timeline_at(Lsn(number(at)?)).number());
+        return timeline_at(alloc, at, words);
     }
     if let Some([tli, words @ ..]) = call.words("end_of") {
-        return match history(alloc, words)?.end_of(timeline(tli)?) {
-            Some(end) => debug(alloc, &end.0),
-            None => said(alloc, "none"),
-        };
+        return end_of(alloc, tli, words);
     }
     if let Some(words) = call.words("relation") {
-        let (ours, theirs) = apart(words)?;
-        let path = history(alloc, ours)?;
-        return debug(alloc, &path.relation_to(&history(alloc, theirs)?));
+        return relation(alloc, words);
     }
     if let Some([tli, switch, words @ ..]) = call.words("child") {
-        let path = history(alloc, words)?;
-        return child(alloc, &path, timeline(tli)?, Lsn(number(switch)?));
+        return child_of(alloc, tli, switch, words);
     }
     Err(Miss::Call)
+}
+
+fn timeline_at(alloc: Global, at: &[u8], words: &[Vec<u8>]) -> Answer {
+    let at = Lsn(number(at)?);
+    debug(alloc, &history(alloc, words)?.timeline_at(at).number())
+}
+
+fn end_of(alloc: Global, tli: &[u8], words: &[Vec<u8>]) -> Answer {
+    let tli = timeline(tli)?;
+    match history(alloc, words)?.end_of(tli) {
+        Some(end) => debug(alloc, &end.0),
+        None => said(alloc, "none"),
+    }
+}
+
+fn relation(alloc: Global, words: &[Vec<u8>]) -> Answer {
+    let (ours, theirs) = apart(words)?;
+    let path = history(alloc, ours)?;
+    debug(alloc, &path.relation_to(&history(alloc, theirs)?))
+}
+
+fn child_of(alloc: Global, tli: &[u8], switch: &[u8], words: &[Vec<u8>]) -> Answer {
+    let (tli, switch) = (timeline(tli)?, Lsn(number(switch)?));
+    child(alloc, &history(alloc, words)?, tli, switch)
 }
 
 /// The history of a timeline that leaves the path's own at this position.

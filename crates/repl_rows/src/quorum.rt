@@ -9,16 +9,26 @@ use std::alloc::Global;
 
 pub fn answer(alloc: Global, call: &Call) -> Answer {
     if let Some([text, mode, words @ ..]) = call.words("released") {
-        let mut sessions = Vec::new(alloc);
-        for word in words {
-            sessions.push(candidate(alloc, word)?)?;
-        }
-        return released_to(alloc, &list(alloc, text)?, &sessions, mode_of(mode)?);
+        return released_of(alloc, text, mode, words);
     }
     if let Some([text]) = call.words("small_lists") {
-        return small_lists(alloc, &list(alloc, text)?);
+        return small_lists(alloc, text);
     }
     Err(Miss::Call)
+}
+
+fn released_of(alloc: Global, text: &[u8], mode: &[u8], words: &[Vec<u8>]) -> Answer {
+    let mode = mode_of(mode)?;
+    let sessions = candidates(alloc, words)?;
+    released_to(alloc, &list(alloc, text)?, &sessions, mode)
+}
+
+fn candidates(alloc: Global, words: &[Vec<u8>]) -> Result<Vec<Candidate>, Miss> {
+    let mut sessions = Vec::new(alloc);
+    for word in words {
+        sessions.push(candidate(alloc, word)?)?;
+    }
+    Ok(sessions)
 }
 
 fn mode_of(word: &[u8]) -> Result<Mode, Miss> {
@@ -66,7 +76,11 @@ fn released_to(alloc: Global, list: &StandbyList, sessions: &[Candidate], mode: 
 }
 
 /// Of four sessions with two priorities and four positions, each case against the manual's words.
-fn small_lists(alloc: Global, list: &StandbyList) -> Answer {
+fn small_lists(alloc: Global, text: &[u8]) -> Answer {
+    small_cases(alloc, &list(alloc, text)?)
+}
+
+fn small_cases(alloc: Global, list: &StandbyList) -> Answer {
     if list.names().as_slice().is_empty() {
         return said(alloc, "refused");
     }

@@ -5,28 +5,31 @@ ghost use Rattle.repl_wire.specs.Reader.{Waits};
 use crate::miss::{Answer, Miss};
 use crate::values::{number, text};
 use crate::words::{Call, joined, said};
-use repl_wire::{FrameReader, PIECE_LIMIT, Side, Step, WireFault, length_of};
+use repl_wire::{FrameReader, Message, PIECE_LIMIT, Side, Step, WireFault, length_of};
 use std::alloc::{AllocError, Global};
 
 pub fn answer(alloc: Global, call: &Call) -> Answer {
     if let Some([side, size, bytes]) = call.words("read") {
-        let Ok(size) = usize::try_from(number(size)?) else {
-            return Err(Miss::Words);
-        };
-        return read(alloc, side_of(text(side)?)?, bytes, size);
+        return read_of(alloc, side, size, bytes);
     }
     if let Some([side, first, last, bytes]) = call.words("read_in") {
-        let sizes = (number(first)?, number(last)?);
-        return read_in(alloc, side_of(text(side)?)?, bytes, sizes);
+        return read_in(alloc, side, bytes, (first, last));
     }
     if let Some([side, bytes]) = call.words("fronts") {
-        return fronts(alloc, side_of(text(side)?)?, bytes);
+        return fronts(alloc, side, bytes);
     }
     Err(Miss::Call)
 }
 
-fn side_of(word: &str) -> Result<Side, Miss> {
-    match word {
+fn read_of(alloc: Global, side: &[u8], size: &[u8], bytes: &[u8]) -> Answer {
+    let Ok(size) = usize::try_from(number(size)?) else {
+        return Err(Miss::Words);
+    };
+    read(alloc, side_of(side)?, bytes, size)
+}
+
+fn side_of(word: &[u8]) -> Result<Side, Miss> {
+    match text(word)? {
         "front" => Ok(Side::Front),
         "back" => Ok(Side::Back),
         _ => Err(Miss::Words),
@@ -53,8 +56,7 @@ fn drain(alloc: Global, reader: &mut FrameReader, told: &mut Vec<u8>) -> Result<
     for _ in 0..u64::MAX {
         match reader.next(alloc) {
             Step::Message(message) => {
-                let length = format!(in alloc; "{} ", length_of(&message))?;
-                told.extend_from_slice(length.as_bytes())?;
+                tell(alloc, &message, told)?;
             }
             Step::NeedMore => return Ok(()),
             Step::Refused(fault) => return Err(End::Refused(fault)),
@@ -64,7 +66,12 @@ fn drain(alloc: Global, reader: &mut FrameReader, told: &mut Vec<u8>) -> Result<
     Err(End::Memory)
 }
 
-/// The same, of these bytes, fed in pieces of this many.
+fn tell(alloc: Global, message: &Message, told: &mut Vec<u8>) -> Result<(), AllocError> {
+    let length = format!(in alloc; "{} ", length_of(message))?;
+    told.extend_from_slice(length.as_bytes())
+}
+
+/// Tells those of these bytes, fed in pieces of this many.
 fn feed(
     alloc: Global,
     reader: &mut FrameReader,
@@ -87,21 +94,40 @@ fn read(alloc: Global, side: Side, bytes: &[u8], size: usize) -> Answer {
     let mut reader = FrameReader::new(alloc, side)?;
     let mut told = Vec::new(alloc);
     let line = match feed(alloc, &mut reader, bytes, size, &mut told) {
-        Ok(()) if reader.is_empty() => format!(in alloc; "at {}", reader.place())?,
-        Ok(()) => format!(in alloc; "at {} and more", reader.place())?,
-        Err(End::Refused(fault)) => match reader.next(alloc) {
-            Step::Refused(again) => format!(in alloc; "{fault:?} {again:?}")?,
-            _ => format!(in alloc; "{fault:?} and another answer")?,
-        },
+        Ok(()) => waiting(alloc, &reader)?,
+        Err(End::Refused(fault)) => refused(alloc, &mut reader, fault)?,
         Err(End::Memory) => return Err(Miss::Memory),
     };
     told.extend_from_slice(line.as_bytes())?;
     Ok(told)
 }
 
+/// Where a reader that waits stands, and whether it holds bytes.
+fn waiting(alloc: Global, reader: &FrameReader) -> Result<String, AllocError> {
+    let place = reader.place();
+    if reader.is_empty() {
+        format!(in alloc; "at {place}")
+    } else {
+        format!(in alloc; "at {place} and more")
+    }
+}
+
+/// What a reader refused, and what it refuses once more.
+fn refused(
+    alloc: Global,
+    reader: &mut FrameReader,
+    fault: WireFault,
+) -> Result<String, AllocError> {
+    match reader.next(alloc) {
+        Step::Refused(again) => format!(in alloc; "{fault:?} {again:?}"),
+        _ => format!(in alloc; "{fault:?} and another answer"),
+    }
+}
+
 /// What each size of pieces tells, where all tell the same.
-fn read_in(alloc: Global, side: Side, bytes: &[u8], sizes: (u64, u64)) -> Answer {
-    let (first, last) = sizes;
+fn read_in(alloc: Global, side: &[u8], bytes: &[u8], sizes: (&[u8], &[u8])) -> Answer {
+    let side = side_of(side)?;
+    let (first, last) = (number(sizes.0)?, number(sizes.1)?);
     if first > last || last > 8192 {
         return Err(Miss::Words);
     }
@@ -116,7 +142,8 @@ fn read_in(alloc: Global, side: Side, bytes: &[u8], sizes: (u64, u64)) -> Answer
 }
 
 /// Whether no front of a message that is not all of it gives a message, in pieces of five bytes.
-fn fronts(alloc: Global, side: Side, bytes: &[u8]) -> Answer {
+fn fronts(alloc: Global, side: &[u8], bytes: &[u8]) -> Answer {
+    let side = side_of(side)?;
     for end in 0..bytes.len() {
         let mut reader = FrameReader::new(alloc, side)?;
         let mut told = Vec::new(alloc);

@@ -11,26 +11,42 @@ use std::alloc::Global;
 
 pub fn answer(alloc: Global, call: &Call) -> Answer {
     if let Some([before, bytes]) = call.words("crc32c") {
-        let sum = crc32c(short(before)?, bytes);
-        return Ok(format!(in alloc; "0x{sum:x}")?.into_bytes());
+        return checksum(alloc, before, bytes);
     }
     if let Some([bytes]) = call.words("crc32c_pieces") {
         return crc32c_pieces(alloc, bytes);
     }
     if let Some([at, prev, fields, body]) = call.words("lay_out") {
-        let (at, prev) = (place(number(at)?)?, Lsn(number(prev)?));
-        let laid = lay(alloc, at, prev, number(fields)?, body)?;
-        return told(alloc, laid);
+        return told_of(alloc, [at, prev, fields, body]);
     }
     if let Some([from, end, at, prev, fields, body]) = call.words("laid") {
-        let (at, prev) = (place(number(at)?)?, Lsn(number(prev)?));
-        let laid = lay(alloc, at, prev, number(fields)?, body)?;
-        return part(alloc, laid, number(from)?, number(end)?);
+        return part_of(alloc, [at, prev, fields, body], from, end);
     }
     if let Some([count, body]) = call.words("chain") {
-        return chain(alloc, number(count)?, body);
+        return chain(alloc, count, body);
     }
     Err(Miss::Call)
+}
+
+fn checksum(alloc: Global, before: &[u8], bytes: &[u8]) -> Answer {
+    let sum = crc32c(short(before)?, bytes);
+    Ok(format!(in alloc; "0x{sum:x}")?.into_bytes())
+}
+
+/// What is laid for a record of these words.
+fn lay_of(alloc: Global, words: [&[u8]; 4]) -> Result<Result<Laid, RecordRefusal>, Miss> {
+    let [at, prev, fields, body] = words;
+    let (prev, fields) = (Lsn(number(prev)?), number(fields)?);
+    lay(alloc, place(number(at)?)?, prev, fields, body)
+}
+
+fn told_of(alloc: Global, words: [&[u8]; 4]) -> Answer {
+    told(alloc, lay_of(alloc, words)?)
+}
+
+fn part_of(alloc: Global, words: [&[u8]; 4], from: &[u8], end: &[u8]) -> Answer {
+    let (from, end) = (number(from)?, number(end)?);
+    part(alloc, lay_of(alloc, words)?, from, end)
 }
 
 /// The checksum over two pieces, where it is the same wherever the first ends.
@@ -110,10 +126,10 @@ fn part(alloc: Global, laid: Result<Laid, RecordRefusal>, from: u64, end: u64) -
 }
 
 /// Where so many records with this body end, the first at 0/1000000, and where one without a body starts behind them.
-fn chain(alloc: Global, count: u64, body: &[u8]) -> Answer {
+fn chain(alloc: Global, count: &[u8], body: &[u8]) -> Answer {
     let mut at = 0x100_0000;
     let mut prev = Lsn(0);
-    for _ in 0..count {
+    for _ in 0..number(count)? {
         match lay(alloc, place(at)?, prev, 3, body)? {
             Ok(laid) => {
                 at = laid.end.0;

@@ -7,26 +7,38 @@ use std::alloc::Global;
 
 pub fn answer(alloc: Global, call: &Call) -> Answer {
     if let Some([bytes]) = call.words("segment_size") {
-        return match SegSize::new(short(bytes)?) {
-            Some(size) => debug(alloc, &size.bytes()),
-            None => said(alloc, "none"),
-        };
+        return segment_size(alloc, bytes);
     }
     if let Some([bytes, at]) = call.words("segment") {
-        return segment(alloc, size(bytes)?, Lsn(number(at)?));
+        return segment(alloc, bytes, at);
     }
     if let Some([bytes, tli, at]) = call.words("name") {
-        let size = size(bytes)?;
-        let seg = seg_of(Lsn(number(at)?), size);
-        return Ok(seg_name(alloc, timeline(tli)?, seg, size)?.into_bytes());
+        return name(alloc, bytes, tli, at);
     }
     if let Some([bytes, text]) = call.words("named") {
-        return named(alloc, size(bytes)?, text);
+        return named(alloc, bytes, text);
     }
     if let Some([tli]) = call.words("history_name") {
-        return Ok(history_name(alloc, timeline(tli)?)?.into_bytes());
+        return name_of_history(alloc, tli);
     }
     Err(Miss::Call)
+}
+
+fn segment_size(alloc: Global, bytes: &[u8]) -> Answer {
+    match SegSize::new(short(bytes)?) {
+        Some(size) => debug(alloc, &size.bytes()),
+        None => said(alloc, "none"),
+    }
+}
+
+/// The name of the position's segment.
+fn name(alloc: Global, bytes: &[u8], tli: &[u8], at: &[u8]) -> Answer {
+    let (size, at, tli) = (size(bytes)?, Lsn(number(at)?), timeline(tli)?);
+    Ok(seg_name(alloc, tli, seg_of(at, size), size)?.into_bytes())
+}
+
+fn name_of_history(alloc: Global, tli: &[u8]) -> Answer {
+    Ok(history_name(alloc, timeline(tli)?)?.into_bytes())
 }
 
 /// A size of segments.
@@ -40,15 +52,16 @@ pub fn timeline(word: &[u8]) -> Result<Tli, Miss> {
 }
 
 /// The number and the start of the position's segment.
-fn segment(alloc: Global, size: SegSize, at: Lsn) -> Answer {
-    let seg = seg_of(at, size);
+fn segment(alloc: Global, bytes: &[u8], at: &[u8]) -> Answer {
+    let size = size(bytes)?;
+    let seg = seg_of(Lsn(number(at)?), size);
     let start = seg_start(seg, size);
     Ok(format!(in alloc; "0x{:x} 0x{:x}", seg.0, start.0)?.into_bytes())
 }
 
 /// The timeline and the number of the segment that a text names.
-fn named(alloc: Global, size: SegSize, text: &[u8]) -> Answer {
-    let line = match parse_seg_name(text, size) {
+fn named(alloc: Global, bytes: &[u8], text: &[u8]) -> Answer {
+    let line = match parse_seg_name(text, size(bytes)?) {
         Ok((tli, seg)) => format!(in alloc; "{} 0x{:x}", tli.number(), seg.0)?,
         Err(fault) => format!(in alloc; "place {}", fault.place)?,
     };

@@ -14,48 +14,92 @@ pub fn back(alloc: Global, call: &Call) -> Result<Back, Miss> {
         return Ok(Back::AuthenticationOk);
     }
     if let Some([name, value]) = call.words("parameter_status") {
-        return Ok(Back::ParameterStatus {
-            name: text_of(name)?,
-            value: text_of(value)?,
-        });
+        return parameter_status(name, value);
     }
     if let Some([pid, key]) = call.words("backend_key_data") {
-        return Ok(Back::BackendKeyData {
-            pid: short(pid)?,
-            key: short(key)?,
-        });
+        return backend_key_data(pid, key);
     }
     if let Some([status]) = call.words("ready_for_query") {
-        return Ok(Back::ReadyForQuery(transaction(text(status)?)?));
+        return ready_for_query(status);
     }
     if let Some(words) = call.words("row_description") {
-        return Ok(Back::RowDescription(fields(alloc, words)?));
+        return row_description(alloc, words);
     }
     if let Some(words) = call.words("data_row") {
-        return Ok(Back::DataRow(columns(alloc, words)?));
+        return data_row(alloc, words);
     }
+    back_more(alloc, call)
+}
+
+fn back_more(alloc: Global, call: &Call) -> Result<Back, Miss> {
     if let Some([tag]) = call.words("command_complete") {
-        return Ok(Back::CommandComplete(text_of(tag)?));
+        return command_complete(tag);
     }
     if let Some(words) = call.words("error_response") {
-        return Ok(Back::ErrorResponse(error_fields(alloc, words)?));
+        return error_response(alloc, words);
     }
     if let Some(words) = call.words("notice_response") {
-        return Ok(Back::NoticeResponse(error_fields(alloc, words)?));
+        return notice_response(alloc, words);
     }
     if let Some([bytes]) = call.words("copy_data") {
-        return Ok(Back::CopyData(bytes_of(bytes)?));
+        return copy_data(bytes);
     }
     if let Some([]) = call.words("copy_done") {
         return Ok(Back::CopyDone);
     }
     if let Some([format, words @ ..]) = call.words("copy_both") {
-        return Ok(Back::CopyBoth {
-            format: u8::try_from(short(format)?).ok().ok_or(Miss::Words)?,
-            formats: formats(alloc, words)?,
-        });
+        return copy_both(alloc, format, words);
     }
     Err(Miss::Words)
+}
+
+fn parameter_status(name: &Vec<u8>, value: &Vec<u8>) -> Result<Back, Miss> {
+    Ok(Back::ParameterStatus {
+        name: text_of(name)?,
+        value: text_of(value)?,
+    })
+}
+
+fn backend_key_data(pid: &[u8], key: &[u8]) -> Result<Back, Miss> {
+    Ok(Back::BackendKeyData {
+        pid: short(pid)?,
+        key: short(key)?,
+    })
+}
+
+fn ready_for_query(status: &[u8]) -> Result<Back, Miss> {
+    Ok(Back::ReadyForQuery(transaction(text(status)?)?))
+}
+
+fn row_description(alloc: Global, words: &[Vec<u8>]) -> Result<Back, Miss> {
+    Ok(Back::RowDescription(fields(alloc, words)?))
+}
+
+fn data_row(alloc: Global, words: &[Vec<u8>]) -> Result<Back, Miss> {
+    Ok(Back::DataRow(columns(alloc, words)?))
+}
+
+fn command_complete(tag: &Vec<u8>) -> Result<Back, Miss> {
+    Ok(Back::CommandComplete(text_of(tag)?))
+}
+
+fn error_response(alloc: Global, words: &[Vec<u8>]) -> Result<Back, Miss> {
+    Ok(Back::ErrorResponse(error_fields(alloc, words)?))
+}
+
+fn notice_response(alloc: Global, words: &[Vec<u8>]) -> Result<Back, Miss> {
+    Ok(Back::NoticeResponse(error_fields(alloc, words)?))
+}
+
+fn copy_data(bytes: &Vec<u8>) -> Result<Back, Miss> {
+    Ok(Back::CopyData(bytes_of(bytes)?))
+}
+
+fn copy_both(alloc: Global, format: &[u8], words: &[Vec<u8>]) -> Result<Back, Miss> {
+    Ok(Back::CopyBoth {
+        format: u8::try_from(short(format)?).ok().ok_or(Miss::Words)?,
+        formats: formats(alloc, words)?,
+    })
 }
 
 fn transaction(word: &str) -> Result<TransactionStatus, Miss> {
@@ -71,20 +115,24 @@ fn transaction(word: &str) -> Result<TransactionStatus, Miss> {
 fn fields(alloc: Global, words: &[Vec<u8>]) -> Result<Fields, Miss> {
     let mut fields = Vec::new(alloc);
     for field in words.chunks(7) {
-        let [name, table, attribute, type_oid, size, modifier, format] = field else {
-            return Err(Miss::Words);
-        };
-        fields.push(Field {
-            name: text_of(name)?,
-            table: short(table)?,
-            attribute: signed(attribute)?,
-            type_oid: short(type_oid)?,
-            size: signed(size)?,
-            modifier: text(modifier)?.parse::<i32>().ok().ok_or(Miss::Words)?,
-            format: format_of(format)?,
-        })?;
+        fields.push(field_of(field)?)?;
     }
     Fields::new(fields).ok_or(Miss::Words)
+}
+
+fn field_of(words: &[Vec<u8>]) -> Result<Field, Miss> {
+    let [name, table, attribute, type_oid, size, modifier, format] = words else {
+        return Err(Miss::Words);
+    };
+    Ok(Field {
+        table: short(table)?,
+        attribute: signed(attribute)?,
+        type_oid: short(type_oid)?,
+        size: signed(size)?,
+        modifier: text(modifier)?.parse::<i32>().ok().ok_or(Miss::Words)?,
+        format: format_of(format)?,
+        name: text_of(name)?,
+    })
 }
 
 fn signed(word: &[u8]) -> Result<i16, Miss> {
@@ -146,12 +194,10 @@ pub fn back_words(alloc: Global, message: &Back) -> Answer {
             Ok(format!(in alloc; "backend_key_data {pid} {key}")?.into_bytes())
         }
         Back::ReadyForQuery(status) => {
-            let status = match status {
-                TransactionStatus::Idle => "idle",
-                TransactionStatus::Open => "open",
-                TransactionStatus::Failed => "failed",
-            };
-            Ok(format!(in alloc; "ready_for_query {status}")?.into_bytes())
+            joined(
+                alloc,
+                &[b"ready_for_query", transaction_word(*status).as_bytes()],
+            )
         }
         Back::RowDescription(fields) => Ok(fields_words(alloc, fields)?),
         Back::DataRow(columns) => Ok(columns_words(alloc, columns)?),
@@ -161,6 +207,14 @@ pub fn back_words(alloc: Global, message: &Back) -> Answer {
         Back::CopyData(bytes) => joined(alloc, &[b"copy_data", bytes.as_slice()]),
         Back::CopyDone => Ok(b"copy_done".to_vec(alloc)?),
         Back::CopyBoth { format, formats } => Ok(formats_words(alloc, *format, formats)?),
+    }
+}
+
+fn transaction_word(status: TransactionStatus) -> &'static str {
+    match status {
+        TransactionStatus::Idle => "idle",
+        TransactionStatus::Open => "open",
+        TransactionStatus::Failed => "failed",
     }
 }
 

@@ -10,35 +10,55 @@ use std::alloc::{AllocError, Global};
 
 pub fn answer(alloc: Global, call: &Call) -> Answer {
     if let Some([input, calls @ ..]) = call.words("steady") {
-        let mut link = SteadyLink::new(alloc, input.clone()?)?;
-        let answers = run(alloc, &mut link, calls)?;
-        return joined(alloc, &[&answers, b"written", link.written()]);
+        return steady(alloc, input, calls);
     }
     if let Some(words) = call.words("script") {
-        let (steps, calls) = apart(words)?;
-        let mut link = script(alloc, steps)?;
-        let answers = run(alloc, &mut link, calls)?;
-        return joined(alloc, &[&answers, b"written", link.written()]);
+        return scripted(alloc, words);
     }
     if let Some([bytes]) = call.words("bytewise") {
-        let mut sink = ByteSink::new(alloc, u64::MAX);
-        let sent = write_whole(alloc, &mut sink, bytes)?;
-        let writes = format!(in alloc; "{}", sink.writes())?;
-        return joined(alloc, &[&sent, sink.taken(), writes.as_bytes()]);
+        return bytewise(alloc, bytes);
     }
     if let Some([way, bytes]) = call.words("std_sink") {
-        return std_sink(alloc, text(way)?, bytes);
+        return std_sink(alloc, way, bytes);
     }
     if let Some([bytes, rooms @ ..]) = call.words("std_source") {
-        let mut source = StdSource::new(bytes.as_slice());
-        let mut all = Vec::new(alloc);
-        for room in rooms {
-            all.extend_from_slice(&read(alloc, &mut source, number(room)?)?)?;
-            all.push(b' ')?;
-        }
-        return Ok(all);
+        return std_source(alloc, bytes, rooms);
     }
     Err(Miss::Call)
+}
+
+/// The answers of the calls of a steady link, and what was written.
+fn steady(alloc: Global, input: &Vec<u8>, calls: &[Vec<u8>]) -> Answer {
+    let mut link = SteadyLink::new(alloc, input.clone()?)?;
+    let answers = run(alloc, &mut link, calls)?;
+    joined(alloc, &[&answers, b"written", link.written()])
+}
+
+/// The same, of a link that follows steps.
+fn scripted(alloc: Global, words: &[Vec<u8>]) -> Answer {
+    let (steps, calls) = apart(words)?;
+    let mut link = script(alloc, steps)?;
+    let answers = run(alloc, &mut link, calls)?;
+    joined(alloc, &[&answers, b"written", link.written()])
+}
+
+/// How a sink that takes a byte at a time takes these, what it has then, and after how many writes.
+fn bytewise(alloc: Global, bytes: &[u8]) -> Answer {
+    let mut sink = ByteSink::new(alloc, u64::MAX);
+    let sent = write_whole(alloc, &mut sink, bytes)?;
+    let writes = debug(alloc, &sink.writes())?;
+    joined(alloc, &[&sent, sink.taken(), &writes])
+}
+
+/// Reads with these rooms from a source of std, with a blank behind each.
+fn std_source(alloc: Global, bytes: &[u8], rooms: &[Vec<u8>]) -> Answer {
+    let mut source = StdSource::new(bytes);
+    let mut all = Vec::new(alloc);
+    for room in rooms {
+        all.extend_from_slice(&read(alloc, &mut source, number(room)?)?)?;
+        all.push(b' ')?;
+    }
+    Ok(all)
 }
 
 /// The link that follows these steps: `give:BYTES`, `each:BYTES` for a byte at each read and quiet before it, `quiet`
@@ -119,10 +139,10 @@ fn write_whole<K: Sink>(alloc: Global, sink: &mut K, bytes: &[u8]) -> Answer {
 }
 
 /// A write to a vector of bytes through a sink of std, and the bytes that are in it then.
-fn std_sink(alloc: Global, way: &str, bytes: &[u8]) -> Answer {
+fn std_sink(alloc: Global, way: &[u8], bytes: &[u8]) -> Answer {
     let mut held = Vec::new(alloc);
     let mut sink = StdSink::new(&mut held);
-    let answer = match way {
+    let answer = match text(way)? {
         "write" => write(alloc, &mut sink, bytes)?,
         "all" => write_whole(alloc, &mut sink, bytes)?,
         _ => return Err(Miss::Words),

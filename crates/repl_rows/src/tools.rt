@@ -10,15 +10,14 @@ use std::alloc::{AllocError, Global};
 
 pub fn answer(alloc: Global, call: &Call) -> Answer {
     if let Some([status]) = call.words("status") {
-        return status_of(alloc, text(status)?, 0);
+        return status_of(alloc, status, b"0");
     }
-    if let Some([status, number_word]) = call.words("status") {
-        return status_of(alloc, text(status)?, number(number_word)?);
+    if let Some([status, count]) = call.words("status") {
+        return status_of(alloc, status, count);
     }
     if let Some([count]) = call.words("lines") {
-        return lines(alloc, number(count)?);
+        return lines(alloc, count);
     }
-
     let (words, call) = call.apart()?;
     ran(alloc, words, &call)
 }
@@ -32,22 +31,13 @@ fn ran(alloc: Global, words: &[Vec<u8>], call: &Call) -> Answer {
         return left(alloc, words, input);
     }
     if let Some(steps) = call.words("scripted") {
-        let mut input = script(alloc, steps)?;
-        let mut out = SteadyLink::new(alloc, Vec::new(alloc))?;
-        let status = run_tool(alloc, &owned(alloc, words)?, &mut input, &mut out);
-        return told(alloc, &status, out.written());
+        return scripted(alloc, words, steps);
     }
     if let Some([limit, input]) = call.words("limited") {
-        let mut out = ByteSink::new(alloc, number(limit)?);
-        let mut input = SteadyLink::new(alloc, input.clone()?)?;
-        let status = run_tool(alloc, &owned(alloc, words)?, &mut input, &mut out);
-        return told(alloc, &status, out.taken());
+        return limited(alloc, words, limit, input);
     }
     if let Some([input]) = call.words("failing") {
-        let mut out = script(alloc, &[b"failing:1".to_vec(alloc)?])?;
-        let mut input = SteadyLink::new(alloc, input.clone()?)?;
-        let status = run_tool(alloc, &owned(alloc, words)?, &mut input, &mut out);
-        return told(alloc, &status, out.written());
+        return failing(alloc, words, input);
     }
     if let Some([input]) = call.words("fronts") {
         return fronts(alloc, words, input);
@@ -88,7 +78,31 @@ fn steady(alloc: Global, words: &[Vec<u8>], input: &[u8]) -> Answer {
     told(alloc, &status, out.written())
 }
 
-/// The same, and behind it what a further read of 40 bytes answers.
+/// A run over a link that follows steps.
+fn scripted(alloc: Global, words: &[Vec<u8>], steps: &[Vec<u8>]) -> Answer {
+    let mut input = script(alloc, steps)?;
+    let mut out = SteadyLink::new(alloc, Vec::new(alloc))?;
+    let status = run_tool(alloc, &owned(alloc, words)?, &mut input, &mut out);
+    told(alloc, &status, out.written())
+}
+
+/// A run that writes to a sink of so many bytes.
+fn limited(alloc: Global, words: &[Vec<u8>], limit: &[u8], input: &[u8]) -> Answer {
+    let mut out = ByteSink::new(alloc, number(limit)?);
+    let mut input = SteadyLink::new(alloc, input.to_vec(alloc)?)?;
+    let status = run_tool(alloc, &owned(alloc, words)?, &mut input, &mut out);
+    told(alloc, &status, out.taken())
+}
+
+/// A run whose first write fails.
+fn failing(alloc: Global, words: &[Vec<u8>], input: &[u8]) -> Answer {
+    let mut out = script(alloc, &[b"failing:1".to_vec(alloc)?])?;
+    let mut input = SteadyLink::new(alloc, input.to_vec(alloc)?)?;
+    let status = run_tool(alloc, &owned(alloc, words)?, &mut input, &mut out);
+    told(alloc, &status, out.written())
+}
+
+/// The run over links in memory, and behind it what a further read of 40 bytes answers.
 fn left(alloc: Global, words: &[Vec<u8>], input: &[u8]) -> Answer {
     let mut input = SteadyLink::new(alloc, input.to_vec(alloc)?)?;
     let mut out = SteadyLink::new(alloc, Vec::new(alloc))?;
@@ -162,35 +176,45 @@ fn flips(alloc: Global, words: &[Vec<u8>], input: &[u8]) -> Answer {
 }
 
 /// Whether `frames back` prints the line of each of so many messages that say that the server waits.
-fn lines(alloc: Global, count: u64) -> Answer {
+fn lines(alloc: Global, count: &[u8]) -> Answer {
+    let count = number(count)?;
     let mut input = Vec::new(alloc);
-    let mut wanted = Vec::new(alloc);
-    wanted.extend_from_slice(b"Ok ")?;
-    for number in 0..count {
+    for _ in 0..count {
         input.extend_from_slice(b"Z\0\0\0\x05I")?;
-        let line = format!(in alloc; "{} Z 5\n", number.wrapping_mul(6))?;
-        wanted.extend_from_slice(line.as_bytes())?;
     }
     let words = vec![in alloc; b"frames".to_vec(alloc)?, b"back".to_vec(alloc)?]?;
-    if steady(alloc, &words, &input)? == wanted {
+    if steady(alloc, &words, &input)? == wanted_lines(alloc, count)? {
         said(alloc, "all agree")
     } else {
         said(alloc, "another end")
     }
 }
 
+fn wanted_lines(alloc: Global, count: u64) -> Result<Vec<u8>, AllocError> {
+    let mut wanted = b"Ok ".to_vec(alloc)?;
+    for number in 0..count {
+        let line = format!(in alloc; "{} Z 5\n", number.wrapping_mul(6))?;
+        wanted.extend_from_slice(line.as_bytes())?;
+    }
+    Ok(wanted)
+}
+
+fn status_named(name: &str, number: u64) -> Result<Status, Miss> {
+    match name {
+        "Ok" => Ok(Status::Ok),
+        "Usage" => Ok(Status::Usage(number as usize)),
+        "BadInput" => Ok(Status::BadInput(number)),
+        "ReadFault" => Ok(Status::ReadFault),
+        "WriteFault" => Ok(Status::WriteFault),
+        "TurnsSpent" => Ok(Status::TurnsSpent),
+        "Memory" => Ok(Status::Memory),
+        _ => Err(Miss::Words),
+    }
+}
+
 /// The number of a status, and its line.
-fn status_of(alloc: Global, name: &str, number: u64) -> Answer {
-    let status = match name {
-        "Ok" => Status::Ok,
-        "Usage" => Status::Usage(number as usize),
-        "BadInput" => Status::BadInput(number),
-        "ReadFault" => Status::ReadFault,
-        "WriteFault" => Status::WriteFault,
-        "TurnsSpent" => Status::TurnsSpent,
-        "Memory" => Status::Memory,
-        _ => return Err(Miss::Words),
-    };
+fn status_of(alloc: Global, name: &[u8], count: &[u8]) -> Answer {
+    let status = status_named(text(name)?, number(count)?)?;
     let head = debug(alloc, &status_number(&status))?;
     joined(alloc, &[&head, &status_line(alloc, &status)?])
 }

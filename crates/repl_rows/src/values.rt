@@ -62,19 +62,23 @@ impl Names {
     pub fn value(&self, alloc: Global, word: &[u8]) -> Result<Vec<u8>, Miss> {
         let mut value = Vec::new(alloc);
         for part in pieces(alloc, word, b'+')?.iter() {
-            let times = pieces(alloc, part, b'*')?;
-            match times.as_slice() {
-                [atom] => value.extend_from_slice(&self.atom(alloc, atom)?)?,
-                [atom, count] => {
-                    let atom = self.atom(alloc, atom)?;
-                    for _ in 0..number(count)? {
-                        value.extend_from_slice(&atom)?;
-                    }
-                }
-                _ => return Err(Miss::Words),
-            }
+            self.add(alloc, part, &mut value)?;
         }
         Ok(value)
+    }
+
+    /// Puts what a part between `+` stands for behind the value.
+    fn add(&self, alloc: Global, part: &[u8], value: &mut Vec<u8>) -> Result<(), Miss> {
+        let times = pieces(alloc, part, b'*')?;
+        let (atom, count) = match times.as_slice() {
+            [atom] => (self.atom(alloc, atom)?, 1),
+            [atom, count] => (self.atom(alloc, atom)?, number(count)?),
+            _ => return Err(Miss::Words),
+        };
+        for _ in 0..count {
+            value.extend_from_slice(&atom)?;
+        }
+        Ok(())
     }
 
     /// What a word without `+` and `*` stands for.

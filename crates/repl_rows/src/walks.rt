@@ -12,16 +12,29 @@ const ORIGIN: u64 = 0x100_0000;
 
 pub fn answer(alloc: Global, call: &Call) -> Answer {
     if let Some(words) = call.words("cuts") {
-        return cuts(alloc, &log(alloc, words)?);
+        return cuts_of(alloc, words);
     }
     if let Some([size, words @ ..]) = call.words("pieces") {
-        return pieces(alloc, &log(alloc, words)?, number(size)?);
+        return pieces_of(alloc, size, words);
     }
     if let Some([place, byte, shown, words @ ..]) = call.words("fault") {
-        let log = log(alloc, words)?;
-        return fault(alloc, &log, number(place)?, number(byte)?, number(shown)?);
+        return fault_of(alloc, place, byte, shown, words);
     }
     Err(Miss::Call)
+}
+
+fn cuts_of(alloc: Global, words: &[Vec<u8>]) -> Answer {
+    cuts(alloc, &log(alloc, words)?)
+}
+
+fn pieces_of(alloc: Global, size: &[u8], words: &[Vec<u8>]) -> Answer {
+    let size = number(size)?;
+    pieces(alloc, &log(alloc, words)?, size)
+}
+
+fn fault_of(alloc: Global, place: &[u8], byte: &[u8], shown: &[u8], words: &[Vec<u8>]) -> Answer {
+    let (place, byte, shown) = (number(place)?, number(byte)?, number(shown)?);
+    fault(alloc, &log(alloc, words)?, place, byte, shown)
 }
 
 /// A log of records with bodies of so many zeros.

@@ -9,16 +9,20 @@ use std::alloc::Global;
 
 pub fn answer(alloc: Global, call: &Call) -> Answer {
     if let Some([phase, bytes]) = call.words("take") {
-        return taken(alloc, &take(alloc, phase_of(text(phase)?)?, bytes));
+        return took(alloc, phase, bytes);
     }
     if let Some([phase, bytes]) = call.words("fronts") {
-        return fronts(alloc, phase_of(text(phase)?)?, bytes);
+        return fronts(alloc, phase, bytes);
     }
     Err(Miss::Call)
 }
 
-fn phase_of(word: &str) -> Result<Phase, Miss> {
-    match word {
+fn took(alloc: Global, phase: &[u8], bytes: &[u8]) -> Answer {
+    taken(alloc, &take(alloc, phase_of(phase)?, bytes))
+}
+
+fn phase_of(word: &[u8]) -> Result<Phase, Miss> {
+    match text(word)? {
         "startup" => Ok(Phase::Startup),
         "front" => Ok(Phase::Front),
         "back" => Ok(Phase::Back),
@@ -49,7 +53,8 @@ fn message_words(alloc: Global, message: &Message) -> Answer {
 }
 
 /// Whether each front of a message that is not all of it waits for more.
-fn fronts(alloc: Global, phase: Phase, bytes: &[u8]) -> Answer {
+fn fronts(alloc: Global, phase: &[u8], bytes: &[u8]) -> Answer {
+    let phase = phase_of(phase)?;
     for end in 0..bytes.len() {
         if !matches!(take(alloc, phase, &bytes[..end]), Taken::Short) {
             return Ok(format!(in alloc; "another answer at {end}")?.into_bytes());
