@@ -28,6 +28,7 @@ mod sinks;
 mod streams;
 mod table;
 mod texts;
+mod tokens;
 mod tools;
 mod values;
 mod walks;

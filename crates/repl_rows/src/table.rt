@@ -3,7 +3,7 @@ use crate::values::{Names, text, words_of};
 use crate::words::{Call, is};
 use crate::{
     commands, copies, disks, histories, lists, messages, pages, paths, positions, quorum, reader,
-    records, segments, streams, texts, tools, walks, wire,
+    records, segments, streams, texts, tokens, tools, walks, wire,
 };
 use repl_disk::MemoryDisk;
 use std::alloc::Global;
@@ -151,6 +151,9 @@ fn library(alloc: Global, subject: &str, call: &Call) -> Answer {
     }
     if is(subject, "paths") {
         return paths::answer(alloc, call);
+    }
+    if is(subject, "tokens") {
+        return tokens::answer(alloc, call);
     }
     if is(subject, "lists") {
         return lists::answer(alloc, call);
