@@ -29,6 +29,3 @@ pub use disk::{Disk, DiskError};
 pub use folder::FolderDisk;
 pub use memory::MemoryDisk;
 pub use replacing::{replace, replace_by};
-
-#[cfg(test)]
-mod folder_tests;

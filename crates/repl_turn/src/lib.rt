@@ -38,6 +38,3 @@ pub use laws::{beginnings_are_legal, each_entry_is_a_step, quiet_events_change_n
 pub use machine::{Entry, Machine};
 pub use pass::Pass;
 pub use turn::{Acted, NoMemory, Turn, Unfinished};
-
-#[cfg(test)]
-mod tests;

@@ -1,7 +1,7 @@
 ghost use Rattle.std.specs.Prelude.{◌≡◌, ◌≢◌, Some, slice_get};
 ghost use Rattle.repl_turn.specs.History.{entry, number};
 
-use super::*;
+use repl_turn::{Acted, Machine, Pass, Turn};
 use std::alloc::{AllocError, Global};
 use std::sync::Wait;
 use std::test::*;
@@ -43,8 +43,8 @@ enum Answer {
 impl Machine for Lines {
     ghost use Rattle.std.specs.Prelude.{◌≡◌, ◌⊎◌, ℕ, true, false, List, ◌++◌, length};
     ghost use Rattle.std.proofs.Common.{sym, true≢false};
-    ghost use Rattle.repl_turn.specs.declared.tests.Ask.TheVariants.{Add, Tell, Nap};
-    ghost use Rattle.repl_turn.specs.declared.tests.Answer.TheVariants.{Added, Told, Rested, NoMemory};
+    ghost use Rattle.repl_trials.specs.declared.turns.Ask.TheVariants.{Add, Tell, Nap};
+    ghost use Rattle.repl_trials.specs.declared.turns.Answer.TheVariants.{Added, Told, Rested, NoMemory};
 
     type Event = Ask;
 

@@ -1,4 +1,4 @@
-use super::*;
+use repl_disk::{Disk, DiskError, FolderDisk, replace};
 use std::alloc::{AllocError, Global};
 use std::fs;
 use std::os::unix::fs::MetadataExt;
