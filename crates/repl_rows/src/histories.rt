@@ -3,7 +3,7 @@ use crate::miss::{Answer, Miss};
 use crate::segments::timeline;
 use crate::values::number;
 use crate::words::{Call, debug, joined, said};
-use repl_lsn::{History, Line, Lsn, Part, Parts, Tli, history_text, parse_history};
+use repl_lsn::{History, Line, Lsn, Part, Parts, history_text, parse_history};
 use std::alloc::Global;
 
 pub fn answer(alloc: Global, call: &Call) -> Answer {
