@@ -16,10 +16,15 @@ use std::sync::atomic::Ordering::SeqCst;
 // What a thread sleeps on is the low half of a word.
 const LOW_HALF: u64 = 1 << 32;
 
-// How often a thread looks, and finds nothing new, before it sleeps.
-const LOOKS: u32 = 160;
+// How long who waits for the turn looks, and finds nothing new, before it sleeps, counted in pauses of the processor, of
+// some 10 to 50 nanoseconds. That is about what a sleep and its wake-up cost, so who sleeps in the end has lost as much
+// again. With less, one event that is late puts all to sleep who wait, and each event behind it waits for a wake-up.
+pub(crate) const FOR_TURN: u32 = 400;
 
-// How often who is next looks without a rest.
+// The same of who waits for a change, which is seldom near.
+pub(crate) const FOR_CHANGE: u32 = 160;
+
+// How often who is next looks without a pause.
 const EAGER: u32 = 60;
 
 #[derive(Drop)]
@@ -56,38 +61,47 @@ impl Bell {
 // How long a thread looks before it sleeps.
 #[derive(Drop)]
 pub(crate) struct Patience {
-    looks: u32,
+    whole: u32,
+    spent: u32,
     last: u64,
 }
 
 impl Patience {
-    pub(crate) fn new() -> Patience {
-        Patience { looks: 0, last: 0 }
+    pub(crate) fn new(whole: u32) -> Patience {
+        Patience {
+            whole,
+            spent: 0,
+            last: 0,
+        }
     }
 
     // Whether the thread looked long enough and found nothing new, and is to sleep now. Each number that was not
     // found before gives it new patience: where the turn goes round fast, nobody falls asleep. Who is next looks all the
-    // time at first; others look more seldom, by how many are before them, so that their looks do not slow down the turn.
+    // time at first; others look more seldom, by how many are before them, so that their looks do not slow down the turn,
+    // and for no longer.
     pub(crate) fn is_over(&mut self, found: u64, ahead: u64) -> bool {
         if found != self.last {
             self.last = found;
-            self.looks = 0;
+            self.spent = 0;
         }
-        if self.looks >= LOOKS {
-            self.looks = 0;
+        if self.spent >= self.whole {
+            self.spent = 0;
             return true;
         }
-        self.looks += 1;
-        if ahead > 1 || self.looks > EAGER {
-            rest(ahead);
+        if ahead > 1 || self.spent >= EAGER {
+            self.spent = self.spent.saturating_add(rest(ahead));
+        } else {
+            self.spent += 1;
         }
         false
     }
 }
 
-// Lets the processor rest for a moment for each of so many.
-fn rest(ahead: u64) {
-    for _ in 0..ahead.min(8) {
+// Pauses once for each of so many, 8 at most, and returns how often.
+fn rest(ahead: u64) -> u32 {
+    let pauses = ahead.clamp(1, 8) as u32;
+    for _ in 0..pauses {
         hint::spin_loop();
     }
+    pauses
 }

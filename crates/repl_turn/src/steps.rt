@@ -3,7 +3,7 @@ ghost use Rattle.std.specs.Prelude.{◌≡◌, ◌<◌, ◌^◌, Some, [], ◌�
 ghost use Rattle.repl_turn.specs.declared.rule.Stage.TheVariants.{Idle, Waiting, Holding};
 ghost use Rattle.repl_turn.specs.Rule.{IsSameSeat, at_stage, IsHeld, Gives, Watched};
 
-use crate::bell::{Bell, Patience};
+use crate::bell::{Bell, FOR_CHANGE, FOR_TURN, Patience};
 use crate::machine::Machine;
 use crate::rule::{Draw, Give, Look, Said, Token, Watch};
 use crate::turn::Turn;
@@ -49,7 +49,7 @@ impl<M: Machine> Turn<M> {
         ensures seat { IsSameSeat token.old token.new }
         ensures held { (x : M) × (token.new.me ≡ (at_stage token.old.me.0 (Holding ticket x), (0, x) ∷ [])) }
     {
-        let mut patience = Patience::new();
+        let mut patience = Patience::new(FOR_TURN);
         let mut slept = false;
         let mut early = false;
         for _ in rt.forever() {
@@ -143,7 +143,7 @@ impl<M: Machine> Turn<M> {
 
     // Sleeps until a loud event is made behind the first `count`.
     fn sleep_behind<R: Wait>(&self, rt: &R, count: u64) {
-        let mut patience = Patience::new();
+        let mut patience = Patience::new(FOR_CHANGE);
         for _ in rt.forever() {
             let loud = self.loud.load(SeqCst);
             if loud > count {
