@@ -1,10 +1,10 @@
 -- Laws of histories, for the proofs of those who share a machine.
-use Rattle.std.specs.Prelude.{◌≡◌, ℕ, zero, suc, ◌+◌, Bool, true, All, Some, List, [], ◌∷◌, ◌++◌, length, slice_get}
+use Rattle.std.specs.Prelude.{◌≡◌, ℕ, zero, suc, Bool, true, All, Some, List, [], ◌∷◌, ◌++◌, slice_get}
 use Rattle.std.proofs.Common.{refl, sym, ap, ◌∙◌, subst}
 use Rattle.std.proofs.lemmas.List.Elements.{All-head, All-tail}
 use mathlib.Core.List.{IsPrefix}
 use Rattle.repl_turn.specs.declared.machine.Entry.{Entry}
-use Rattle.repl_turn.specs.History.{TurnId, Known, Replays, Legal, StepAt, Acts}
+use Rattle.repl_turn.specs.History.{TurnId, Replays, Legal, StepAt}
 
 module _ {S E R : Type 0} (steps : S → E → R → S → Type 0) where
   -- events that lead somewhere are split at an entry

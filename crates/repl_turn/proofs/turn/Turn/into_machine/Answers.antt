@@ -1,5 +1,5 @@
 -- Where each ticket was served, the machine that comes back is in the state to which the history led.
-use Rattle.std.proofs.Common.{◌≡◌, sym, ap, ◌∙◌, subst}
+use Rattle.std.proofs.Common.{sym, ap, ◌∙◌, subst}
 use mathlib.Core.Option.{some}
 use Rattle.repl_turn.specs.History.{Known, Ends}
 use Rattle.repl_turn.proofs.Endings.{ended}
