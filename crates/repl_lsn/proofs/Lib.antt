@@ -25,3 +25,4 @@ pub mod Equals
 pub mod Holders
 pub mod HistoryNames
 pub mod SizeTexts
+pub mod Outside

@@ -2,5 +2,6 @@ pub mod Position
 pub mod Segment
 pub mod Line
 pub mod History
+pub mod Between
 pub mod Path
 pub mod Equality

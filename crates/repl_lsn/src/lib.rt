@@ -40,8 +40,8 @@ mod words;
 pub use fault::HistoryFault;
 pub use file_names::{history_name, parse_history_name, partial_name};
 pub use history::{HISTORY_LIMIT, History, Line, Part, Parts};
-pub use history_laws::one_history;
-pub use history_lines::{history_text, parse_history};
+pub use history_laws::{one_history, one_refusal};
+pub use history_lines::{history_text, parse_history, parse_history_between};
 pub use laws::{one_canonical_text, one_value, text_spells};
 pub use path_laws::{
     child_is_child, next_begins, one_relation, one_timeline, path_goes_on, same_before_switch,
