@@ -26,3 +26,4 @@ pub mod Holders
 pub mod HistoryNames
 pub mod SizeTexts
 pub mod Outside
+pub mod FileNames

@@ -1,5 +1,6 @@
 pub mod Position
 pub mod Segment
+pub mod FileName
 pub mod Line
 pub mod History
 pub mod Between

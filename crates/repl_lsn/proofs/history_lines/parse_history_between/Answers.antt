@@ -1,8 +1,6 @@
 -- What is read, refused and read again, over all lines of a text and within a log.
-use Rattle.std.proofs.Common.{◌≡◌, ℕ, Ok, Err, Option, Some, None, MatchOption, sym, ap, subst, ◌∙◌, inl, inr, ⊎_elim, rules}
-use Rattle.repl_lsn.specs.declared.history.Part.{Part}
+use Rattle.std.proofs.Common.{◌≡◌, Ok, Err, ap, subst, inl, inr, ⊎_elim, rules}
 use Rattle.repl_lsn.specs.declared.fault.HistoryFault.{HistoryFault}
-use Rattle.repl_lsn.specs.declared.fault.HistoryFault.TheVariants as HistoryFault
 use Rattle.repl_lsn.specs.History.{Path, SaysHistory}
 use Rattle.repl_lsn.specs.Between.{AreBetween, LiesOutside}
 use Rattle.repl_lsn.proofs.Outside.{Known, one_outside, none_outside}
