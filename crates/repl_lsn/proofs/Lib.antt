@@ -27,3 +27,4 @@ pub mod HistoryNames
 pub mod SizeTexts
 pub mod Outside
 pub mod FileNames
+pub mod UpTo

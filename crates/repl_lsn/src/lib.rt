@@ -44,8 +44,8 @@ pub use history_laws::{one_history, one_refusal};
 pub use history_lines::{history_text, parse_history, parse_history_between};
 pub use laws::{one_canonical_text, one_value, text_spells};
 pub use path_laws::{
-    child_is_child, next_begins, one_relation, one_timeline, path_goes_on, same_before_switch,
-    timeline_of_position,
+    child_is_child, next_begins, one_relation, one_timeline, one_up_to, path_goes_on,
+    same_before_switch, timeline_of_position,
 };
 pub use position::{Lsn, PlaceFault};
 pub use relation::Relation;
