@@ -31,8 +31,8 @@ mod token;
 pub use counting::put_counted;
 pub use fault::NamesFault;
 pub use laws::{
-    any_reached, counted_reach, met_below, met_forward, met_without_names, one_counted, one_list,
-    printed_is_read, released_decides,
+    any_reached, counted_reach, met_below, met_forward, met_stays, met_without_names, one_counted,
+    one_list, one_setting, printed_is_read, released_decides, released_stays,
 };
 pub use list::{Method, NUMBER_LIMIT, NameList, SPELLING_LIMIT, StandbyList};
 pub use matching::priority;
