@@ -59,7 +59,8 @@ loop-rest-preserved-in_ok-push c =
     c.first_outside-outside.ensures in
     record {
       reads = subst (Reads c.args.own c.args.text.now behind (c.loop-rest.place + 1)) (sym c.in_ok-push.ensures.items)
-          (reads_part c.args.own c.args.text.now rest c.loop-rest.place parts line behind part c.loop-rest.invariant.reads cut says in_order);
+          (reads_part c.args.own c.args.text.now rest c.loop-rest.place parts line behind part c.loop-rest.invariant.reads cut says
+          in_order);
       outside = subst (λ more. Known c.args.text.now c.args.least c.args.most more c.first_outside-outside.result)
           (sym c.in_ok-push.ensures.items) known;
     }
