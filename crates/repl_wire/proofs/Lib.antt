@@ -10,6 +10,7 @@ pub mod Cuts
 pub mod Leaving
 pub mod FieldSpellings
 pub mod FieldParts
+pub mod ColumnParts
 pub mod ListParts
 pub mod EndedParts
 pub mod FramePlaces
