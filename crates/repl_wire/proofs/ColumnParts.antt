@@ -1,5 +1,43 @@
 -- A value of DataRow as a part of a body: its length is one field, and its bytes are another.
-use Rattle.std.proofs.Common.{◌≡◌, ◌≢◌, ℕ, zero, suc, ◌^◌, ◌<◌, ◌≤◌, Bool, true, false, cond, eqb, ltb, List, [], ◌∷◌, ◌++◌, length, take, drop, Option, Some, None, Result, Ok, Err, refl, sym, ap, subst, ◌∙◌, append_assoc, arith, ◌⊎◌, inl, inr}
+use Rattle.std.proofs.Common.{
+  ◌≡◌,
+  ◌≢◌,
+  ℕ,
+  zero,
+  suc,
+  ◌^◌,
+  ◌<◌,
+  ◌≤◌,
+  Bool,
+  true,
+  false,
+  cond,
+  eqb,
+  ltb,
+  List,
+  [],
+  ◌∷◌,
+  ◌++◌,
+  length,
+  take,
+  drop,
+  Option,
+  Some,
+  None,
+  Result,
+  Ok,
+  Err,
+  refl,
+  sym,
+  ap,
+  subst,
+  ◌∙◌,
+  append_assoc,
+  arith,
+  ◌⊎◌,
+  inl,
+  inr,
+}
 use Rattle.std.specs.List.{AllByRecursion, concat}
 use Rattle.std.proofs.lemmas.Bool.{eqb-true, eqb-false, ltb-true, ltb-false}
 use Rattle.std.proofs.lemmas.List.{length-append, length-take, take-append-drop}
@@ -10,7 +48,19 @@ use Rattle.repl_wire.specs.Judging.{int32_at, column_at}
 use Rattle.repl_wire.specs.Places.{column_fields, IsSized}
 use Rattle.repl_wire.proofs.BodyLaws.{are_bytes}
 use Rattle.repl_wire.proofs.FieldSpellings.{column_is}
-use Rattle.repl_wire.proofs.Leaving.{Language, IsBody, IsBody-rest, Leaves, leaves_here, leaves_behind, bind_err, IsParted, HasSome, IsPart, some_parted}
+use Rattle.repl_wire.proofs.Leaving.{
+  Language,
+  IsBody,
+  IsBody-rest,
+  Leaves,
+  leaves_here,
+  leaves_behind,
+  bind_err,
+  IsParted,
+  HasSome,
+  IsPart,
+  some_parted,
+}
 use Rattle.repl_wire.proofs.FieldParts.{int32_field, int32_left}
 
 abbrev Column : Type 0

@@ -24,3 +24,4 @@ pub mod PlaceLaws
 pub mod Sent
 pub mod Streams
 pub mod Given
+pub mod Heads
