@@ -81,11 +81,11 @@ use Rattle.repl_wire.proofs.PlaceLaws.{fault_is}
 -- ---- length fields
 
 -- what a length field says of its frame
-record IsLong (place least limit : ℕ) (bytes : List ℕ) (size : ℕ) : Type 0 where
-  field : 4 ≤ length bytes
-  low : least ≤ number bytes
-  high : number bytes ≤ limit
-  size_is : size ≡ place + number bytes
+pub record IsLong (place least limit : ℕ) (bytes : List ℕ) (size : ℕ) : Type 0 where
+  pub field : 4 ≤ length bytes
+  pub low : least ≤ number bytes
+  pub high : number bytes ≤ limit
+  pub size_is : size ≡ place + number bytes
 
 framed_tests : (short out : Bool) (g : WireFault) (n size : ℕ) → cond short head.Short (cond out (head.Wrong g) (head.Frame n))
     ≡ head.Frame size → (short ≡ false) × (out ≡ false) × (size ≡ n)
@@ -105,7 +105,7 @@ short_tests true out g n e = refl
 short_tests false true g n e = absurd cc
 short_tests false false g n e = absurd cc
 
-length_long : (place least limit : ℕ) (bytes : List ℕ) (size : ℕ) → length_at place least limit bytes ≡ head.Frame size
+pub length_long : (place least limit : ℕ) (bytes : List ℕ) (size : ℕ) → length_at place least limit bytes ≡ head.Frame size
     → IsLong place least limit bytes size
 unfolding length_at
 length_long place least limit bytes size e =
@@ -122,7 +122,7 @@ frame_short place least limit bytes e =
     (place + number bytes) e in
     rw t refl
 
-frame_refused : (place least limit : ℕ) (bytes : List ℕ) (f : WireFault) → length_at place least limit bytes ≡ head.Wrong f
+pub frame_refused : (place least limit : ℕ) (bytes : List ℕ) (f : WireFault) → length_at place least limit bytes ≡ head.Wrong f
     → frame_of place least limit bytes ≡ Err f
 unfolding length_at frame_of
 frame_refused place least limit bytes f e =
@@ -158,7 +158,7 @@ length_first n place least limit bytes enough =
 
 -- ---- messages after the startup
 
-by_cases : (o : Option (ℕ × ℕ)) (bytes : List ℕ) (h : Head) → by_lengths o bytes ≡ h
+pub by_cases : (o : Option (ℕ × ℕ)) (bytes : List ℕ) (h : Head) → by_lengths o bytes ≡ h
     → ((o ≡ None) × (head.Wrong (fault.Kind 0) ≡ h)) ⊎ ((l : ℕ × ℕ) × (o ≡ Some l) × (length_at 1 l.0 l.1 bytes ≡ h))
 by_cases None bytes h e = inl (refl, e)
 by_cases (Some l) bytes h e = inr (l, refl, e)

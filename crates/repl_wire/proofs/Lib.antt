@@ -25,3 +25,5 @@ pub mod Sent
 pub mod Streams
 pub mod Given
 pub mod Heads
+pub mod Ranges
+pub mod FrameHeads

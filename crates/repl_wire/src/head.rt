@@ -1,11 +1,11 @@
 //! The head of a frame, which says how many bytes the frame has.
-ghost use Rattle.std.specs.Prelude.{◌≡◌, ◌+◌, ◌<◌, ◌≤◌, length, MatchOption};
+ghost use Rattle.std.specs.Prelude.{◌≡◌, ℕ, ◌+◌, ◌<◌, ◌≤◌, length, take, MatchOption};
 ghost use Rattle.std.specs.Option.{option_map};
 ghost use Rattle.repl_message.specs.Decoding.{number};
 ghost use Rattle.repl_wire.specs.declared.fault.WireFault.{WireFault};
 ghost use Rattle.repl_wire.specs.Judging.{Row, back_row, front_lengths, lengths_of};
-ghost use Rattle.repl_wire.specs.Head.{head_of, sent_head, length_at};
-ghost use Rattle.repl_wire.specs.Places.{IsFault};
+ghost use Rattle.repl_wire.specs.Head.{head_of, sent_head, length_at, IsFrameHead, IsInRange};
+ghost use Rattle.repl_wire.specs.Places.{IsFault, head};
 
 use crate::fault::WireFault;
 use repl_message::{COPY_DATA_LIMIT, MESSAGE_LIMIT, Phase, STARTUP_LEAST, STARTUP_LIMIT, Side};
@@ -29,6 +29,10 @@ pub fn judge_head(phase: Phase, bytes: &[u8]) -> Head
     ensures exact { result ≡ head_of phase bytes.now }
     // A fault stands at the first field with which no message goes on.
     ensures place { (fault : WireFault) → result ≡ Head.Wrong fault → IsFault phase bytes.now fault }
+    // A frame's type byte and length field are those that some message may have, and give its size.
+    ensures frame { (size : ℕ) → result ≡ Head.Frame size → IsFrameHead phase bytes.now size }
+    // A length field that is refused is less than that of each message of the type, or above the limit.
+    ensures range { (at said : ℕ) → result ≡ Head.Wrong (WireFault.Length at said) → ¬ IsInRange phase (take (head phase) bytes.now) said }
 {
     match phase {
         Phase::Startup => judge_length(0, STARTUP_LEAST, STARTUP_LIMIT, bytes),
