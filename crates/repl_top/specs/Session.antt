@@ -1,5 +1,5 @@
 -- The input of `identify`: one session of a client that asks a server who it is.
-use Rattle.std.specs.Prelude.{◌≡◌, ◌≢◌, ℕ, ◌+◌, ◌⊎◌, List, [], ◌∷◌, ◌++◌, length, codes}
+use Rattle.std.specs.Prelude.{◌≡◌, ℕ, ◌+◌, ◌⊎◌, List, [], ◌∷◌, ◌++◌, length, codes}
 use Rattle.std.specs.List.{All, Any}
 use Rattle.repl_message.specs.declared.startup.Pair.{Pair}
 use Rattle.repl_message.specs.declared.startup.Startup.TheVariants as startup

@@ -16,7 +16,7 @@ use Rattle.repl_message.specs.declared.message.Phase.TheVariants as phase
 use Rattle.repl_message.specs.declared.message.Message.{Message}
 use Rattle.repl_message.specs.declared.message.Message.TheVariants as message
 use Rattle.repl_message.specs.declared.message.TheConstants.{MESSAGE_LIMIT, COPY_DATA_LIMIT}
-use Rattle.repl_message.specs.Message.{int16, int32, string, column, field, error_field, status_byte, framed, back_kind, back_body, back_limit, back_spelling, FitsField, FitsColumn, FitsErrorField, IsBack, Spells}
+use Rattle.repl_message.specs.Message.{int16, int32, string, column, field, error_field, status_byte, framed, back_kind, back_body, back_limit, back_spelling, FitsField, FitsErrorField, IsBack, Spells}
 use Rattle.repl_message.specs.Decoding.{◌>>=◌, string_at, whole}
 use Rattle.repl_message.proofs.FieldLaws.{IsBytes, IsBytes-rest}
 use Rattle.repl_message.proofs.Spellings.{int32_one}

@@ -48,19 +48,7 @@ use Rattle.repl_wire.specs.Judging.{int32_at, column_at}
 use Rattle.repl_wire.specs.Places.{column_fields, IsSized}
 use Rattle.repl_wire.proofs.BodyLaws.{are_bytes}
 use Rattle.repl_wire.proofs.FieldSpellings.{column_is}
-use Rattle.repl_wire.proofs.Leaving.{
-  Language,
-  IsBody,
-  IsBody-rest,
-  Leaves,
-  leaves_here,
-  leaves_behind,
-  bind_err,
-  IsParted,
-  HasSome,
-  IsPart,
-  some_parted,
-}
+use Rattle.repl_wire.proofs.Leaving.{IsBody, IsBody-rest, Leaves, leaves_here, leaves_behind, bind_err, IsParted, HasSome, IsPart, some_parted}
 use Rattle.repl_wire.proofs.FieldParts.{int32_field, int32_left}
 
 abbrev Column : Type 0

@@ -1,16 +1,16 @@
 -- Fields as parts of a body: each reader reads what was written, or no such field stands there.
-use Rattle.std.proofs.Common.{◌≡◌, ◌≢◌, ℕ, ◌^◌, ◌<◌, ◌≤◌, Bool, true, false, cond, eqb, ltb, List, [], ◌∷◌, ◌++◌, length, take, drop, Option, Some, None, Result, Ok, Err, refl, sym, ap, subst, ◌∙◌, append_assoc, arith, ◌⊎◌, inl, inr}
+use Rattle.std.proofs.Common.{◌≡◌, ◌≢◌, ℕ, ◌^◌, ◌<◌, Bool, true, false, cond, ltb, List, [], ◌∷◌, ◌++◌, length, take, drop, Option, Some, None, Result, Ok, Err, refl, sym, ap, subst, ◌∙◌, arith}
 use Rattle.std.specs.Int.{w16, from_be_bytes}
-use Rattle.std.proofs.lemmas.Bool.{eqb-true, eqb-false, ltb-true, ltb-false}
-use Rattle.std.proofs.lemmas.List.{append-nil, length-append, length-take, take-append-drop}
+use Rattle.std.proofs.lemmas.Bool.{ltb-true, ltb-false}
+use Rattle.std.proofs.lemmas.List.{append-nil}
 use Rattle.std.proofs.lemmas.List.Elements.{All-nil}
 use Rattle.repl_text.specs.Text.{IsText}
-use Rattle.repl_message.specs.Message.{int16, int32, string, column, AreBytes, FitsColumn}
+use Rattle.repl_message.specs.Message.{int16, int32, string}
 use Rattle.repl_message.specs.Decoding.{at_zero, ok_or_left, string_at, number}
-use Rattle.repl_message.proofs.FieldLaws.{IsBytes, IsBytes-rest, IsBytes-take, IsBytes-drop, bind_ok, ok_is, int16_takes, int32_takes, string_takes, string_again}
-use Rattle.repl_message.proofs.Spellings.{int16_one, int32_one, string_one, bytes_one}
-use Rattle.repl_wire.specs.Judging.{byte_at, int16_at, int32_at, column_at}
-use Rattle.repl_wire.proofs.Leaving.{IsBody, IsBody-rest, leaves_here, bind_err, IsParted, IsPart}
+use Rattle.repl_message.proofs.FieldLaws.{IsBytes-rest, ok_is, int16_takes, int32_takes, string_takes, string_again}
+use Rattle.repl_message.proofs.Spellings.{int16_one, int32_one, string_one}
+use Rattle.repl_wire.specs.Judging.{byte_at, int16_at, int32_at}
+use Rattle.repl_wire.proofs.Leaving.{IsBody, IsBody-rest, leaves_here, IsParted, IsPart}
 
 pub record IsField {A : Type 0} (Fits : A → Type 0) (spell : A → List ℕ) (read : List ℕ → Result (A × List ℕ) ℕ) : Type 0 where
   pub some : A

@@ -1,44 +1,6 @@
 -- What the head of a frame says of the judgment of the whole: where it is short or wrong, that is the answer, and where
 -- all of the frame is there, its body is read.
-use Rattle.std.proofs.Common.{
-  ◌≡◌,
-  ◌≢◌,
-  ℕ,
-  ◌+◌,
-  ◌-◌,
-  ◌<◌,
-  ◌≤◌,
-  Bool,
-  true,
-  false,
-  cond,
-  ltb,
-  eqb,
-  ◌||◌,
-  List,
-  [],
-  ◌∷◌,
-  ◌++◌,
-  length,
-  take,
-  drop,
-  Option,
-  Some,
-  None,
-  Result,
-  Ok,
-  Err,
-  IsSome,
-  refl,
-  sym,
-  ap,
-  subst,
-  ◌∙◌,
-  arith,
-  ◌⊎◌,
-  inl,
-  inr,
-}
+use Rattle.std.proofs.Common.{◌≡◌, ◌≢◌, ℕ, ◌+◌, ◌-◌, ◌<◌, ◌≤◌, Bool, true, false, cond, ltb, eqb, ◌||◌, List, [], ◌∷◌, length, take, drop, Option, Some, None, Result, Ok, Err, IsSome, refl, sym, ap, subst, ◌∙◌, arith, ◌⊎◌, inl, inr}
 use Rattle.std.specs.Option.{option_map}
 use Rattle.std.proofs.lemmas.Bool.{ltb-false, ltb-true, le-ltb, lt-ltb, or_parts}
 use Rattle.std.proofs.lemmas.List.{length-take, length-drop, take-take}
@@ -56,22 +18,7 @@ use Rattle.repl_wire.specs.declared.head.Head.{Head}
 use Rattle.repl_wire.specs.declared.head.Head.TheVariants as head
 use Rattle.repl_wire.specs.declared.taking.Taken.{Taken}
 use Rattle.repl_wire.specs.declared.taking.Taken.TheVariants as taken
-use Rattle.repl_wire.specs.Judging.{
-  Row,
-  back_row,
-  lengths_of,
-  message_of,
-  made,
-  ended_at,
-  on_frame,
-  frame_of,
-  judge,
-  judge_startup,
-  judge_front,
-  judge_back,
-  judge_sent,
-  judge_packet,
-}
+use Rattle.repl_wire.specs.Judging.{Row, back_row, lengths_of, message_of, ended_at, on_frame, frame_of, judge, judge_startup, judge_sent, judge_packet}
 use Rattle.repl_wire.specs.Head.{length_at, by_lengths, sent_head, head_of, EndsAt}
 use Rattle.repl_wire.specs.Places.{IsFault}
 use Rattle.repl_wire.proofs.Frames.{frame_whole}

@@ -1,36 +1,5 @@
 -- A length field is in range exactly where some message of the type has one that is no greater, and the limit is not passed.
-use Rattle.std.proofs.Common.{
-  ◌≡◌,
-  ℕ,
-  ◌+◌,
-  ◌^◌,
-  ◌<◌,
-  ◌≤◌,
-  Bool,
-  true,
-  false,
-  cond,
-  eqb,
-  List,
-  [],
-  ◌∷◌,
-  ◌++◌,
-  length,
-  take,
-  drop,
-  Option,
-  Some,
-  None,
-  refl,
-  sym,
-  ap,
-  subst,
-  ◌∙◌,
-  arith,
-  ◌⊎◌,
-  inl,
-  inr,
-}
+use Rattle.std.proofs.Common.{◌≡◌, ℕ, ◌+◌, ◌<◌, ◌≤◌, Bool, true, false, cond, eqb, List, [], ◌∷◌, length, take, Option, Some, None, refl, sym, ap, subst, ◌∙◌, arith, ◌⊎◌}
 use Rattle.std.specs.Option.{option_map}
 use Rattle.std.proofs.lemmas.Bool.{eqb-true}
 use Rattle.std.proofs.lemmas.List.{length-append}
@@ -42,33 +11,14 @@ use Rattle.repl_message.specs.declared.front.Front.TheVariants as front
 use Rattle.repl_message.specs.declared.back.TransactionStatus.TheVariants.{Idle}
 use Rattle.repl_message.specs.declared.back.Back.{Back}
 use Rattle.repl_message.specs.declared.back.Back.TheVariants as back
-use Rattle.repl_message.specs.declared.message.Phase.{Phase}
 use Rattle.repl_message.specs.declared.message.Phase.TheVariants as phase
 use Rattle.repl_message.specs.declared.message.Message.{Message}
 use Rattle.repl_message.specs.declared.message.Message.TheVariants as message
 use Rattle.repl_message.specs.declared.message.Side.TheVariants as side
 use Rattle.repl_message.specs.declared.message.TheConstants.{STARTUP_LEAST, STARTUP_LIMIT, MESSAGE_LIMIT, COPY_DATA_LIMIT}
-use Rattle.repl_message.specs.Message.{
-  string,
-  ended,
-  pair,
-  framed,
-  startup_body,
-  front_kind,
-  front_body,
-  front_limit,
-  back_kind,
-  back_body,
-  back_limit,
-  length_field,
-  spelling,
-  Belongs,
-  IsFront,
-  IsBack,
-}
+use Rattle.repl_message.specs.Message.{startup_body, front_kind, front_body, front_limit, back_kind, back_body, back_limit, length_field, spelling, Belongs, IsFront, IsBack}
 use Rattle.repl_text.specs.Text.{IsText}
-use Rattle.repl_wire.specs.Judging.{Row, back_row, usual, front_lengths, lengths_of}
-use Rattle.repl_wire.specs.Places.{head}
+use Rattle.repl_wire.specs.Judging.{Row, back_row, front_lengths, lengths_of}
 use Rattle.repl_wire.specs.Head.{IsInRange, limit_of}
 use Rattle.repl_wire.proofs.ServerBodies.{has_row}
 

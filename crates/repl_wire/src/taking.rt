@@ -1,3 +1,5 @@
+//! Reading the message at the front of a buffer. What `take` calls for each message is told to be compiled into it, as
+//! bench/frames.sh measures.
 ghost use Rattle.std.specs.Prelude.{◌≡◌, ℕ, ◌+◌, ◌<◌, ◌≤◌, ◌⊎◌, List, ◌++◌, length, take, IfOk, IfErr, IsSome, MatchOption, Result};
 ghost use Rattle.std.specs.Option.{option_copied, option_map};
 ghost use Rattle.repl_message.specs.Message.{Spells};
@@ -37,6 +39,7 @@ pub enum Taken {
 /// It reads every message that may be sent in the phase: every startup packet, every message of the client,
 /// or every message of the server. A packet of another code is refused at its code, another message at its
 /// type byte, and where the session is over any byte.
+#[inline(never)]
 pub fn take(alloc: Global, phase: Phase, bytes: &[u8]) -> Taken
     // What is read is spelled so.
     ensures found { (m : Message) (used : ℕ) → result ≡ Taken.Whole m used →
@@ -63,6 +66,7 @@ pub fn take(alloc: Global, phase: Phase, bytes: &[u8]) -> Taken
 }
 
 /// Reads the message in the frame of so many bytes at the front of the bytes.
+#[inline(always)]
 fn take_frame(alloc: Global, phase: Phase, bytes: &[u8], size: usize) -> Taken
     requires head { head_of phase bytes.now ≡ Head.Frame size }
     requires there { size ≤ length bytes.now }
@@ -77,6 +81,7 @@ fn take_frame(alloc: Global, phase: Phase, bytes: &[u8], size: usize) -> Taken
 }
 
 /// The answer where a frame ends at this place, and its body was read so.
+#[inline(always)]
 fn answer(read: Result<Message, FieldFault>, end: usize) -> Taken
     ensures { (whole : Result Message ℕ) → Gives (λ m. m) read whole → IsJudged result (ended_at end whole) }
 {
@@ -140,6 +145,7 @@ fn request_packet(request: Startup, fields: &[u8]) -> Result<Message, FieldFault
 }
 
 /// Reads the message of either side that has so many bytes: its type byte says how its body is read.
+#[inline(always)]
 fn take_sent(alloc: Global, side: Side, bytes: &[u8], size: usize) -> Taken
     requires head { sent_head side bytes.now ≡ Head.Frame size }
     requires long { 5 ≤ size }
@@ -150,6 +156,7 @@ fn take_sent(alloc: Global, side: Side, bytes: &[u8], size: usize) -> Taken
 }
 
 /// The message of this type byte that the body spells.
+#[inline(always)]
 fn read_message(alloc: Global, side: Side, kind: u8, body: &[u8]) -> Result<Message, FieldFault>
     requires { IsSome (lengths_of side kind) }
     ensures { Gives (λ m. m) result (message_of side kind body.now) }
