@@ -6,3 +6,4 @@ pub mod Spellings
 pub mod EntrySpellings
 pub mod OneSpelling
 pub mod Told
+pub mod Finding

@@ -1,4 +1,4 @@
-ghost use Rattle.std.specs.Prelude.{◌≡◌, ◌≤◌, ◌↔◌, IsSome, IfSome, IfOk, length};
+ghost use Rattle.std.specs.Prelude.{◌≡◌, ◌≤◌, ◌↔◌, IsSome, IfSome, IfOk, MatchOption, length};
 
 use bytes::Bytes;
 use repl_text::Text;
@@ -147,7 +147,7 @@ impl Model for ErrorFields {
 }
 
 impl ErrorFields {
-    ghost use Rattle.repl_message.specs.Lists.{AreCoded, told};
+    ghost use Rattle.repl_message.specs.Lists.{AreCoded, told, HasNoField, IsFirst};
 
     /// These fields, or `None` exactly where a code is 0.
     pub fn new(fields: Vec<ErrorField>) -> Option<ErrorFields>
@@ -180,6 +180,16 @@ impl ErrorFields {
         match ErrorFields::new(fields) {
             Some(fields) => Ok(fields),
             None => unreachable!(),
+        }
+    }
+
+    /// The text of the first field with this code, or `None` exactly where no field has it.
+    pub fn text_of(&self, code: u8) -> Option<&Text>
+        ensures { MatchOption result (HasNoField code self.now) (λ text. IsFirst code self.now text.now) }
+    {
+        match self.fields.iter().find(|field| field.code == code) {
+            Some(field) => Some(&field.text),
+            None => None,
         }
     }
 

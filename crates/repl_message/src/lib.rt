@@ -35,7 +35,7 @@ pub use encode_client::{encode_front, encode_startup};
 pub use encode_server::encode_back;
 pub use fault::EncodeFault;
 pub use front::Front;
-pub use laws::{one_back, one_front, one_reading, one_startup};
+pub use laws::{one_back, one_field, one_front, one_reading, one_startup, one_value};
 pub use lengths::length_of;
 pub use message::{
     COPY_DATA_LIMIT, MESSAGE_LIMIT, Message, Phase, STARTUP_LEAST, STARTUP_LIMIT, Side,

@@ -1,4 +1,4 @@
-ghost use Rattle.std.specs.Prelude.{◌≡◌, ◌↔◌, IsSome, IfSome};
+ghost use Rattle.std.specs.Prelude.{◌≡◌, ◌↔◌, IsSome, IfSome, MatchOption};
 
 use repl_text::Text;
 use std::marker::Model;
@@ -50,7 +50,7 @@ impl Model for Pairs {
 }
 
 impl Pairs {
-    ghost use Rattle.repl_message.specs.Lists.{AreNamed};
+    ghost use Rattle.repl_message.specs.Lists.{AreNamed, HasNoPair, IsLast};
 
     /// These parameters, or `None` exactly where a name is empty.
     pub fn new(pairs: Vec<Pair>) -> Option<Pairs>
@@ -61,6 +61,22 @@ impl Pairs {
             Some(Pairs { pairs })
         } else {
             None
+        }
+    }
+
+    /// The value of the last parameter of this name, which is the one that counts, or `None` exactly where none is
+    /// named so.
+    pub fn value_of(&self, name: &[u8]) -> Option<&Text>
+        ensures { MatchOption result (HasNoPair name.now self.now) (λ value. IsLast name.now self.now value.now) }
+    {
+        match self
+            .pairs
+            .iter()
+            .rev()
+            .find(|pair| pair.name.as_slice() == name)
+        {
+            Some(pair) => Some(&pair.value),
+            None => None,
         }
     }
 

@@ -1,8 +1,8 @@
 //! Messages in words, and how they are spelled on the wire.
 use crate::miss::{Answer, Miss};
-use crate::server_words::back;
+use crate::server_words::{back, error_fields};
 use crate::values::{short, text};
-use crate::words::{Call, debug, joined};
+use crate::words::{Call, debug, joined, said};
 use bytes::Bytes;
 use repl_message::{
     Back, EncodeFault, Front, Pair, Pairs, Startup, Text, encode_back, encode_front, encode_startup,
@@ -20,7 +20,35 @@ pub fn answer(alloc: Global, call: &Call) -> Answer {
     if let Some([before, kind, words @ ..]) = call.words("back") {
         return spelled_back(alloc, before, kind, words);
     }
+    if let Some([code, words @ ..]) = call.words("field") {
+        return field(alloc, code, words);
+    }
+    if let Some([name, words @ ..]) = call.words("value") {
+        return value(alloc, name, words);
+    }
     Err(Miss::Call)
+}
+
+/// The text of the first of these fields of an error that has this code.
+fn field(alloc: Global, code: &[u8], words: &[Vec<u8>]) -> Answer {
+    let [code] = code else {
+        return Err(Miss::Words);
+    };
+    let fields = error_fields(alloc, words)?;
+    found(alloc, fields.text_of(*code))
+}
+
+/// The value of the last of these parameters that has this name.
+fn value(alloc: Global, name: &[u8], words: &[Vec<u8>]) -> Answer {
+    let pairs = pairs(alloc, words)?;
+    found(alloc, pairs.value_of(name))
+}
+
+fn found(alloc: Global, text: Option<&Text>) -> Answer {
+    match text {
+        Some(text) => Ok(text.as_slice().to_vec(alloc)?),
+        None => said(alloc, "none"),
+    }
 }
 
 fn spelled_startup(alloc: Global, before: &Vec<u8>, kind: &[u8], words: &[Vec<u8>]) -> Answer {
@@ -62,7 +90,7 @@ pub fn bytes_of(word: &Vec<u8>) -> Result<Bytes, Miss> {
 /// What a client sends first.
 fn startup(alloc: Global, call: &Call) -> Result<Startup, Miss> {
     if let Some(words) = call.words("params") {
-        return params(alloc, words);
+        return Ok(Startup::Params(pairs(alloc, words)?));
     }
     if let Some([]) = call.words("ssl") {
         return Ok(Startup::Ssl);
@@ -76,12 +104,12 @@ fn startup(alloc: Global, call: &Call) -> Result<Startup, Miss> {
     Err(Miss::Words)
 }
 
-fn params(alloc: Global, words: &[Vec<u8>]) -> Result<Startup, Miss> {
+fn pairs(alloc: Global, words: &[Vec<u8>]) -> Result<Pairs, Miss> {
     let mut pairs = Vec::new(alloc);
     for words in words.chunks(2) {
         pairs.push(pair(words)?)?;
     }
-    Ok(Startup::Params(Pairs::new(pairs).ok_or(Miss::Words)?))
+    Pairs::new(pairs).ok_or(Miss::Words)
 }
 
 fn pair(words: &[Vec<u8>]) -> Result<Pair, Miss> {

@@ -157,7 +157,7 @@ fn columns(alloc: Global, words: &[Vec<u8>]) -> Result<Columns, Miss> {
 }
 
 /// The fields of an error: the code and the text of each.
-fn error_fields(alloc: Global, words: &[Vec<u8>]) -> Result<ErrorFields, Miss> {
+pub fn error_fields(alloc: Global, words: &[Vec<u8>]) -> Result<ErrorFields, Miss> {
     let mut fields = Vec::new(alloc);
     for field in words.chunks(2) {
         let [code, text] = field else {

@@ -4,12 +4,15 @@ use crate::miss::{Answer, Miss};
 use crate::server_words::back_words;
 use crate::values::text;
 use crate::words::{Call, debug, joined, said};
-use repl_wire::{Message, Phase, Taken, take};
+use repl_wire::{Message, Phase, Taken, judge_head, take};
 use std::alloc::Global;
 
 pub fn answer(alloc: Global, call: &Call) -> Answer {
     if let Some([phase, bytes]) = call.words("take") {
         return took(alloc, phase, bytes);
+    }
+    if let Some([phase, bytes]) = call.words("head") {
+        return debug(alloc, &judge_head(phase_of(phase)?, bytes));
     }
     if let Some([phase, bytes]) = call.words("fronts") {
         return fronts(alloc, phase, bytes);

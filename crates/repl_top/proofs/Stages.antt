@@ -227,11 +227,8 @@ some_replication =
         value = codes "true";
         counts = record {
           before = user_pair ∷ [];
-          last = replication_pair;
           after = [];
           parts = refl;
-          named = refl;
-          valued = refl;
           others = All-nil (λ (p : Pair). p.name ≡ codes "replication" → ⊥);
         };
         asks = inl refl;

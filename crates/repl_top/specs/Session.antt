@@ -1,5 +1,5 @@
 -- The input of `identify`: one session of a client that asks a server who it is.
-use Rattle.std.specs.Prelude.{◌≡◌, ◌≢◌, ℕ, ◌+◌, ◌⊎◌, List, [], ◌∷◌, ◌++◌, length, codes}
+use Rattle.std.specs.Prelude.{◌≡◌, ℕ, ◌+◌, ◌⊎◌, List, [], ◌∷◌, ◌++◌, length, codes}
 use Rattle.std.specs.List.{All, Any}
 use Rattle.repl_message.specs.declared.startup.Pair.{Pair}
 use Rattle.repl_message.specs.declared.startup.Startup.TheVariants as startup
@@ -9,6 +9,7 @@ use Rattle.repl_message.specs.declared.message.Phase.TheVariants as phase
 use Rattle.repl_message.specs.declared.message.Message.{Message}
 use Rattle.repl_message.specs.declared.message.Message.TheVariants as message
 use Rattle.repl_message.specs.declared.message.Side.TheVariants as side
+use Rattle.repl_message.specs.Lists.{IsLast}
 use Rattle.repl_message.specs.Message.{Spells}
 use Rattle.repl_wire.specs.Reader.{AreRead}
 use Rattle.repl_cmd.specs.declared.command.Command.TheVariants as command
@@ -19,16 +20,6 @@ use Rattle.repl_top.specs.Stream.{AreAll}
 -- the values of `replication` that ask for physical replication
 abbrev pub IsTrueValue : List ℕ → Type 0
 IsTrueValue value = (value ≡ codes "true") ⊎ (value ≡ codes "on") ⊎ (value ≡ codes "yes") ⊎ (value ≡ codes "1")
-
--- the last parameter with this name, which is the one that counts, has this value
-pub record IsLast (name : List ℕ) (pairs : List Pair) (value : List ℕ) : Type 0 where
-  pub before : List Pair
-  pub last : Pair
-  pub after : List Pair
-  pub parts : pairs ≡ before ++ last ∷ after
-  pub named : last.name ≡ name
-  pub valued : last.value ≡ value
-  pub others : All (λ (p : Pair). p.name ≢ name) after
 
 -- parameters of protocol options begin so, and no session takes them
 abbrev pub IsOption : List ℕ → Type 0

@@ -7,8 +7,7 @@ use repl_wire::{Pair, Pairs};
 pub(crate) fn asks_for_replication(pairs: &Pairs) -> bool
     ensures { IsTrue result ↔ IsReplication pairs.now }
 {
-    let pairs = pairs.as_slice();
-    has_user(pairs) && is_physical(pairs) && has_no_option(pairs)
+    has_user(pairs.as_slice()) && is_physical(pairs) && has_no_option(pairs.as_slice())
 }
 
 fn has_user(pairs: &[Pair]) -> bool
@@ -33,16 +32,13 @@ fn is_no_option(name: &[u8]) -> bool
 }
 
 /// Whether the last value of `replication` asks for physical replication.
-fn is_physical(pairs: &[Pair]) -> bool
+fn is_physical(pairs: &Pairs) -> bool
     ensures { IsTrue result ↔ IsPhysical pairs.now }
 {
-    let mut physical = false;
-    for pair in pairs {
-        if pair.name.as_slice() == b"replication".as_slice() {
-            physical = is_true_value(pair.value.as_slice());
-        }
+    match pairs.value_of(b"replication") {
+        Some(value) => is_true_value(value.as_slice()),
+        None => false,
     }
-    physical
 }
 
 fn is_true_value(value: &[u8]) -> bool

@@ -16,7 +16,7 @@ use Rattle.repl_message.specs.declared.message.Phase.TheVariants as phase
 use Rattle.repl_message.specs.declared.message.Message.{Message}
 use Rattle.repl_message.specs.declared.message.Message.TheVariants as message
 use Rattle.repl_message.specs.declared.message.TheConstants.{MESSAGE_LIMIT, COPY_DATA_LIMIT}
-use Rattle.repl_message.specs.Message.{int16, int32, string, column, field, error_field, status_byte, framed, back_kind, back_body, back_limit, back_spelling, FitsField, FitsColumn, FitsErrorField, IsBack, Spells}
+use Rattle.repl_message.specs.Message.{int16, int32, string, column, field, error_field, status_byte, framed, back_kind, back_body, back_limit, back_spelling, FitsField, FitsErrorField, IsBack, Spells}
 use Rattle.repl_message.specs.Decoding.{◌>>=◌, string_at, whole}
 use Rattle.repl_message.proofs.FieldLaws.{IsBytes, IsBytes-rest}
 use Rattle.repl_message.proofs.Spellings.{int32_one}
@@ -25,9 +25,10 @@ use Rattle.repl_wire.specs.declared.fault.WireFault.TheVariants as fault
 use Rattle.repl_wire.specs.declared.taking.Taken.{Taken}
 use Rattle.repl_wire.specs.declared.taking.Taken.TheVariants as taken
 use Rattle.repl_wire.specs.Judging.{int16_at, int32_at, counted_at, made, text_of, nothing_of, authentication_of, setting_of, key_of, status_of, description_of, data_row_of, tag_of, error_of, notice_of, copy_done_of, copy_both_of, Row, judge_row, judge_back}
-use Rattle.repl_wire.specs.Places.{description_fields, coded_fields, back_fields, LeavesAt, IsOfBackKind, IsFault}
+use Rattle.repl_wire.specs.Places.{description_fields, coded_fields, column_fields, back_fields, LeavesAt, IsOfBackKind, IsFault}
 use Rattle.repl_wire.proofs.Leaving.{Language, IsBody, Leaves, leaves_here, leaves_behind, leaves_as, leaves_at, Nothing, bind_err, leaves_end, IsParted, HasSome, some_parted, leaves_then, leaves_last}
-use Rattle.repl_wire.proofs.FieldParts.{field_part, text_field, int16_field, int32_field, int32_left, byte_field, column_field}
+use Rattle.repl_wire.proofs.FieldParts.{field_part, text_field, int16_field, int32_field, int32_left, byte_field}
+use Rattle.repl_wire.proofs.ColumnParts.{FitsValue, values_parts, values_from, column_part}
 use Rattle.repl_wire.proofs.ListParts.{IsListed, counted_fields, counted_part}
 use Rattle.repl_wire.proofs.EndedParts.{ended_fields, coded_part}
 use Rattle.repl_wire.proofs.DescriptionParts.{description_part}
@@ -138,7 +139,7 @@ authentication_row = record {
   is = record { fits = tt; within = omega arith };
   kind_is = refl;
   leaves = λ body left is e. leaves_at (IsOfBackKind 82) back_fields (Single (int32 0)) body left
-      (λ fs s. (back.AuthenticationOk, record { fits = tt; kind_is = refl }, sym s)) authentication_from
+      (λ fs s. (back.AuthenticationOk, record { fits = tt; sized = tt; kind_is = refl }, sym s)) authentication_from
       (authentication_leaves body left is e);
 }
 
@@ -175,7 +176,7 @@ setting_long _ e = absurd (omega (arith, e))
 setting_to : (fs : List (List ℕ)) → TwoTexts fs → (m : Back) × IsOfBackKind 83 m × (back_fields m ≡ fs)
 setting_to fs p = (
   back.ParameterStatus p.value p.behind.value,
-  record { fits = (p.fits, p.behind.fits); kind_is = refl },
+  record { fits = (p.fits, p.behind.fits); sized = tt; kind_is = refl },
   ap (λ (t : List (List ℕ)). string p.value ∷ t) (text_is p.more p.behind.more p.behind.value p.behind.parts p.behind.behind)
       ∙ sym p.parts,
 )
@@ -230,7 +231,7 @@ number_is fs more n e nothing = sym (e ∙ ap (λ (t : List (List ℕ)). int32 n
 key_to : (fs : List (List ℕ)) → TwoNumbers fs → (m : Back) × IsOfBackKind 75 m × (back_fields m ≡ fs)
 key_to fs p = (
   back.BackendKeyData p.value p.behind.value,
-  record { fits = (p.fits, p.behind.fits); kind_is = refl },
+  record { fits = (p.fits, p.behind.fits); sized = tt; kind_is = refl },
   ap (λ (t : List (List ℕ)). int32 p.value ∷ t) (number_is p.more p.behind.more p.behind.value p.behind.parts p.behind.behind)
       ∙ sym p.parts,
 )
@@ -313,7 +314,7 @@ status_row = record {
   is = record { fits = tt; within = omega arith };
   kind_is = refl;
   leaves = λ body left is e. leaves_at (IsOfBackKind 90) back_fields Status body left
-      (λ fs s. (back.ReadyForQuery s.0, record { fits = tt; kind_is = refl }, sym s.1)) status_from (status_leaves body left e);
+      (λ fs s. (back.ReadyForQuery s.0, record { fits = tt; sized = tt; kind_is = refl }, sym s.1)) status_from (status_leaves body left e);
 }
 
 -- ---- lists that their length counts
@@ -364,7 +365,7 @@ description_row = record {
   leaves = λ body left is e. leaves_at (IsOfBackKind 84) back_fields Descriptions body left
       (λ fs p. (
         back.RowDescription p.value,
-        record { fits = (p.fits.few, p.fits.each); kind_is = refl },
+        record { fits = (p.fits.few, p.fits.each); sized = tt; kind_is = refl },
         all_of fs (counted_fields description_fields p.value) p.more p.parts p.behind,
       )) description_from
       (description_leaves body left is e);
@@ -373,23 +374,20 @@ description_row = record {
 -- ---- DataRow
 
 abbrev Columns : Language
-Columns = Listed FitsColumn (λ c. column c ∷ [])
+Columns = Listed FitsValue column_fields
 
 data_row_leaves : (body : List ℕ) (left : ℕ) → IsBody body → data_row_of body ≡ Err left → Leaves Columns body left
 unfolding data_row_of
-data_row_leaves body left is e = leaves_last (counted_part (field_part column_field))
+data_row_leaves body left is e = leaves_last (counted_part column_part)
     (λ (columns : List (Option (List ℕ))). back.DataRow columns) body left is e
 
 data_row_long : AreLong 68 2 MESSAGE_LIMIT
 data_row_long (back.DataRow columns) e = (omega (arith, length-append (int16 (length columns)) (flat_map column columns)), refl)
 data_row_long _ e = absurd (omega (arith, e))
 
-columns_fields : (columns : List (Option (List ℕ))) → counted_fields (λ c. column c ∷ []) columns ≡ back_fields (back.DataRow columns)
-columns_fields columns = ap (λ (t : List (List ℕ)). int16 (length columns) ∷ t) (flat_map_single column columns)
-
 data_row_from : (m : Back) → IsOfBackKind 68 m → Columns (back_fields m)
-data_row_from (back.DataRow columns) is = subst Columns (columns_fields columns)
-    (listed_from FitsColumn (λ c. column c ∷ []) columns (record { few = is.fits.0; each = is.fits.1 }))
+data_row_from (back.DataRow columns) is = listed_from FitsValue column_fields columns
+    (record { few = is.fits.0; each = values_from columns is.fits.1 is.sized })
 data_row_from _ is = absurd (omega (arith, is.kind_is))
 
 data_row_row : IsRow 68 2 MESSAGE_LIMIT data_row_of
@@ -402,9 +400,12 @@ data_row_row = record {
   leaves = λ body left is e. leaves_at (IsOfBackKind 68) back_fields Columns body left
       (λ fs p. (
         back.DataRow p.value,
-        record { fits = (p.fits.few, p.fits.each); kind_is = refl },
-        sym (columns_fields p.value)
-            ∙ all_of fs (counted_fields (λ c. column c ∷ []) p.value) p.more p.parts p.behind,
+        record {
+          fits = (p.fits.few, (values_parts p.value p.fits.each).0);
+          sized = (values_parts p.value p.fits.each).1;
+          kind_is = refl;
+        },
+        all_of fs (counted_fields column_fields p.value) p.more p.parts p.behind,
       )) data_row_from
       (data_row_leaves body left is e);
 }
@@ -435,7 +436,7 @@ tag_row = record {
   is = record { fits = no_text; within = omega arith };
   kind_is = refl;
   leaves = λ body left is e. leaves_at (IsOfBackKind 67) back_fields OneText body left
-      (λ fs p. (back.CommandComplete p.value, record { fits = p.fits; kind_is = refl }, text_is fs p.more p.value p.parts p.behind))
+      (λ fs p. (back.CommandComplete p.value, record { fits = p.fits; sized = tt; kind_is = refl }, text_is fs p.more p.value p.parts p.behind))
       tag_from (tag_leaves body left is e);
 }
 
@@ -481,7 +482,7 @@ error_row = record {
   leaves = λ body left is e. leaves_at (IsOfBackKind 69) back_fields Codes body left
       (λ fs p. (
         back.ErrorResponse p.value,
-        record { fits = p.fits; kind_is = refl },
+        record { fits = p.fits; sized = tt; kind_is = refl },
         all_of fs (ended_fields coded_fields p.value) p.more p.parts p.behind,
       )) error_from (error_leaves body left is e);
 }
@@ -496,7 +497,7 @@ notice_row = record {
   leaves = λ body left is e. leaves_at (IsOfBackKind 78) back_fields Codes body left
       (λ fs p. (
         back.NoticeResponse p.value,
-        record { fits = p.fits; kind_is = refl },
+        record { fits = p.fits; sized = tt; kind_is = refl },
         all_of fs (ended_fields coded_fields p.value) p.more p.parts p.behind,
       )) notice_from (notice_leaves body left is e);
 }
@@ -537,7 +538,7 @@ done_row = record {
   is = record { fits = tt; within = omega arith };
   kind_is = refl;
   leaves = λ body left is e. leaves_at (IsOfBackKind 99) back_fields Nothing body left
-      (λ fs n. (back.CopyDone, record { fits = tt; kind_is = refl }, sym n)) done_from (done_leaves body left e);
+      (λ fs n. (back.CopyDone, record { fits = tt; sized = tt; kind_is = refl }, sym n)) done_from (done_leaves body left e);
 }
 
 -- ---- CopyBothResponse
@@ -571,7 +572,7 @@ both_long _ e = absurd (omega (arith, e))
 both_to : (fs : List (List ℕ)) → FormatThen fs → (m : Back) × IsOfBackKind 87 m × (back_fields m ≡ fs)
 both_to fs p = (
   back.CopyBoth p.value p.behind.value,
-  record { fits = (p.fits, p.behind.fits.few, p.behind.fits.each); kind_is = refl },
+  record { fits = (p.fits, p.behind.fits.few, p.behind.fits.each); sized = tt; kind_is = refl },
   ap (λ (t : List (List ℕ)). (p.value ∷ []) ∷ t) (sym (formats_fields p.behind.value)
       ∙ all_of p.more (counted_fields (λ n. int16 n ∷ []) p.behind.value) p.behind.more p.behind.parts p.behind.behind) ∙ sym p.parts,
 )

@@ -1,5 +1,5 @@
 -- The fields of a body, one after another, are the body, and no message of a phase begins another.
-use Rattle.std.proofs.Common.{◌≡◌, ℕ, List, [], ◌∷◌, ◌++◌, length, map, refl, sym, ap, ◌∙◌, append_assoc}
+use Rattle.std.proofs.Common.{◌≡◌, ℕ, List, [], ◌∷◌, ◌++◌, length, map, Option, Some, None, refl, sym, ap, ◌∙◌, append_assoc}
 use Rattle.std.specs.List.{concat, flat_map}
 use Rattle.std.proofs.lemmas.List.{append-nil}
 use Rattle.repl_message.specs.declared.startup.Startup.{Startup}
@@ -17,7 +17,7 @@ use Rattle.repl_message.specs.declared.message.Message.{Message}
 use Rattle.repl_message.specs.declared.message.Message.TheVariants as message
 use Rattle.repl_message.specs.Message.{int16, int32, string, pair, field, column, error_field, ended, startup_code, startup_body, front_body, back_body, spelling, Belongs, Spells}
 use Rattle.repl_message.proofs.OneSpelling.{startups_one, fronts_one, backs_one}
-use Rattle.repl_wire.specs.Places.{pair_fields, startup_fields, front_fields, description_fields, coded_fields, back_fields}
+use Rattle.repl_wire.specs.Places.{pair_fields, startup_fields, front_fields, description_fields, coded_fields, column_fields, back_fields}
 
 -- ---- fields
 
@@ -52,6 +52,10 @@ description_is f = ap (λ (t : List ℕ). string f.name ++ t) refl
 pub coded_is : (f : ErrorField) → error_field f ≡ concat (coded_fields f)
 coded_is f = ap (λ (t : List ℕ). f.code ∷ t) (sym (append-nil (string f.text)))
 
+pub column_is : (c : Option (List ℕ)) → column c ≡ concat (column_fields c)
+column_is None = sym (append-nil (int32 0xffff_ffff))
+column_is (Some bytes) = ap (λ (t : List ℕ). int32 (length bytes) ++ t) (sym (append-nil bytes))
+
 -- ---- bodies
 
 pub startup_spell : (m : Startup) → startup_body m ≡ int32 (startup_code m) ++ concat (startup_fields m)
@@ -74,7 +78,7 @@ back_spell (back.BackendKeyData pid key) = refl
 back_spell (back.ReadyForQuery status) = refl
 back_spell (back.RowDescription fields) = ap (λ (t : List ℕ). int16 (length fields) ++ t)
     (concat-entries description_fields field description_is fields)
-back_spell (back.DataRow columns) = ap (λ (t : List ℕ). int16 (length columns) ++ t) (concat-map column columns)
+back_spell (back.DataRow columns) = ap (λ (t : List ℕ). int16 (length columns) ++ t) (concat-entries column_fields column column_is columns)
 back_spell (back.CommandComplete tag) = sym (append-nil (string tag))
 back_spell (back.ErrorResponse fields) = concat-ended coded_fields error_field coded_is fields
 back_spell (back.NoticeResponse fields) = concat-ended coded_fields error_field coded_is fields

@@ -10,6 +10,7 @@ pub mod Cuts
 pub mod Leaving
 pub mod FieldSpellings
 pub mod FieldParts
+pub mod ColumnParts
 pub mod ListParts
 pub mod EndedParts
 pub mod FramePlaces
@@ -23,3 +24,6 @@ pub mod PlaceLaws
 pub mod Sent
 pub mod Streams
 pub mod Given
+pub mod Heads
+pub mod Ranges
+pub mod FrameHeads

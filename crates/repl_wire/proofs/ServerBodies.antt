@@ -17,7 +17,7 @@ use Rattle.repl_message.specs.Message.{int16, int32, string, field, column, erro
 use Rattle.repl_message.specs.Decoding.{◌>>=◌, string_at, whole}
 use Rattle.repl_wire.specs.Judging.{byte_at, int16_at, int32_at, counted_at, field_at, column_at, coded_at, made, text_of, nothing_of, authentication_of, setting_of, key_of, status_of, description_of, data_row_of, tag_of, error_of, notice_of, copy_done_of, copy_both_of, Row, usual, back_row}
 use Rattle.repl_message.proofs.FieldLaws.{IsBytes, bind_ok, ok_is, whole_takes, Takes, Takes-then, Takes-all, string_again}
-use Rattle.repl_message.proofs.EntrySpellings.{IsShort, all_short}
+use Rattle.repl_wire.specs.Places.{IsSized}
 use Rattle.repl_wire.proofs.BodyLaws.{text_takes, text_again, nothing_takes, nothing_again, are_bytes}
 use Rattle.repl_wire.proofs.ServerFields.{read_then, read_last, byte_reads, int16_reads, int16_reads_again, int32_reads, int32_at_again, string_reads, field_reads, field_reads_again, column_reads, column_reads_again, counted_taken, counted_again, coded_taken, coded_again, length-coded}
 
@@ -337,12 +337,12 @@ description_again fields few fits =
     read_then (counted_at field_at (counted field fields)) (λ (f : List Field × List ℕ). whole (back.RowDescription f.0, f.1)) (fields, [])
     (Ok (back.RowDescription fields)) (counted_again field_reads_again fields few fits) refl
 
-data_row_again : (columns : List (Option (List ℕ))) → length columns ≤ LIST_LIMIT → AllByRecursion IsShort columns
+data_row_again : (columns : List (Option (List ℕ))) → length columns ≤ LIST_LIMIT → AllByRecursion IsSized columns
     → data_row_of (counted column columns) ≡ Ok (back.DataRow columns)
 unfolding data_row_of
-data_row_again columns few short =
+data_row_again columns few sized =
     read_then (counted_at column_at (counted column columns)) (λ (c : List (Option (List ℕ)) × List ℕ). whole (back.DataRow c.0, c.1))
-    (columns, []) (Ok (back.DataRow columns)) (counted_again column_reads_again columns few short) refl
+    (columns, []) (Ok (back.DataRow columns)) (counted_again column_reads_again columns few sized) refl
 
 tag_again : (tag : List ℕ) → IsText tag → tag_of (string tag) ≡ Ok (back.CommandComplete tag)
 unfolding tag_of
@@ -383,8 +383,16 @@ copy_both_again format formats few fits =
     (Ok (back.CopyBoth format formats)) (counted_again int16_reads_again formats few fits) refl
 
 -- values within a message are short
-columns_short : (columns : List (Option (List ℕ))) → IsBack (back.DataRow columns) → AllByRecursion IsShort columns
-columns_short columns is = all_short columns (omega (arith, is.within, length-append (int16 (length columns)) (flat_map column columns)))
+all_sized : (columns : List (Option (List ℕ))) → length (flat_map column columns) < 2 ^ 31 → AllByRecursion IsSized columns
+all_sized [] short = tt
+all_sized (None ∷ columns) short =
+    (tt, all_sized columns (omega (arith, length-append (int32 0xffff_ffff) (flat_map column columns))))
+all_sized (Some v ∷ columns) short =
+    let whole = length-append (column (Some v)) (flat_map column columns) in
+    (omega (arith, whole, length-append (int32 (length v)) v), all_sized columns (omega (arith, whole)))
+
+columns_sized : (columns : List (Option (List ℕ))) → IsBack (back.DataRow columns) → AllByRecursion IsSized columns
+columns_sized columns is = all_sized columns (omega (arith, is.within, length-append (int16 (length columns)) (flat_map column columns)))
 
 pub has_row : (m : Back) → IsBack m → HasRow m
 has_row back.AuthenticationOk is =
@@ -441,7 +449,7 @@ has_row (back.DataRow columns) is =
           omega (arith, length-append (int16 (length columns)) (flat_map column columns));
       limit_is = refl;
       below = omega arith;
-      again = data_row_again columns is.fits.0 (columns_short columns is);
+      again = data_row_again columns is.fits.0 (columns_sized columns is);
     }
 has_row (back.CommandComplete tag) is =
     record {

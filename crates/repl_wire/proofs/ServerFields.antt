@@ -21,7 +21,7 @@ use Rattle.repl_message.specs.Message.{int16, int32, signed16, signed32, string,
 use Rattle.repl_message.specs.Decoding.{◌>>=◌, string_at, number}
 use Rattle.repl_wire.specs.Judging.{Fails, byte_at, int16_at, int32_at, entries_at, counted_at, field_at, column_at, coded_at}
 use Rattle.repl_message.proofs.FieldLaws.{IsBytes, IsBytes-rest, IsBytes-take, IsBytes-drop, bind_ok, ok_is, Takes, Takes-then, Takes-ended, Takes-cons, ended-cons, int16_takes, int16_again, int32_takes, int32_again, string_takes, string_again}
-use Rattle.repl_message.proofs.EntrySpellings.{IsShort}
+use Rattle.repl_wire.specs.Places.{IsSized}
 use Rattle.repl_wire.proofs.BodyLaws.{are_bytes}
 
 -- ---- entries one after the other
@@ -410,14 +410,17 @@ ColumnRead = Option (List ℕ) × List ℕ
 
 abbrev after_length : List ℕ → ℕ × List ℕ → Result ColumnRead ℕ
 after_length bytes size = cond (eqb size.0 0xffff_ffff) (Ok (None, size.1))
-    (cond (ltb (length size.1) size.0) (Err (length bytes)) (Ok (Some (take size.0 size.1), drop size.0 size.1)))
+    (cond (ltb 0x7fff_ffff size.0) (Err (length bytes))
+    (cond (ltb (length size.1) size.0) (Err (length size.1)) (Ok (Some (take size.0 size.1), drop size.0 size.1))))
 
 -- a null, or a value that is there
-column_cases : (null short : Bool) (left : ℕ) (a b y : ColumnRead) → cond null (Ok a) (cond short (Err left) (Ok b)) ≡ Ok y
+column_cases : (null out short : Bool) (at behind : ℕ) (a b y : ColumnRead)
+    → cond null (Ok a) (cond out (Err at) (cond short (Err behind) (Ok b))) ≡ Ok y
     → ((null ≡ true) × (a ≡ y)) ⊎ ((short ≡ false) × (b ≡ y))
-column_cases true short left a b y e = inl (refl, cc)
-column_cases false true left a b y e = absurd cc
-column_cases false false left a b y e = inr (refl, cc)
+column_cases true out short at behind a b y e = inl (refl, cc)
+column_cases false true short at behind a b y e = absurd cc
+column_cases false false true at behind a b y e = absurd cc
+column_cases false false false at behind a b y e = inr (refl, cc)
 
 column_taken : (bytes : List ℕ) (x : ColumnRead) → IsBytes bytes → column_at bytes ≡ Ok x → IsTaken FitsColumn column bytes x
 unfolding column_at
@@ -426,8 +429,8 @@ column_taken bytes x fits e =
     let n = s.0.0 in
     let behind = s.0.1 in
     let size = int32_taken bytes s.0 fits s.1 in
-    elim (column_cases (eqb n 0xffff_ffff) (ltb (length behind) n) (length bytes) (None, behind) (Some (take n behind), drop n behind) x
-    s.2) [
+    elim (column_cases (eqb n 0xffff_ffff) (ltb 0x7fff_ffff n) (ltb (length behind) n) (length bytes) (length behind) (None, behind)
+    (Some (take n behind), drop n behind) x s.2) [
       | inl null ↦ subst (IsTaken FitsColumn column bytes) null.1
           (subst (λ (k : ℕ). Takes bytes (int32 k) behind) (eqb-true _ _ null.0) size.0, tt)
       | inr there ↦
@@ -446,25 +449,25 @@ column_taken bytes x fits e =
 pub column_reads : Reads FitsColumn column column_at
 column_reads = record { takes = column_taken }
 
-value_read : (n : ℕ) (v rest bytes : List ℕ) → n ≡ length v → n < 0xffff_ffff → after_length bytes (n, v ++ rest) ≡ Ok (Some v, rest)
+value_read : (n : ℕ) (v rest bytes : List ℕ) → n ≡ length v → n < 2 ^ 31 → after_length bytes (n, v ++ rest) ≡ Ok (Some v, rest)
 value_read n v rest bytes len short =
     let not_null : eqb n 0xffff_ffff ≡ false = ne_eqb n 0xffff_ffff (λ same. omega arith) in
+    let sized : ltb 0x7fff_ffff n ≡ false = le-ltb 0x7fff_ffff n (omega arith) in
     let there : ltb (length (v ++ rest)) n ≡ false = le-ltb (length (v ++ rest)) n (omega (arith, length-append v rest)) in
-    rw (not_null, there, take_at v rest n (sym len), drop_at v rest n (sym len)) refl
+    rw (not_null, sized, there, take_at v rest n (sym len), drop_at v rest n (sym len)) refl
 
-column_again : (c : Option (List ℕ)) (rest : List ℕ) → IsShort c → column_at (column c ++ rest) ≡ Ok (c, rest)
+column_again : (c : Option (List ℕ)) (rest : List ℕ) → IsSized c → column_at (column c ++ rest) ≡ Ok (c, rest)
 unfolding column_at
-column_again None rest short = read_then (int32_at (int32 0xffff_ffff ++ rest)) (after_length (int32 0xffff_ffff ++ rest))
+column_again None rest sized = read_then (int32_at (int32 0xffff_ffff ++ rest)) (after_length (int32 0xffff_ffff ++ rest))
     (0xffff_ffff, rest) (Ok (None, rest)) (int32_at_again 0xffff_ffff rest (omega arith)) refl
-column_again (Some v) rest short =
+column_again (Some v) rest sized =
     let bytes = column (Some v) ++ rest in
-    let few : length v < 0xffff_ffff = omega (arith, length-append (int32 (length v)) v) in
     let regrouped : bytes ≡ int32 (length v) ++ (v ++ rest) = append_assoc (int32 (length v)) v rest in
     let size : int32_at bytes ≡ Ok (length v, v ++ rest) = ap int32_at regrouped ∙ int32_at_again (length v) (v ++ rest) (omega arith) in
     read_then (int32_at bytes) (after_length bytes) (length v, v ++ rest) (Ok (Some v, rest)) size
-    (value_read (length v) v rest bytes refl few)
+    (value_read (length v) v rest bytes refl sized)
 
-pub column_reads_again : ReadsAgain IsShort column column_at
+pub column_reads_again : ReadsAgain IsSized column column_at
 column_reads_again = record { again = column_again }
 
 -- ---- entries

@@ -115,13 +115,13 @@ field_at bytes = do
     format.1,
   )
 
--- A value of DataRow. Its length and its bytes are one field: no body goes on with a length that is not that of
--- a null and is more than what is left.
+-- A value of DataRow: its length, which is that of a null or at most that of the longest value, and its bytes.
 unfoldable pub column_at : List ℕ → Result (Option (List ℕ) × List ℕ) ℕ
 column_at bytes = do
   size ← int32_at bytes
   if size.0 == 0xffff_ffff then Ok (None, size.1)
-      else if nat_lt (length size.1) size.0 then Err (length bytes)
+      else if nat_lt 0x7fff_ffff size.0 then Err (length bytes)
+      else if nat_lt (length size.1) size.0 then Err (length size.1)
       else Ok (Some (take size.0 size.1), drop size.0 size.1)
 
 -- codes that are not 0, each with a string, up to a zero byte where a code would stand, in so many turns at most

@@ -1,3 +1,4 @@
 pub mod Judging
+pub mod Head
 pub mod Places
 pub mod Reader

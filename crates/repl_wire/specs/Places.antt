@@ -1,6 +1,6 @@
 -- Where a fault stands: the first field with which no message goes on.
-use Rattle.std.specs.Prelude.{◌≡◌, ◌≢◌, ℕ, ◌+◌, ◌<◌, ◌≤◌, ◌⊎◌, List, [], ◌∷◌, ◌++◌, map, flat_map, length, take, drop}
-use Rattle.std.specs.List.{concat}
+use Rattle.std.specs.Prelude.{◌≡◌, ◌≢◌, ℕ, ◌+◌, ◌^◌, ◌<◌, ◌≤◌, ◌⊎◌, List, [], ◌∷◌, ◌++◌, map, flat_map, length, take, drop, Option, Some, None}
+use Rattle.std.specs.List.{concat, AllByRecursion}
 use Rattle.repl_text.specs.Language.{Begins}
 use Rattle.repl_message.specs.declared.startup.Pair.{Pair}
 use Rattle.repl_message.specs.declared.startup.Startup.{Startup}
@@ -16,7 +16,7 @@ use Rattle.repl_message.specs.declared.message.Phase.TheVariants as phase
 use Rattle.repl_message.specs.declared.message.Message.{Message}
 use Rattle.repl_message.specs.declared.message.TheConstants.{STARTUP_LEAST, STARTUP_LIMIT}
 use Rattle.repl_message.specs.declared.startup.TheConstants.{CANCEL_REQUEST}
-use Rattle.repl_message.specs.Message.{int16, int32, signed16, signed32, string, column, status_byte, startup_code, front_kind, back_kind, FitsStartup, FitsFront, FitsBack, Spells}
+use Rattle.repl_message.specs.Message.{int16, int32, signed16, signed32, string, status_byte, startup_code, front_kind, back_kind, FitsStartup, FitsFront, FitsBack, Spells}
 use Rattle.repl_message.specs.Decoding.{number}
 use Rattle.repl_wire.specs.declared.fault.WireFault.{WireFault}
 use Rattle.repl_wire.specs.declared.fault.WireFault.TheVariants as fault
@@ -47,14 +47,18 @@ description_fields f = string f.name ∷ int32 f.table ∷ signed16 f.attribute 
 abbrev pub coded_fields : ErrorField → List (List ℕ)
 coded_fields f = (f.code ∷ []) ∷ string f.text ∷ []
 
--- a value of DataRow and its length are one field
+-- a value of DataRow: its length, and then its bytes, or the length of a null
+abbrev pub column_fields : Option (List ℕ) → List (List ℕ)
+column_fields None = int32 0xffff_ffff ∷ []
+column_fields (Some bytes) = int32 (length bytes) ∷ bytes ∷ []
+
 abbrev pub back_fields : Back → List (List ℕ)
 back_fields back.AuthenticationOk = int32 0 ∷ []
 back_fields (back.ParameterStatus name value) = string name ∷ string value ∷ []
 back_fields (back.BackendKeyData pid key) = int32 pid ∷ int32 key ∷ []
 back_fields (back.ReadyForQuery status) = (status_byte status ∷ []) ∷ []
 back_fields (back.RowDescription fields) = int16 (length fields) ∷ flat_map description_fields fields
-back_fields (back.DataRow columns) = int16 (length columns) ∷ map column columns
+back_fields (back.DataRow columns) = int16 (length columns) ∷ flat_map column_fields columns
 back_fields (back.CommandComplete tag) = string tag ∷ []
 back_fields (back.ErrorResponse fields) = flat_map coded_fields fields ++ (0 ∷ []) ∷ []
 back_fields (back.NoticeResponse fields) = flat_map coded_fields fields ++ (0 ∷ []) ∷ []
@@ -85,8 +89,18 @@ pub record IsOfFrontKind (kind : ℕ) (m : Front) : Type 0 where
   pub fits : FitsFront m
   pub kind_is : front_kind m ≡ kind
 
+-- a value's length is a signed number of 32 bits, and not below 0
+abbrev pub IsSized : Option (List ℕ) → Type 0
+IsSized None = Unit {0}
+IsSized (Some bytes) = length bytes < 2 ^ 31
+
+abbrev pub AreSized : Back → Type 0
+AreSized (back.DataRow columns) = AllByRecursion IsSized columns
+AreSized _ = Unit {0}
+
 pub record IsOfBackKind (kind : ℕ) (m : Back) : Type 0 where
   pub fits : FitsBack m
+  pub sized : AreSized m
   pub kind_is : back_kind m ≡ kind
 
 -- A request to cancel has one length, and another is refused at the first byte behind the code.

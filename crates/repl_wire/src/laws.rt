@@ -1,4 +1,4 @@
-ghost use Rattle.std.specs.Prelude.{◌≡◌, ℕ, ◌+◌, ◌^◌, ◌<◌, List, [], ◌∷◌, ◌++◌, length};
+ghost use Rattle.std.specs.Prelude.{◌≡◌, ℕ, ◌+◌, ◌^◌, ◌<◌, ◌≤◌, List, [], ◌∷◌, ◌++◌, length, take};
 ghost use Rattle.repl_message.specs.Encoding.{capped};
 ghost use Rattle.std.specs.List.{concat};
 ghost use Rattle.repl_message.specs.declared.startup.Startup.{Startup};
@@ -8,6 +8,11 @@ ghost use Rattle.repl_message.specs.declared.message.Phase.{Phase};
 ghost use Rattle.repl_message.specs.declared.message.Message.{Message};
 ghost use Rattle.repl_message.specs.Message.{startup_code, startup_body, front_body, back_body, int32, Belongs, Spells, after, spelling};
 ghost use Rattle.repl_wire.specs.declared.reader.Step.{Step};
+ghost use Rattle.repl_wire.specs.declared.fault.WireFault.{WireFault};
+ghost use Rattle.repl_wire.specs.declared.head.Head.{Head};
+ghost use Rattle.repl_wire.specs.declared.taking.Taken.{Taken};
+ghost use Rattle.repl_wire.specs.Head.{head_of, EndsAt};
+ghost use Rattle.repl_wire.specs.Judging.{judge};
 ghost use Rattle.repl_wire.specs.Reader.{HasGiven, Reading, ReadsStream, fed};
 ghost use Rattle.repl_wire.specs.Places.{startup_fields, front_fields, back_fields};
 
@@ -42,4 +47,17 @@ pub fn fields_spell()
     ensures startup { (m : Startup) → startup_body m ≡ int32 (startup_code m) ++ concat (startup_fields m) }
     ensures front { (m : Front) → front_body m ≡ concat (front_fields m) }
     ensures back { (m : Back) → back_body m ≡ concat (back_fields m) }
+{}
+
+/// What the head of a frame says of the judgment of the whole. It is refused for its type byte or its length field
+/// exactly where its head is, and otherwise only once all of it is there, at a field of its body.
+pub fn head_decides()
+    ensures short { (p : Phase) (bytes : List ℕ) → head_of p bytes ≡ Head.Short → judge p bytes ≡ Taken.Short }
+    ensures wrong { (p : Phase) (bytes : List ℕ) (f : WireFault) → head_of p bytes ≡ Head.Wrong f → judge p bytes ≡ Taken.Wrong f }
+    ensures part { (p : Phase) (bytes : List ℕ) (size : ℕ) → head_of p bytes ≡ Head.Frame size → length bytes < size →
+        judge p bytes ≡ Taken.Short }
+    ensures whole { (p : Phase) (bytes : List ℕ) (size : ℕ) → head_of p bytes ≡ Head.Frame size → size ≤ length bytes →
+        EndsAt size (judge p bytes) }
+    // Nothing behind the first five bytes counts.
+    ensures first { (p : Phase) (bytes : List ℕ) → head_of p (take 5 bytes) ≡ head_of p bytes }
 {}

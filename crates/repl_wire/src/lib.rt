@@ -24,13 +24,15 @@
 
 mod fault;
 mod fields;
+mod head;
 mod laws;
 mod reader;
 mod server_fields;
 mod taking;
 
 pub use fault::WireFault;
-pub use laws::{any_cuts, fields_spell, one_after_another, one_message};
+pub use head::{Head, judge_head};
+pub use laws::{any_cuts, fields_spell, head_decides, one_after_another, one_message};
 pub use reader::{FrameReader, PIECE_LIMIT, READER_ROOM, Step};
 pub use repl_message::{
     Back, COPY_DATA_LIMIT, Column, Columns, EncodeFault, ErrorField, ErrorFields, Field, Fields,

@@ -2,6 +2,7 @@ ghost use Rattle.std.specs.Prelude.{◌≡◌, ◌+◌, ◌-◌, ◌≤◌, ◌�
 ghost use Rattle.repl_message.specs.declared.message.Message.{Message};
 ghost use Rattle.repl_message.specs.Message.{Belongs, after, spelling};
 ghost use Rattle.repl_message.specs.Encoding.{capped};
+ghost use Rattle.repl_wire.specs.Head.{HoldsFrame};
 ghost use Rattle.repl_wire.specs.Reader.{Reading, Waits, Answers, first_phase, fed};
 
 use crate::fault::WireFault;
@@ -124,6 +125,8 @@ impl FrameReader {
         // What is spelled so is given, whatever follows it, unless memory runs out.
         ensures only { (m : Message) (behind : List ℕ) → Belongs self.old.phase m → self.old.rest ≡ spelling m ++ behind →
             (result ≡ Step.Message m) ⊎ (result ≡ Step.Memory) }
+        // Memory runs out only where a whole frame stands there.
+        ensures memory { result ≡ Step.Memory → HoldsFrame self.old.phase self.old.rest }
         ensures held { length self.new.rest ≤ READER_ROOM }
     {
         match take(alloc, self.phase, self.rest()) {

@@ -11,6 +11,11 @@ use std::alloc::Global;
 /// The length of a null in a row, -1 read as unsigned.
 const NULL: u32 = 0xffff_ffff;
 
+/// The greatest length of a value in a row: a length is a signed number of 32 bits.
+const VALUE_LIMIT: u32 = 0x7fff_ffff;
+
+const _: () = prove!(VALUE_LIMIT == 2_147_483_647);
+
 /// The byte at the front of a body, and the bytes after it.
 fn byte_of(bytes: &[u8]) -> Result<(u8, &[u8]), FieldFault>
     ensures { Gives (λ x. (x.0, x.1.now)) result (byte_at bytes.now) }
@@ -67,7 +72,8 @@ fn field_of(alloc: Global, bytes: &[u8]) -> Result<(Field, &[u8]), FieldFault>
     Ok((field, rest))
 }
 
-/// A value of DataRow, and the bytes after it.
+/// A value of DataRow, and the bytes after it. A length that no value has is no field of a body; with another, behind
+/// which too few bytes stand, a body goes on, and not with what stands behind it.
 #[tactic(auto, unfolding(crate::specs::Judging::column_at))]
 fn column_of(alloc: Global, bytes: &[u8]) -> Result<(Column, &[u8]), FieldFault>
     ensures { Gives (λ x. (x.0, x.1.now)) result (column_at bytes.now) }
@@ -76,9 +82,12 @@ fn column_of(alloc: Global, bytes: &[u8]) -> Result<(Column, &[u8]), FieldFault>
     if said == NULL {
         return Ok((None, rest));
     }
+    if said > VALUE_LIMIT {
+        return Err(FieldFault::Left(bytes.len()));
+    }
     let size = said as usize;
     if rest.len() < size {
-        return Err(FieldFault::Left(bytes.len()));
+        return Err(FieldFault::Left(rest.len()));
     }
     let (value, rest) = rest.split_at(size);
     Ok((Some(Bytes::copy_from_slice(alloc, value)?), rest))

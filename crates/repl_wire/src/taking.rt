@@ -1,15 +1,19 @@
+//! Reading the message at the front of a buffer. What `take` calls for each message is told to be compiled into it, as
+//! bench/frames.sh measures.
 ghost use Rattle.std.specs.Prelude.{◌≡◌, ℕ, ◌+◌, ◌<◌, ◌≤◌, ◌⊎◌, List, ◌++◌, length, take, IfOk, IfErr, IsSome, MatchOption, Result};
 ghost use Rattle.std.specs.Option.{option_copied, option_map};
 ghost use Rattle.repl_message.specs.Message.{Spells};
 ghost use Rattle.repl_wire.specs.declared.fault.WireFault.{WireFault};
 ghost use Rattle.repl_wire.specs.Places.{IsFault};
 ghost use Rattle.repl_message.specs.Decoding.{number};
-ghost use Rattle.repl_wire.specs.Judging.{IsJudged, Gives, judge, judge_startup, judge_sent, Row, back_row, front_lengths, lengths_of, front_of, message_of, judge_packet, ended_at, made, parameters_of, nothing_of, two_numbers_of, frame_of};
+ghost use Rattle.repl_wire.specs.Head.{HoldsFrame, head_of, sent_head};
+ghost use Rattle.repl_wire.specs.Judging.{IsJudged, Gives, judge, judge_startup, judge_sent, front_lengths, lengths_of, front_of, message_of, judge_packet, ended_at, made, parameters_of, nothing_of, two_numbers_of};
 
 use crate::fault::WireFault;
 use crate::fields::{
     FieldFault, read_bytes, read_nothing, read_parameters, read_text, read_two_numbers,
 };
+use crate::head::{Head, judge_head};
 use crate::server_fields::read_back;
 use repl_message::{
     CANCEL_REQUEST, COPY_DATA_LIMIT, Front, GSS_REQUEST, MESSAGE_LIMIT, Message, PROTOCOL_3_0,
@@ -35,6 +39,7 @@ pub enum Taken {
 /// It reads every message that may be sent in the phase: every startup packet, every message of the client,
 /// or every message of the server. A packet of another code is refused at its code, another message at its
 /// type byte, and where the session is over any byte.
+#[inline(never)]
 pub fn take(alloc: Global, phase: Phase, bytes: &[u8]) -> Taken
     // What is read is spelled so.
     ensures found { (m : Message) (used : ℕ) → result ≡ Taken.Whole m used →
@@ -46,50 +51,37 @@ pub fn take(alloc: Global, phase: Phase, bytes: &[u8]) -> Taken
     ensures place { (fault : WireFault) → result ≡ Taken.Wrong fault → IsFault phase bytes.now fault }
     // Which answer it is, and which fault.
     ensures exact { IsJudged result (judge phase bytes.now) }
+    // Memory runs out only where a whole frame stands there.
+    ensures memory { result ≡ Taken.Memory → HoldsFrame phase bytes.now }
+{
+    let size = match judge_head(phase, bytes) {
+        Head::Frame(size) => size,
+        Head::Short => return Taken::Short,
+        Head::Wrong(fault) => return Taken::Wrong(fault),
+    };
+    if bytes.len() < size {
+        return Taken::Short;
+    }
+    take_frame(alloc, phase, bytes, size)
+}
+
+/// Reads the message in the frame of so many bytes at the front of the bytes.
+#[inline(always)]
+fn take_frame(alloc: Global, phase: Phase, bytes: &[u8], size: usize) -> Taken
+    requires head { head_of phase bytes.now ≡ Head.Frame size }
+    requires there { size ≤ length bytes.now }
+    ensures { IsJudged result (judge phase bytes.now) }
 {
     match phase {
-        Phase::Startup => take_startup(alloc, bytes),
-        Phase::Front => take_sent(alloc, Side::Front, bytes),
-        Phase::Back => take_sent(alloc, Side::Back, bytes),
-        Phase::Ended => match bytes {
-            [] => Taken::Short,
-            [_, ..] => Taken::Wrong(WireFault::Kind(0)),
-        },
+        Phase::Startup => take_startup(alloc, bytes, size),
+        Phase::Front => take_sent(alloc, Side::Front, bytes, size),
+        Phase::Back => take_sent(alloc, Side::Back, bytes, size),
+        Phase::Ended => unreachable!(),
     }
-}
-
-/// The number in the first four bytes, where they are there.
-fn number_at(bytes: &[u8]) -> Option<u32>
-    ensures { MatchOption result (length bytes.now < 4) (λ n. (4 ≤ length bytes.now) × (n ≡ number bytes.now)) }
-{
-    match bytes {
-        [a, b, c, d, ..] => Some(u32::from_be_bytes([*a, *b, *c, *d])),
-        _ => None,
-    }
-}
-
-/// The body behind the length field at the front of the bytes, or `None` where the frame is not whole
-/// yet. A length below `least` or above `limit` is a fault at `place`.
-#[tactic(auto, unfolding(crate::specs::Judging::frame_of))]
-fn frame_at(place: u64, least: u32, limit: u32, bytes: &[u8]) -> Result<Option<&[u8]>, WireFault>
-    requires { 4 ≤ least }
-    ensures body { IfOk result (λ body. frame_of place least limit bytes.now ≡ Ok (option_copied body)) }
-    ensures fault { IfErr result (λ fault. frame_of place least limit bytes.now ≡ Err fault) }
-{
-    let Some(said) = number_at(bytes) else {
-        return Ok(None);
-    };
-    if said < least || said > limit {
-        return Err(WireFault::Length { place, said });
-    }
-    let length = said as usize;
-    if bytes.len() < length {
-        return Ok(None);
-    }
-    Ok(Some(&bytes[4..length]))
 }
 
 /// The answer where a frame ends at this place, and its body was read so.
+#[inline(always)]
 fn answer(read: Result<Message, FieldFault>, end: usize) -> Taken
     ensures { (whole : Result Message ℕ) → Gives (λ m. m) read whole → IsJudged result (ended_at end whole) }
 {
@@ -102,15 +94,14 @@ fn answer(read: Result<Message, FieldFault>, end: usize) -> Taken
     }
 }
 
-#[tactic(auto, unfolding(crate::specs::Judging::judge_startup))]
-fn take_startup(alloc: Global, bytes: &[u8]) -> Taken
+/// Reads the startup packet of so many bytes.
+fn take_startup(alloc: Global, bytes: &[u8], size: usize) -> Taken
+    requires head { head_of Phase.Startup bytes.now ≡ Head.Frame size }
+    requires long { 8 ≤ size }
+    requires there { size ≤ length bytes.now }
     ensures { IsJudged result (judge_startup bytes.now) }
 {
-    match frame_at(0, STARTUP_LEAST, STARTUP_LIMIT, bytes) {
-        Ok(Some(body)) => take_packet(alloc, body),
-        Ok(None) => Taken::Short,
-        Err(fault) => Taken::Wrong(fault),
-    }
+    take_packet(alloc, &bytes[4..size])
 }
 
 /// Reads a startup packet's body: its code, and what stands behind it.
@@ -153,60 +144,19 @@ fn request_packet(request: Startup, fields: &[u8]) -> Result<Message, FieldFault
     Ok(Message::Startup(request))
 }
 
-/// Reads a message of either side: its type byte says how long it may be, and how its body is read.
-fn take_sent(alloc: Global, side: Side, bytes: &[u8]) -> Taken
+/// Reads the message of either side that has so many bytes: its type byte says how its body is read.
+#[inline(always)]
+fn take_sent(alloc: Global, side: Side, bytes: &[u8], size: usize) -> Taken
+    requires head { sent_head side bytes.now ≡ Head.Frame size }
+    requires long { 5 ≤ size }
+    requires there { size ≤ length bytes.now }
     ensures { IsJudged result (judge_sent side bytes.now) }
 {
-    let Some((kind, rest)) = bytes.split_first() else {
-        return Taken::Short;
-    };
-    let Some((least, limit)) = lengths(side, *kind) else {
-        return Taken::Wrong(WireFault::Kind(0));
-    };
-    match frame_at(1, least, limit, rest) {
-        Ok(Some(body)) => answer(read_message(alloc, side, *kind, body), body.len() + 5),
-        Ok(None) => Taken::Short,
-        Err(fault) => Taken::Wrong(fault),
-    }
-}
-
-/// The least and the greatest length field of a message, by its type byte.
-fn lengths(side: Side, kind: u8) -> Option<(u32, u32)>
-    ensures { result ≡ lengths_of side kind }
-{
-    match side {
-        Side::Front => front_lengths(kind),
-        Side::Back => back_lengths(kind),
-    }
-}
-
-fn front_lengths(kind: u8) -> Option<(u32, u32)>
-    ensures { result ≡ front_lengths kind }
-{
-    match kind {
-        b'd' => Some((4, COPY_DATA_LIMIT)),
-        b'c' | b'X' => Some((4, MESSAGE_LIMIT)),
-        b'Q' | b'f' => Some((5, MESSAGE_LIMIT)),
-        _ => None,
-    }
-}
-
-fn back_lengths(kind: u8) -> Option<(u32, u32)>
-    ensures { result ≡ option_map (λ (r : Row). (r.least + 4, r.limit)) (back_row kind) }
-{
-    match kind {
-        b'c' => Some((4, MESSAGE_LIMIT)),
-        b'd' => Some((4, COPY_DATA_LIMIT)),
-        b'C' | b'E' | b'N' | b'Z' => Some((5, MESSAGE_LIMIT)),
-        b'D' | b'S' | b'T' => Some((6, MESSAGE_LIMIT)),
-        b'W' => Some((7, MESSAGE_LIMIT)),
-        b'R' => Some((8, MESSAGE_LIMIT)),
-        b'K' => Some((12, MESSAGE_LIMIT)),
-        _ => None,
-    }
+    answer(read_message(alloc, side, bytes[0], &bytes[5..size]), size)
 }
 
 /// The message of this type byte that the body spells.
+#[inline(always)]
 fn read_message(alloc: Global, side: Side, kind: u8, body: &[u8]) -> Result<Message, FieldFault>
     requires { IsSome (lengths_of side kind) }
     ensures { Gives (λ m. m) result (message_of side kind body.now) }

@@ -1,38 +1,21 @@
--- A message after the startup is what judging gives, by the lengths and the reading that its type byte has.
-use Rattle.std.proofs.Common.{◌≡◌, ◌∷◌, Some, None, Ok, Err, ap, ◌∙◌, arith, rules, refl}
-use Rattle.repl_wire.specs.Judging.{judge_sent, lengths_of, frame_of, message_of}
-use Rattle.repl_wire.proofs.Sent.{sent_some, sent_none, sent_empty}
+-- The body of a frame is read as its type byte says.
+use Rattle.std.proofs.Common.{◌≡◌, ℕ, ◌-◌, List, take, drop, sym, ap, subst, slice_index_or}
+use Rattle.repl_message.specs.declared.message.Message.{Message}
+use Rattle.repl_wire.specs.declared.taking.Taken.{Taken}
+use Rattle.repl_wire.specs.Judging.{IsJudged, Gives, message_of}
+use Rattle.repl_wire.proofs.Heads.{sent_frame}
 use Rattle.repl_wire.proofs.taking.take_sent.Goals as goal
 
-pub returns-in_default : goal.returns-in_default
-returns-in_default c = sent_empty c.args.side c.args.bytes.now (omega (arith, c.in_default.ensures.cases))
+pub read_message-requires : goal.read_message-requires
+read_message-requires c =
+    let f = sent_frame c.args.side c.args.bytes.now c.args.size c.requires.head c.requires.there in
+    rw f.parts f.known
 
-pub returns-in_default-lengths : goal.returns-in_default-lengths
-returns-in_default-lengths c =
-    let parts : c.args.bytes.now ≡ c.in-Some.kind.now ∷ c.in-Some.rest.now = c.in-Some.ensures.cases.0 in
-    let is : lengths_of c.args.side c.in-Some.kind.now ≡ None = search rules in
-    ap (judge_sent c.args.side) parts ∙ sent_none c.args.side c.in-Some.kind.now c.in-Some.rest.now is
-
-pub returns-in-Ok-Some : goal.returns-in-Ok-Some
-returns-in-Ok-Some c =
-    let parts : c.args.bytes.now ≡ c.in-Some.kind.now ∷ c.in-Some.rest.now = c.in-Some.ensures.cases.0 in
-    let is : lengths_of c.args.side c.in-Some.kind.now ≡ Some (c.in-Some-lengths.least, c.in-Some-lengths.limit) = search rules in
-    let frame : frame_of 1 c.in-Some-lengths.least c.in-Some-lengths.limit c.in-Some.rest.now
-    ≡ Ok (Some c.in-Ok-Some.body.now) = search rules in
-    let judged = ap (judge_sent c.args.side) parts ∙ sent_some c.args.side c.in-Some.kind.now c.in-Some.rest.now _ is in
-    let read = c.answer.ensures (message_of c.args.side c.in-Some.kind.now c.in-Ok-Some.body.now) c.read_message.ensures in
-    rw (judged, frame) read
-
-pub returns-in-Ok-None : goal.returns-in-Ok-None
-returns-in-Ok-None c =
-    let parts : c.args.bytes.now ≡ c.in-Some.kind.now ∷ c.in-Some.rest.now = c.in-Some.ensures.cases.0 in
-    let is : lengths_of c.args.side c.in-Some.kind.now ≡ Some (c.in-Some-lengths.least, c.in-Some-lengths.limit) = search rules in
-    let frame : frame_of 1 c.in-Some-lengths.least c.in-Some-lengths.limit c.in-Some.rest.now ≡ Ok None = search rules in
-    ap (judge_sent c.args.side) parts ∙ sent_some c.args.side c.in-Some.kind.now c.in-Some.rest.now _ is ∙ rw frame refl
-
-pub returns-in-Err : goal.returns-in-Err
-returns-in-Err c =
-    let parts : c.args.bytes.now ≡ c.in-Some.kind.now ∷ c.in-Some.rest.now = c.in-Some.ensures.cases.0 in
-    let is : lengths_of c.args.side c.in-Some.kind.now ≡ Some (c.in-Some-lengths.least, c.in-Some-lengths.limit) = search rules in
-    let frame : frame_of 1 c.in-Some-lengths.least c.in-Some-lengths.limit c.in-Some.rest.now ≡ Err c.in-Err.fault = search rules in
-    ap (judge_sent c.args.side) parts ∙ sent_some c.args.side c.in-Some.kind.now c.in-Some.rest.now _ is ∙ rw frame refl
+pub returns : goal.returns
+returns c =
+    let f = sent_frame c.args.side c.args.bytes.now c.args.size c.requires.head c.requires.there in
+    let body : List ℕ = take (c.args.size - 5) (drop 5 c.args.bytes.now) in
+    let first : slice_index_or c.args.bytes.now 0 0 ≡ f.kind = ap (λ (t : List ℕ). slice_index_or t 0 0) f.parts in
+    subst (λ (t : Taken). IsJudged c.answer.result t) (sym f.judged)
+    (c.answer.ensures (message_of c.args.side f.kind body)
+    (subst (λ (k : ℕ). Gives (λ (m : Message). m) c.read_message.result (message_of c.args.side k body)) first c.read_message.ensures))
