@@ -1,0 +1,5 @@
+pub mod Lists
+pub mod Floors
+pub mod Entries
+pub mod Fields
+pub mod Reading
