@@ -43,7 +43,7 @@ pub written_differ : (slots : List Slot) → Differ (names_of slots) → Differ 
 written_differ slots differ = subst Differ (sym (written_names (filter (λ (s : Slot). not (is_some s.temporary)) slots)))
     (differ_filtered (λ (s : Slot). not (is_some s.temporary)) slots differ)
 
-length-map_entries : (slots : List Slot) → length (map entry_of slots) ≡ length slots
+pub length-map_entries : (slots : List Slot) → length (map entry_of slots) ≡ length slots
 length-map_entries [] = refl
 length-map_entries (slot ∷ slots) = omega (arith, length-map_entries slots)
 

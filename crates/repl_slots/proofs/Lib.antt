@@ -3,3 +3,5 @@ pub mod Floors
 pub mod Entries
 pub mod Fields
 pub mod Reading
+pub mod Fronts
+pub mod Mounting

@@ -1,3 +1,4 @@
 pub mod Name
 pub mod Slot
 pub mod SlotFile
+pub mod Stored

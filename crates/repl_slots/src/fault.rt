@@ -1,4 +1,5 @@
 //! Why a call on slots did not do what it says.
+use repl_disk::DiskError;
 use std::alloc::AllocError;
 use thiserror::Error;
 
@@ -42,5 +43,20 @@ impl From<AllocError> for SlotFault {
 
     fn from(_error: AllocError) -> SlotFault {
         SlotFault::Memory
+    }
+}
+
+/// A name that a disk says is missing where it told of it before is a fault of the disk.
+impl From<DiskError> for SlotFault {
+    ghost use Rattle.std.specs.Prelude.{◌≡◌};
+    ghost use Rattle.repl_slots.specs.Stored.{fault_of};
+
+    ghost from_gives = { λ error fault. fault ≡ fault_of error };
+
+    fn from(error: DiskError) -> SlotFault {
+        match error {
+            DiskError::Missing | DiskError::Failed => SlotFault::DiskFault,
+            DiskError::Memory => SlotFault::Memory,
+        }
     }
 }

@@ -24,6 +24,7 @@ mod read;
 mod slot;
 mod slots;
 mod spell;
+mod store;
 
 pub use fault::SlotFault;
 pub use name::is_slot_name;
