@@ -5,3 +5,5 @@ pub mod Fields
 pub mod Reading
 pub mod Fronts
 pub mod Mounting
+pub mod Walks
+pub mod Ends

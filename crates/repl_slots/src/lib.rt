@@ -19,6 +19,7 @@
 mod each;
 mod fault;
 mod find;
+mod laws;
 mod name;
 mod read;
 mod slot;
@@ -27,6 +28,7 @@ mod spell;
 mod store;
 
 pub use fault::SlotFault;
+pub use laws::{no_place, one_file, one_list, one_place, saved_is_mounted};
 pub use name::is_slot_name;
 pub use read::read_slots;
 pub use slot::{SLOT_LIMIT, Slot};
