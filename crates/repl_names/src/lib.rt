@@ -14,6 +14,7 @@
 //! ```
 #![tactic(auto)]
 
+mod counting;
 mod fault;
 mod grammar;
 mod laws;
@@ -27,10 +28,11 @@ mod quorum;
 mod setting;
 mod token;
 
+pub use counting::put_counted;
 pub use fault::NamesFault;
 pub use laws::{
-    any_reached, counted_reach, met_below, met_forward, met_without_names, one_list,
-    printed_is_read, released_decides,
+    any_reached, counted_reach, met_below, met_forward, met_stays, met_without_names, one_counted,
+    one_list, one_setting, printed_is_read, released_decides, released_stays,
 };
 pub use list::{Method, NUMBER_LIMIT, NameList, SPELLING_LIMIT, StandbyList};
 pub use matching::priority;
