@@ -5,7 +5,7 @@ use Rattle.std.proofs.lemmas.Slice.Eq.{bytes_eq-Decides}
 use Rattle.std.proofs.lemmas.List.{length-append, map-append, length-map}
 use Rattle.std.proofs.lemmas.List.Elements.{All-append, All-map, All-filter}
 use Rattle.std.specs.List.{find}
-use Rattle.repl_slots.specs.Name.{IsSlotName}
+use Rattle.repl_text.specs.SlotName.{IsSlotName}
 use Rattle.repl_slots.specs.Slot.{IsNew, Differ, AreSlots, names_of, slot_named, is_named}
 use Rattle.repl_slots.specs.declared.slot.Slot.{Slot}
 use Rattle.repl_slots.specs.declared.slot.TheConstants.{SLOT_LIMIT}

@@ -3,7 +3,7 @@ use Rattle.std.proofs.Common.{◌≡◌, ℕ, ◌-◌, ◌≤◌, min, cond, not
 use Rattle.std.proofs.lemmas.List.{length-take, length-drop, take_at}
 use Rattle.std.proofs.lemmas.List.Elements.{All-tail, All-nil, All-cons}
 use Rattle.repl_disk.specs.Folder.{Folder, ToldFiles, IfTold, ReadsAt}
-use Rattle.repl_slots.specs.Name.{IsSlotName}
+use Rattle.repl_text.specs.SlotName.{IsSlotName}
 use Rattle.repl_slots.specs.Slot.{AreSlots, Differ}
 use Rattle.repl_slots.specs.SlotFile.{AreEach, AreEntries, Entry, FileStops, IsAt, IsMounted, Spells, entries_of, entry_of, names_in}
 use Rattle.repl_slots.specs.Stored.{Mounted, StoredIn, Stores, slots_name}

@@ -1,4 +1,3 @@
-pub mod Name
 pub mod Slot
 pub mod SlotFile
 pub mod Stored

@@ -2,7 +2,7 @@
 -- are numbered from 1; 0 stands for none.
 use Rattle.std.specs.Prelude.{◌≡◌, ◌≢◌, ℕ, ◌<◌, ◌≤◌, ◌==◌, max, min, Bool, true, false, not, List, [], ◌∷◌, ◌++◌, length, map, filter, Option, Some, None, IsSome, is_some, Result, Ok, Err, bytes_eq, option_to_list, if◌then◌else◌, All, Contains}
 use Rattle.std.specs.List.{find}
-use Rattle.repl_slots.specs.Name.{IsSlotName}
+use Rattle.repl_text.specs.SlotName.{IsSlotName}
 use Rattle.repl_slots.specs.declared.slot.Slot.{Slot}
 use Rattle.repl_slots.specs.declared.slot.TheConstants.{SLOT_LIMIT}
 use Rattle.repl_slots.specs.declared.fault.SlotFault.{SlotFault}

@@ -6,11 +6,11 @@
 -- The flag is 1 where the slot has a restart position, and 0 and followed by zeros where it has none.
 use Rattle.std.specs.Prelude.{◌≡◌, ℕ, ◌+◌, ◌^◌, ◌<◌, ◌≤◌, ◌⊎◌, List, [], ◌∷◌, ◌++◌, length, take, drop, map, filter, not, codes, slice_index, Option, Some, None, IfSome, is_some}
 use Rattle.std.specs.Int.{w16, w64, to_be_bytes}
-use Rattle.repl_slots.specs.Name.{IsSlotName}
+use Rattle.repl_text.specs.SlotName.{IsSlotName}
 use Rattle.repl_slots.specs.Slot.{IsNew, Differ}
 use Rattle.repl_slots.specs.declared.slot.Slot.{Slot}
 use Rattle.repl_slots.specs.declared.slot.TheConstants.{SLOT_LIMIT}
-use Rattle.repl_slots.specs.declared.name.TheConstants.{SLOT_NAME_LIMIT}
+use Rattle.repl_text.specs.declared.slot_name.TheConstants.{SLOT_NAME_LIMIT}
 use Rattle.repl_slots.specs.declared.fault.SlotFault.{SlotFault}
 use Rattle.repl_slots.specs.declared.fault.SlotFault.TheVariants as fault
 

@@ -20,7 +20,6 @@ mod each;
 mod fault;
 mod find;
 mod laws;
-mod name;
 mod read;
 mod slot;
 mod slots;
@@ -29,7 +28,6 @@ mod store;
 
 pub use fault::SlotFault;
 pub use laws::{no_place, one_file, one_list, one_place, saved_is_mounted};
-pub use name::is_slot_name;
 pub use read::read_slots;
 pub use slot::{SLOT_LIMIT, Slot};
 pub use slots::Slots;

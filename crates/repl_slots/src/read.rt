@@ -5,12 +5,11 @@ ghost use Rattle.repl_slots.specs.SlotFile.{EntryStops, FileStops, HeaderStops, 
 
 use crate::fault::SlotFault;
 use crate::find::is_new;
-use crate::name::{SLOT_NAME_LIMIT, is_slot_name};
 use crate::slot::{SLOT_LIMIT, Slot};
 use crate::spell::{MAGIC, VERSION};
 use byteorder::{BigEndian, ByteOrder};
 use repl_lsn::Lsn;
-use repl_text::Text;
+use repl_text::{SLOT_NAME_LIMIT, Text, is_slot_name};
 use std::alloc::Global;
 
 /// The place behind the count.

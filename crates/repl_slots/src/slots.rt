@@ -5,10 +5,9 @@ ghost use Rattle.repl_slots.specs.Slot.{AreSlots, CanCreate, CanUse, IsFloor, ac
 use crate::each::{acquire_named, confirm_all, drop_named, drop_temporary, release_all};
 use crate::fault::SlotFault;
 use crate::find::{find, floor_of, usable};
-use crate::name::is_slot_name;
 use crate::slot::{SLOT_LIMIT, Slot};
 use repl_lsn::Lsn;
-use repl_text::Text;
+use repl_text::{Text, is_slot_name};
 use std::alloc::Global;
 use std::marker::Model;
 

@@ -1,6 +1,6 @@
 //! The one spelling of a list of slots, as the file `slots` has it.
 ghost use Rattle.std.specs.Prelude.{◌≡◌, ◌++◌, ◌∷◌, [], ◌<◌, ◌^◌, ◌≤◌, length, not, is_some, filter, All, IfOk, IfSome, OnOk};
-ghost use Rattle.repl_slots.specs.Name.{IsSlotName};
+ghost use Rattle.repl_text.specs.SlotName.{IsSlotName};
 ghost use Rattle.repl_slots.specs.Slot.{AreSlots};
 ghost use Rattle.repl_slots.specs.SlotFile.{AreEach, Spells, entries_bytes, entries_of, entry_bytes, int64, position_bytes};
 

@@ -2,7 +2,7 @@
 use Rattle.std.proofs.Common.{◌≡◌, ◌++◌, ◌∷◌, [], ◌<◌, List, ℕ, Bool, false, Option, Some, None, MatchOption, is_some, length, ap, sym, ◌∙◌, arith, subst, rules}
 use Rattle.std.specs.Borrow.{Bor}
 use Rattle.repl_slots.specs.Slot.{AreSlots, slot_named, made}
-use Rattle.repl_slots.specs.Name.{IsSlotName}
+use Rattle.repl_text.specs.SlotName.{IsSlotName}
 use Rattle.repl_slots.specs.declared.slot.Slot.{Slot}
 use Rattle.repl_slots.specs.declared.slot.TheConstants.{SLOT_LIMIT}
 use Rattle.repl_slots.proofs.Lists.{slots_more}
