@@ -1,11 +1,8 @@
 -- A file that is longer than any of slots goes wrong where its front does.
-use Rattle.std.proofs.Common.{◌≡◌, ◌⊎◌, ℕ, ◌+◌, ◌-◌, ◌*◌, ◌<◌, ◌≤◌, min, List, [], ◌∷◌, ◌++◌, length, take, drop, get_or, Option, Some, None, refl, sym, ◌∙◌, ap, subst, append_assoc, inl, inr, ⊎_elim, arith}
+use Rattle.std.proofs.Common.{◌≡◌, ℕ, ◌+◌, ◌*◌, ◌<◌, ◌≤◌, min, List, [], ◌∷◌, ◌++◌, length, take, drop, get_or, Option, Some, None, refl, sym, ◌∙◌, ap, subst, append_assoc, inl, inr, arith}
 use Rattle.std.proofs.lemmas.List.{length-append, length-take, length-drop, take-append-drop, get_or-take, get_or-drop, places, same_lists, take_all}
 use Rattle.std.proofs.lemmas.Bool.{cases_lt}
-use Rattle.repl_text.specs.SlotName.{IsSlotName}
-use Rattle.repl_slots.specs.Slot.{IsNew}
-use Rattle.repl_slots.specs.SlotFile.{AreEach, AreEntries, BeginsWith, Entry, EntryStops, FileStops, HeaderStops, Holds, IsCount, IsEntry, IsFlag, IsMagic, IsNameLength, IsNewName, IsPosition, IsVersion, Spells, Stops, behind, entries_bytes, entry_bytes, field, file_bytes, header_bytes, in_count, in_flag, in_header, in_length, in_magic, in_name, in_position, in_slot, in_version, names_in, position_bytes, size_at}
-use Rattle.repl_slots.specs.declared.slot.TheConstants.{SLOT_LIMIT}
+use Rattle.repl_slots.specs.SlotFile.{AreEach, BeginsWith, Entry, EntryStops, FileStops, HeaderStops, Holds, IsCount, IsFlag, IsMagic, IsNameLength, IsNewName, IsPosition, IsVersion, Spells, Stops, behind, entries_bytes, entry_bytes, field, header_bytes, in_count, in_flag, in_header, in_length, in_magic, in_name, in_position, in_slot, in_version, names_in, position_bytes, size_at}
 use Rattle.repl_text.specs.declared.slot_name.TheConstants.{SLOT_NAME_LIMIT}
 
 -- ---- how long files are

@@ -1,10 +1,9 @@
 -- Lists of slots whose names differ: with one more, with fewer, and with other fields.
-use Rattle.std.proofs.Common.{◌≡◌, ◌≢◌, ℕ, ◌+◌, ◌<◌, ◌≤◌, Bool, true, false, cond, not, List, [], ◌∷◌, ◌++◌, length, map, filter, Option, Some, None, IsSome, refl, sym, ◌∙◌, ap, subst, All, arith, bytes_eq}
-use Rattle.std.proofs.lemmas.Bool.{false≢true, false_from_ne_true}
+use Rattle.std.proofs.Common.{◌≡◌, ◌≢◌, ℕ, ◌<◌, ◌≤◌, Bool, true, false, cond, List, [], ◌∷◌, ◌++◌, length, map, filter, Some, None, refl, sym, ◌∙◌, ap, subst, All, arith}
+use Rattle.std.proofs.lemmas.Bool.{false≢true}
 use Rattle.std.proofs.lemmas.Slice.Eq.{bytes_eq-Decides}
 use Rattle.std.proofs.lemmas.List.{length-append, map-append, length-map}
 use Rattle.std.proofs.lemmas.List.Elements.{All-append, All-map, All-filter}
-use Rattle.std.specs.List.{find}
 use Rattle.repl_text.specs.SlotName.{IsSlotName}
 use Rattle.repl_slots.specs.Slot.{IsNew, Differ, AreSlots, names_of, slot_named, is_named}
 use Rattle.repl_slots.specs.declared.slot.Slot.{Slot}

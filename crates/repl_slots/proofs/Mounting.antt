@@ -1,12 +1,12 @@
 -- What is mounted is what the file says.
-use Rattle.std.proofs.Common.{◌≡◌, ℕ, ◌-◌, ◌≤◌, min, cond, not, is_some, false, List, [], ◌∷◌, ◌++◌, length, map, take, drop, Option, Some, None, Ok, Err, refl, sym, ◌∙◌, ap, subst, All, arith}
-use Rattle.std.proofs.lemmas.List.{length-take, length-drop, take_at}
+use Rattle.std.proofs.Common.{◌≡◌, ℕ, ◌-◌, min, cond, not, is_some, false, List, [], ◌∷◌, ◌++◌, length, map, take, drop, Option, Some, None, Ok, Err, refl, sym, ◌∙◌, ap, subst, All, arith}
+use Rattle.std.proofs.lemmas.List.{length-take, take_at}
 use Rattle.std.proofs.lemmas.List.Elements.{All-tail, All-nil, All-cons}
-use Rattle.repl_disk.specs.Folder.{Folder, ToldFiles, IfTold, ReadsAt}
+use Rattle.repl_disk.specs.Folder.{ToldFiles, IfTold, ReadsAt}
 use Rattle.repl_text.specs.SlotName.{IsSlotName}
 use Rattle.repl_slots.specs.Slot.{AreSlots, Differ}
 use Rattle.repl_slots.specs.SlotFile.{AreEach, AreEntries, Entry, FileStops, IsAt, IsMounted, Spells, entries_of, entry_of, names_in}
-use Rattle.repl_slots.specs.Stored.{Mounted, StoredIn, Stores, slots_name}
+use Rattle.repl_slots.specs.Stored.{Mounted, StoredIn, slots_name}
 use Rattle.repl_slots.specs.declared.slot.Slot.{Slot}
 use Rattle.repl_slots.specs.declared.fault.SlotFault.{SlotFault}
 use Rattle.repl_slots.specs.declared.fault.SlotFault.TheVariants as fault

@@ -1,5 +1,5 @@
 -- The slot lent is the first of that name.
-use Rattle.std.proofs.Common.{◌≡◌, ◌∙◌, List, Option, Some, None, MatchOption, refl, sym, rules, tests}
+use Rattle.std.proofs.Common.{◌≡◌, Option, Some, None, MatchOption, sym, rules, tests}
 use Rattle.std.specs.Option.{option_map}
 use Rattle.std.specs.Borrow.{Bor}
 use Rattle.std.proofs.lemmas.Iterator.{YieldsList-from_slice}

@@ -1,5 +1,4 @@
 -- A file spells one list, and a missing one none.
-use Rattle.std.proofs.Common.{◌≡◌}
 use Rattle.repl_slots.proofs.Ends.{stored_one, stored_none}
 use Rattle.repl_slots.proofs.laws.saved_is_mounted.Goals as goal
 

@@ -1,5 +1,5 @@
 -- The bytes are those of the number.
-use Rattle.std.proofs.Common.{◌≡◌, ◌∷◌, List, ℕ, length, sym, ap, ◌∙◌, arith}
+use Rattle.std.proofs.Common.{◌≡◌, ◌∷◌, List, ℕ, ap, ◌∙◌, arith}
 use Rattle.repl_slots.specs.SlotFile.{field}
 use Rattle.repl_slots.proofs.Fields.{long_field}
 use Rattle.repl_slots.proofs.read.position_at.Goals as goal

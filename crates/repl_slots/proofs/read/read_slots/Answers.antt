@@ -1,5 +1,5 @@
 -- One slot more is read, or the file goes wrong there.
-use Rattle.std.proofs.Common.{◌≡◌, ◌+◌, ◌++◌, ◌∷◌, [], ◌<◌, ◌≤◌, List, ℕ, sym, subst, ◌∙◌, ap, arith, rules}
+use Rattle.std.proofs.Common.{◌+◌, ◌++◌, ◌∷◌, [], ◌≤◌, List, sym, subst, ◌∙◌, ap, arith}
 use Rattle.std.proofs.lemmas.Result.{err_from_is_err_and}
 use Rattle.repl_slots.specs.SlotFile.{EntryStops, FileStops, IsAt}
 use Rattle.repl_slots.specs.Slot.{IsNew, names_of}

@@ -1,7 +1,6 @@
 -- The four fields are the slot's bytes.
-use Rattle.std.proofs.Common.{◌≡◌, ◌+◌, ◌∷◌, ◌++◌, List, ℕ, length, drop, sym, ap, ◌∙◌, arith}
+use Rattle.std.proofs.Common.{◌≡◌, ◌+◌, length, drop, ap, ◌∙◌, arith}
 use Rattle.std.proofs.lemmas.List.{length-take, length-drop}
-use Rattle.repl_slots.specs.SlotFile.{entry_bytes, position_bytes}
 use Rattle.repl_slots.proofs.Fields.{entry_front}
 use Rattle.repl_slots.proofs.read.slot_at.Goals as goal
 

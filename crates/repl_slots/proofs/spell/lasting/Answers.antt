@@ -1,5 +1,5 @@
 -- One slot more is counted.
-use Rattle.std.proofs.Common.{◌≡◌, ◌+◌, [], ◌∷◌, length, take, arith, ap, ◌∙◌}
+use Rattle.std.proofs.Common.{[], ◌∷◌, length, take, arith, ap, ◌∙◌}
 use Rattle.std.proofs.lemmas.List.{length-append}
 use Rattle.repl_slots.specs.SlotFile.{entries_of}
 use Rattle.repl_slots.proofs.Entries.{entries_more}

@@ -1,6 +1,6 @@
 -- One slot more is appended.
-use Rattle.std.proofs.Common.{◌≡◌, ◌+◌, ◌++◌, [], ◌∷◌, List, length, take, arith, ap, sym, subst, ◌∙◌, append_assoc}
-use Rattle.repl_slots.specs.SlotFile.{AreEach, Entry, entries_bytes, entries_of}
+use Rattle.std.proofs.Common.{◌++◌, [], ◌∷◌, take, arith, ap, sym, subst, ◌∙◌, append_assoc}
+use Rattle.repl_slots.specs.SlotFile.{AreEach, entries_bytes, entries_of}
 use Rattle.repl_slots.proofs.Entries.{bytes_append, each_append, entries_more}
 use Rattle.repl_slots.proofs.spell.put_slots.Goals as goal
 

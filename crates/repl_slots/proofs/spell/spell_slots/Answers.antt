@@ -1,7 +1,6 @@
 -- The parts are appended one behind another.
-use Rattle.std.proofs.Common.{◌≡◌, ◌++◌, List, ℕ, length, sym, ap, ◌∙◌, arith}
-use Rattle.repl_slots.specs.Slot.{AreSlots}
-use Rattle.repl_slots.specs.SlotFile.{AreEntries, entries_bytes, entries_of, int16, magic}
+use Rattle.std.proofs.Common.{◌++◌, List, ℕ, ap, ◌∙◌}
+use Rattle.repl_slots.specs.SlotFile.{entries_bytes, entries_of, int16, magic}
 use Rattle.repl_slots.proofs.Entries.{written_are}
 use Rattle.repl_slots.proofs.spell.spell_slots.Goals as goal
 

@@ -1,6 +1,6 @@
 -- No name changed.
-use Rattle.std.proofs.Common.{subst, sym, refl, not}
-use Rattle.repl_slots.specs.Slot.{AreSlots, acquired, is_named, owned_by}
+use Rattle.std.proofs.Common.{subst, sym, refl}
+use Rattle.repl_slots.specs.Slot.{AreSlots, acquired}
 use Rattle.repl_slots.proofs.Lists.{slots_mapped, named_if}
 use Rattle.repl_slots.proofs.slots.Slots.acquire.Goals as goal
 

@@ -1,6 +1,6 @@
 -- No name changed.
-use Rattle.std.proofs.Common.{subst, sym, refl, not}
-use Rattle.repl_slots.specs.Slot.{AreSlots, confirmed, is_session, risen}
+use Rattle.std.proofs.Common.{subst, sym, refl}
+use Rattle.repl_slots.specs.Slot.{AreSlots, confirmed}
 use Rattle.repl_slots.proofs.Lists.{slots_mapped, named_if}
 use Rattle.repl_slots.proofs.slots.Slots.confirm.Goals as goal
 

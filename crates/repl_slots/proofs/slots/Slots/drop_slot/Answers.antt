@@ -1,5 +1,5 @@
 -- The names that are left differ.
-use Rattle.std.proofs.Common.{subst, sym, refl, not}
+use Rattle.std.proofs.Common.{subst, sym, not}
 use Rattle.repl_slots.specs.Slot.{AreSlots, is_named}
 use Rattle.repl_slots.proofs.Lists.{slots_filtered}
 use Rattle.repl_slots.proofs.slots.Slots.drop_slot.Goals as goal

@@ -1,6 +1,6 @@
 -- The names that are left differ.
 use Rattle.std.proofs.Common.{subst, sym, refl, not}
-use Rattle.repl_slots.specs.Slot.{AreSlots, released, is_session, owned_by}
+use Rattle.repl_slots.specs.Slot.{AreSlots, released, is_session}
 use Rattle.repl_slots.proofs.Lists.{slots_filtered, slots_mapped, named_if}
 use Rattle.repl_slots.proofs.slots.Slots.end_session.Goals as goal
 

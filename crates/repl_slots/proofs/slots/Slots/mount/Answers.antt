@@ -1,5 +1,5 @@
 -- What was read is the file, or as much of it as says where it goes wrong.
-use Rattle.std.proofs.Common.{◌≡◌, List, ℕ, length, refl}
+use Rattle.std.proofs.Common.{refl}
 use Rattle.std.proofs.lemmas.Result.{err_from_is_err_and}
 use Rattle.repl_slots.proofs.Mounting.{mounts, refuses, slots_are}
 use Rattle.repl_slots.proofs.slots.Slots.mount.Goals as goal
