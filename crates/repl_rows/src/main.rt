@@ -25,6 +25,7 @@ mod records;
 mod segments;
 mod server_words;
 mod sinks;
+mod slots;
 mod streams;
 mod table;
 mod texts;

@@ -1,9 +1,57 @@
 -- A file comes to one end: it spells one list of slots, or goes wrong at one place.
-use Rattle.std.proofs.Common.{◌≡◌, ◌≢◌, ℕ, ◌+◌, ◌-◌, ◌<◌, ◌≤◌, List, [], ◌∷◌, ◌++◌, length, drop, get_or, Option, Some, None, Ok, Err, refl, sym, ◌∙◌, ap, subst, append_assoc, inl, inr, ◌⊎◌, arith}
+use Rattle.std.proofs.Common.{
+  ◌≡◌,
+  ◌≢◌,
+  ℕ,
+  ◌+◌,
+  ◌-◌,
+  ◌<◌,
+  ◌≤◌,
+  List,
+  [],
+  ◌∷◌,
+  ◌++◌,
+  length,
+  drop,
+  get_or,
+  Option,
+  Some,
+  None,
+  Ok,
+  Err,
+  refl,
+  sym,
+  ◌∙◌,
+  ap,
+  subst,
+  append_assoc,
+  inl,
+  inr,
+  ◌⊎◌,
+  arith,
+}
 use Rattle.std.proofs.lemmas.List.{append-nil, drop-drop, drop_at, length-append}
 use Rattle.repl_disk.specs.Folder.{Folder}
 use Rattle.repl_slots.specs.Slot.{Differ, IsNew, SlotList}
-use Rattle.repl_slots.specs.SlotFile.{AreEach, AreEntries, BeginsWith, Entry, EntryStops, FileStops, HeaderStops, Spells, behind, entries_bytes, entries_of, entry_bytes, field, header_bytes, in_header, in_slot, names_in}
+use Rattle.repl_slots.specs.SlotFile.{
+  AreEach,
+  AreEntries,
+  BeginsWith,
+  Entry,
+  EntryStops,
+  FileStops,
+  HeaderStops,
+  Spells,
+  behind,
+  entries_bytes,
+  entries_of,
+  entry_bytes,
+  field,
+  header_bytes,
+  in_header,
+  in_slot,
+  names_in,
+}
 use Rattle.repl_slots.specs.Stored.{Mounted, StoredIn, Stores, slots_name}
 use Rattle.repl_slots.specs.declared.fault.SlotFault.TheVariants as fault
 use Rattle.repl_slots.specs.declared.slot.TheConstants.{SLOT_LIMIT}
@@ -57,7 +105,8 @@ ends_behind (entry ∷ entries) left less names all at end file o ends left_is n
     (names_are ∙ sym (append_assoc names (entry.name ∷ []) (names_in entries)))
     (omega (arith, end_is, length-append (entry_bytes entry) (entries_bytes entries)))
 
-ends_one : (left : ℕ) (names : List (List ℕ)) (at : ℕ) (file : List ℕ) (o p : Option ℕ) → Ends left names at file o → Ends left names at file p
+ends_one : (left : ℕ) (names : List (List ℕ)) (at : ℕ) (file : List ℕ) (o p : Option ℕ) → Ends left names at file o
+    → Ends left names at file p
     → o ≡ p
 ends_one left names at file None None a b = refl
 ends_one left names at file None (Some q) a (inl b) = absurd (omega (arith, a.0, b.0))
@@ -132,7 +181,8 @@ walked_spelled file entries spells = record {
   begins = spells.1 ∙ ap (λ (l : List ℕ). header_bytes (length entries) ++ l) (sym (append-nil (entries_bytes entries)));
   enough = omega arith;
   ends = ends_behind entries (length entries) 0 [] (names_in entries) 8 (8 + length (entries_bytes entries)) file None
-      (refl, omega (arith, ap length spells.1, length-append (header_bytes (length entries)) (entries_bytes entries))) (omega arith) refl refl;
+      (refl, omega (arith, ap length spells.1, length-append (header_bytes (length entries)) (entries_bytes entries))) (omega arith) refl
+      refl;
 }
 
 count_one : (c d : ℕ) (x y : List ℕ) → c ≤ SLOT_LIMIT → d ≤ SLOT_LIMIT → header_bytes c ++ x ≡ header_bytes d ++ y → c ≡ d
@@ -145,7 +195,8 @@ walked_one file c d xs ys o p a b =
     (new_all [] xs a.right.differ) (new_all [] ys b.right.differ) a.enough (omega (arith, b.enough, same)) a.ends
     (subst (λ (k : ℕ). EndsBehind ys k [] 8 file p) same b.ends)
 
-walked_header : (file : List ℕ) (count : ℕ) (entries : List Entry) (o : Option ℕ) (p : ℕ) → Walked file count entries o → HeaderStops file p → ⊥
+walked_header : (file : List ℕ) (count : ℕ) (entries : List Entry) (o : Option ℕ) (p : ℕ) → Walked file count entries o
+    → HeaderStops file p → ⊥
 walked_header file count entries o p a =
     let long : 8 ≤ length file = omega (arith, ap length a.begins, length-append (header_bytes count) (entries_bytes entries ++ a.rest)) in
     header_none file p (omega (arith, long), ap (field 0 4) a.begins) (omega (arith, long), ap (field 4 2) a.begins)

@@ -1,5 +1,33 @@
 -- What the file keeps of a list of slots, slot by slot.
-use Rattle.std.proofs.Common.{◌≡◌, ℕ, ◌+◌, ◌<◌, ◌≤◌, Bool, true, false, cond, not, List, [], ◌∷◌, ◌++◌, length, map, filter, take, get_or, refl, sym, ◌∙◌, ap, subst, is_some, append_assoc, arith}
+use Rattle.std.proofs.Common.{
+  ◌≡◌,
+  ℕ,
+  ◌+◌,
+  ◌<◌,
+  ◌≤◌,
+  Bool,
+  true,
+  false,
+  cond,
+  not,
+  List,
+  [],
+  ◌∷◌,
+  ◌++◌,
+  length,
+  map,
+  filter,
+  take,
+  get_or,
+  refl,
+  sym,
+  ◌∙◌,
+  ap,
+  subst,
+  is_some,
+  append_assoc,
+  arith,
+}
 use Rattle.std.proofs.lemmas.List.{take_more}
 use Rattle.repl_slots.specs.SlotFile.{AreEach, AreEntries, Entry, entries_bytes, entries_of, entry_bytes, entry_of, names_in}
 use Rattle.repl_slots.specs.Slot.{AreSlots, names_of, Differ}
@@ -15,7 +43,8 @@ entries_append [] ys = refl
 entries_append (slot ∷ xs) ys = each (not (is_some slot.temporary)) (entries_append xs ys)
   where
     each : (b : Bool) → entries_of (xs ++ ys) ≡ entries_of xs ++ entries_of ys
-        → map entry_of (cond b (slot ∷ kept (xs ++ ys)) (kept (xs ++ ys))) ≡ map entry_of (cond b (slot ∷ kept xs) (kept xs)) ++ entries_of ys
+        → map entry_of (cond b (slot ∷ kept (xs ++ ys)) (kept (xs ++ ys))) ≡ map entry_of (cond b (slot ∷ kept xs) (kept xs))
+        ++ entries_of ys
     each true rest = ap (λ (l : List Entry). entry_of slot ∷ l) rest
     each false rest = rest
 

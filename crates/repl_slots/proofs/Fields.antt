@@ -1,5 +1,27 @@
 -- The fields of a slot in the file, one behind another.
-use Rattle.std.proofs.Common.{◌≡◌, ℕ, ◌+◌, ◌<◌, ◌≤◌, List, [], ◌∷◌, ◌++◌, length, get_or, take, drop, Option, sym, ◌∙◌, ap, append_assoc, arith, inl, inr}
+use Rattle.std.proofs.Common.{
+  ◌≡◌,
+  ℕ,
+  ◌+◌,
+  ◌<◌,
+  ◌≤◌,
+  List,
+  [],
+  ◌∷◌,
+  ◌++◌,
+  length,
+  get_or,
+  take,
+  drop,
+  Option,
+  sym,
+  ◌∙◌,
+  ap,
+  append_assoc,
+  arith,
+  inl,
+  inr,
+}
 use Rattle.std.proofs.lemmas.Bool.{cases_lt}
 use Rattle.std.proofs.lemmas.List.{drop-drop, take-append-drop, length-take, length-drop, get_or-drop, get_or-take, get_or_past}
 use Rattle.std.proofs.lemmas.Nat.{be_bytes_8}
@@ -49,4 +71,5 @@ pub long_field : (file : List ℕ) (at n : ℕ) (bytes : List ℕ) → AreBytes 
     → n ≡ big_from 0 8 bytes → field at 8 file ≡ int64 n
 long_field file at n bytes fits enough is read =
     let value : n ≡ from_be_bytes w64 (field at 8 file) = read ∙ ap (big_from 0 8) is ∙ omega arith in
-    sym (be_bytes_8 (field at 8 file) n (omega (arith, length-take 8 (drop at file), length-drop at file)) (field_bytes at 8 file fits) value)
+    sym (be_bytes_8 (field at 8 file) n (omega (arith, length-take 8 (drop at file), length-drop at file)) (field_bytes at 8 file fits)
+    value)

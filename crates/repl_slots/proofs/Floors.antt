@@ -1,5 +1,33 @@
 -- The least position of a list, with one slot more.
-use Rattle.std.proofs.Common.{◌≡◌, ℕ, ◌+◌, ◌<◌, ◌≤◌, min, List, [], ◌∷◌, ◌++◌, length, take, get_or, Option, Some, None, All, option_to_list, refl, sym, ◌∙◌, ap, subst, arith, append_assoc, inl, inr}
+use Rattle.std.proofs.Common.{
+  ◌≡◌,
+  ℕ,
+  ◌+◌,
+  ◌<◌,
+  ◌≤◌,
+  min,
+  List,
+  [],
+  ◌∷◌,
+  ◌++◌,
+  length,
+  take,
+  get_or,
+  Option,
+  Some,
+  None,
+  All,
+  option_to_list,
+  refl,
+  sym,
+  ◌∙◌,
+  ap,
+  subst,
+  arith,
+  append_assoc,
+  inl,
+  inr,
+}
 use Rattle.std.proofs.lemmas.Bool.{cases_lt}
 use Rattle.std.proofs.lemmas.List.{take_more, append-nil}
 use Rattle.std.proofs.lemmas.List.Elements.{All-append, Contains-append_left, Contains-append_right}
@@ -34,7 +62,8 @@ least_more ps (Some a) (Some b) least =
           (Contains-append_left ps (b ∷ []) a least.0, All-append (λ p. a ≤ p) ps (b ∷ []) least.1 (all_of_one (λ p. a ≤ p) b le))
     ]
 
-positions_more : (slots : List Slot) (slot : Slot) → held_positions (slots ++ slot ∷ []) ≡ held_positions slots ++ option_to_list (held slot)
+positions_more : (slots : List Slot) (slot : Slot) → held_positions (slots ++ slot ∷ []) ≡ held_positions slots
+    ++ option_to_list (held slot)
 positions_more [] slot = append-nil (option_to_list (held slot))
 positions_more (first ∷ slots) slot =
     ap (λ (l : List ℕ). option_to_list (held first) ++ l) (positions_more slots slot)

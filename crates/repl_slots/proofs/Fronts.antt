@@ -1,8 +1,80 @@
 -- A file that is longer than any of slots goes wrong where its front does.
-use Rattle.std.proofs.Common.{◌≡◌, ℕ, ◌+◌, ◌*◌, ◌<◌, ◌≤◌, min, List, [], ◌∷◌, ◌++◌, length, take, drop, get_or, Option, Some, None, refl, sym, ◌∙◌, ap, subst, append_assoc, inl, inr, arith}
-use Rattle.std.proofs.lemmas.List.{length-append, length-take, length-drop, take-append-drop, get_or-take, get_or-drop, places, same_lists, take_all}
+use Rattle.std.proofs.Common.{
+  ◌≡◌,
+  ℕ,
+  ◌+◌,
+  ◌*◌,
+  ◌<◌,
+  ◌≤◌,
+  min,
+  List,
+  [],
+  ◌∷◌,
+  ◌++◌,
+  length,
+  take,
+  drop,
+  get_or,
+  Option,
+  Some,
+  None,
+  refl,
+  sym,
+  ◌∙◌,
+  ap,
+  subst,
+  append_assoc,
+  inl,
+  inr,
+  arith,
+}
+use Rattle.std.proofs.lemmas.List.{
+  length-append,
+  length-take,
+  length-drop,
+  take-append-drop,
+  get_or-take,
+  get_or-drop,
+  places,
+  same_lists,
+  take_all,
+}
 use Rattle.std.proofs.lemmas.Bool.{cases_lt}
-use Rattle.repl_slots.specs.SlotFile.{AreEach, BeginsWith, Entry, EntryStops, FileStops, HeaderStops, Holds, IsCount, IsFlag, IsMagic, IsNameLength, IsNewName, IsPosition, IsVersion, Spells, Stops, behind, entries_bytes, entry_bytes, field, header_bytes, in_count, in_flag, in_header, in_length, in_magic, in_name, in_position, in_slot, in_version, names_in, position_bytes, size_at}
+use Rattle.repl_slots.specs.SlotFile.{
+  AreEach,
+  BeginsWith,
+  Entry,
+  EntryStops,
+  FileStops,
+  HeaderStops,
+  Holds,
+  IsCount,
+  IsFlag,
+  IsMagic,
+  IsNameLength,
+  IsNewName,
+  IsPosition,
+  IsVersion,
+  Spells,
+  Stops,
+  behind,
+  entries_bytes,
+  entry_bytes,
+  field,
+  header_bytes,
+  in_count,
+  in_flag,
+  in_header,
+  in_length,
+  in_magic,
+  in_name,
+  in_position,
+  in_slot,
+  in_version,
+  names_in,
+  position_bytes,
+  size_at,
+}
 use Rattle.repl_text.specs.declared.slot_name.TheConstants.{SLOT_NAME_LIMIT}
 
 -- ---- how long files are
@@ -17,7 +89,14 @@ length-entry entry = omega (arith, length-append entry.name (position_bytes entr
 length-entries : (entries : List Entry) → AreEach entries → length (entries_bytes entries) ≤ 73 * length entries
 length-entries [] each = omega arith
 length-entries (entry ∷ entries) each =
-    omega (arith, length-append (entry_bytes entry) (entries_bytes entries), length-entry entry, each.0.0.short, length-entries entries each.1)
+    omega (
+      arith,
+      length-append (entry_bytes entry) (entries_bytes entries),
+      length-entry entry,
+      each.0.0.short,
+      length-entries entries
+          each.1,
+    )
 
 pub length-file : (entries : List Entry) (file : List ℕ) → Spells entries file → length file < 739
 length-file entries file spells =

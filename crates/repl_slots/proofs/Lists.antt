@@ -1,5 +1,31 @@
 -- Lists of slots whose names differ: with one more, with fewer, and with other fields.
-use Rattle.std.proofs.Common.{◌≡◌, ◌≢◌, ℕ, ◌<◌, ◌≤◌, Bool, true, false, cond, List, [], ◌∷◌, ◌++◌, length, map, filter, Some, None, refl, sym, ◌∙◌, ap, subst, All, arith}
+use Rattle.std.proofs.Common.{
+  ◌≡◌,
+  ◌≢◌,
+  ℕ,
+  ◌<◌,
+  ◌≤◌,
+  Bool,
+  true,
+  false,
+  cond,
+  List,
+  [],
+  ◌∷◌,
+  ◌++◌,
+  length,
+  map,
+  filter,
+  Some,
+  None,
+  refl,
+  sym,
+  ◌∙◌,
+  ap,
+  subst,
+  All,
+  arith,
+}
 use Rattle.std.proofs.lemmas.Bool.{false≢true}
 use Rattle.std.proofs.lemmas.Slice.Eq.{bytes_eq-Decides}
 use Rattle.std.proofs.lemmas.List.{length-append, map-append, length-map}
@@ -83,7 +109,8 @@ slots_filtered p slots are = record {
 }
 
 -- slots with other fields
-names_mapped : (f : Slot → Slot) (same : (slot : Slot) → (f slot).name ≡ slot.name) (slots : List Slot) → names_of (map f slots) ≡ names_of slots
+names_mapped : (f : Slot → Slot) (same : (slot : Slot) → (f slot).name ≡ slot.name) (slots : List Slot)
+    → names_of (map f slots) ≡ names_of slots
 names_mapped f same [] = refl
 names_mapped f same (slot ∷ slots) = ap (λ (n : List ℕ). n ∷ names_of (map f slots)) (same slot)
     ∙ ap (λ (l : List (List ℕ)). slot.name ∷ l) (names_mapped f same slots)

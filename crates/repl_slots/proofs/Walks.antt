@@ -1,14 +1,67 @@
 -- Two walks over one file, slot by slot, come to the same end: the same slots, and the same place where it goes wrong, if it does.
-use Rattle.std.proofs.Common.{◌≡◌, ℕ, ◌+◌, ◌^◌, ◌<◌, ◌≤◌, List, ◌++◌, length, take, drop, get_or, Option, Some, None, IfSome, refl, sym, ◌∙◌, ap, subst, append_assoc, inl, inr, arith}
+use Rattle.std.proofs.Common.{
+  ◌≡◌,
+  ℕ,
+  ◌+◌,
+  ◌^◌,
+  ◌<◌,
+  ◌≤◌,
+  List,
+  ◌++◌,
+  length,
+  take,
+  drop,
+  get_or,
+  Option,
+  Some,
+  None,
+  IfSome,
+  refl,
+  sym,
+  ◌∙◌,
+  ap,
+  subst,
+  append_assoc,
+  inl,
+  inr,
+  arith,
+}
 use Rattle.std.proofs.lemmas.List.{drop-drop, drop_at, get_or-drop, length-append, length-drop, take_at}
 use Rattle.std.proofs.lemmas.Nat.{from_be_bytes-to_be_bytes_8}
 use Rattle.std.specs.Int.{w64, from_be_bytes}
 use Rattle.repl_slots.specs.Slot.{IsNew}
-use Rattle.repl_slots.specs.SlotFile.{Entry, EntryStops, HeaderStops, Holds, IsCount, IsEntry, IsFlag, IsMagic, IsNameLength, IsNewName, IsPosition, IsVersion, Stops, entry_bytes, field, in_count, in_flag, in_length, in_magic, in_name, in_position, in_version, int64, position_bytes, size_at}
+use Rattle.repl_slots.specs.SlotFile.{
+  Entry,
+  EntryStops,
+  HeaderStops,
+  Holds,
+  IsCount,
+  IsEntry,
+  IsFlag,
+  IsMagic,
+  IsNameLength,
+  IsNewName,
+  IsPosition,
+  IsVersion,
+  Stops,
+  entry_bytes,
+  field,
+  in_count,
+  in_flag,
+  in_length,
+  in_magic,
+  in_name,
+  in_position,
+  in_version,
+  int64,
+  position_bytes,
+  size_at,
+}
 
 -- ---- one field
 
-stop_one : (at size : ℕ) (Right : List ℕ → Type 0) (file : List ℕ) (p q : ℕ) → Stops at size Right file p → Stops at size Right file q → p ≡ q
+stop_one : (at size : ℕ) (Right : List ℕ → Type 0) (file : List ℕ) (p q : ℕ) → Stops at size Right file p → Stops at size Right file q
+    → p ≡ q
 stop_one at size Right file p q (inl a) (inl b) = a.1 ∙ sym b.1
 stop_one at size Right file p q (inl a) (inr b) = absurd (omega (arith, a.0, b.0))
 stop_one at size Right file p q (inr a) (inl b) = absurd (omega (arith, a.0, b.0))
@@ -31,7 +84,8 @@ header_one file p q (in_count m v a) (in_magic b) = absurd (stop_none 0 4 IsMagi
 header_one file p q (in_count m v a) (in_version n b) = absurd (stop_none 4 2 IsVersion file q v b)
 header_one file p q (in_count m v a) (in_count n w b) = stop_one 6 2 IsCount file p q a b
 
-pub header_none : (file : List ℕ) (p : ℕ) → Holds 0 4 IsMagic file → Holds 4 2 IsVersion file → Holds 6 2 IsCount file → HeaderStops file p → ⊥
+pub header_none : (file : List ℕ) (p : ℕ) → Holds 0 4 IsMagic file → Holds 4 2 IsVersion file → Holds 6 2 IsCount file
+    → HeaderStops file p → ⊥
 header_none file p m0 v0 c0 (in_magic a) = stop_none 0 4 IsMagic file p m0 a
 header_none file p m0 v0 c0 (in_version m a) = stop_none 4 2 IsVersion file p v0 a
 header_none file p m0 v0 c0 (in_count m v a) = stop_none 6 2 IsCount file p c0 a
@@ -116,13 +170,15 @@ module _ (names : List (List ℕ)) (at : ℕ) (file : List ℕ) (entry : Entry) 
   flag_told : (restart : Option ℕ) → drop (at + 1 + size) file ≡ position_bytes restart ++ r → Holds (at + 1 + size) 1 IsFlag file
       × Holds (at + 2 + size) 8 (IsPosition (get_or file (at + 1 + size) 0)) file
   flag_told None is =
-      let next : drop (at + 2 + size) file ≡ int64 0 ++ r = ap (λ (k : ℕ). drop k file) (omega arith) ∙ sym (drop-drop 1 (at + 1 + size) file)
+      let next : drop (at + 2 + size) file ≡ int64 0 ++ r = ap (λ (k : ℕ). drop k file) (omega arith)
+      ∙ sym (drop-drop 1 (at + 1 + size) file)
       ∙ ap (drop 1) is in (
         (omega (arith, enough), inl (ap (take 1) is)),
         (omega (arith, enough), λ zero. ap (take 8) next ∙ take_at (int64 0) r 8 refl),
       )
   flag_told (Some position) is =
-      let flag : get_or file (at + 1 + size) 0 ≡ 1 = ap (λ (k : ℕ). get_or file k 0) (omega arith) ∙ sym (get_or-drop (at + 1 + size) file 0 0)
+      let flag : get_or file (at + 1 + size) 0 ≡ 1 = ap (λ (k : ℕ). get_or file k 0) (omega arith)
+      ∙ sym (get_or-drop (at + 1 + size) file 0 0)
       ∙ ap (λ (l : List ℕ). get_or l 0 0) is in (
         (omega (arith, enough), inr (ap (take 1) is)),
         (omega (arith, enough), λ zero. absurd (omega (arith, flag, zero))),
@@ -155,7 +211,8 @@ position_one (Some a) (Some b) x y a_fits b_fits e =
     let same = long_one a b x y a_fits b_fits (ap (drop 1) e) in
     (ap (λ (n : ℕ). Some n) same.0, same.1)
 
-pub entry_same : (a b : Entry) (x y : List ℕ) → Fits a.restart → Fits b.restart → entry_bytes a ++ x ≡ entry_bytes b ++ y → (a ≡ b) × (x ≡ y)
+pub entry_same : (a b : Entry) (x y : List ℕ) → Fits a.restart → Fits b.restart → entry_bytes a ++ x ≡ entry_bytes b ++ y → (a ≡ b)
+    × (x ≡ y)
 entry_same a b x y a_fits b_fits e =
     let size : length a.name ≡ length b.name = ap (λ (l : List ℕ). get_or l 0 0) e in
     let body = sym (append_assoc a.name (position_bytes a.restart) x) ∙ ap (drop 1) e ∙ append_assoc b.name (position_bytes b.restart) y in

@@ -1,9 +1,10 @@
 //! What holds of every file of slots, of every list and of every place.
-ghost use Rattle.std.specs.Prelude.{◌≡◌, ℕ, List, Ok, Err};
+ghost use Rattle.std.specs.Prelude.{◌≡◌, ◌≤◌, ℕ, List, Ok, Err, Some, false};
 ghost use Rattle.repl_disk.specs.Folder.{Folder};
-ghost use Rattle.repl_slots.specs.Slot.{SlotList};
+ghost use Rattle.repl_slots.specs.Slot.{SlotList, confirmed, is_session};
 ghost use Rattle.repl_slots.specs.SlotFile.{Entry, FileStops, Spells, entries_of};
 ghost use Rattle.repl_slots.specs.Stored.{Mounted, Stores};
+ghost use Rattle.repl_slots.specs.declared.slot.Slot.{Slot};
 ghost use Rattle.repl_slots.specs.declared.fault.SlotFault.TheVariants as fault;
 
 /// A list of slots has one file.
@@ -30,4 +31,10 @@ pub fn no_place()
 pub fn saved_is_mounted()
     ensures slots { (entries : List Entry) (folder : Folder) (list : SlotList) → Stores entries folder → Mounted folder (Ok list) → entries_of list.slots ≡ entries }
     ensures taken { (entries : List Entry) (folder : Folder) (place : ℕ) → Stores entries folder → Mounted folder (Err (fault.BadSlots place)) → ⊥ }
+{}
+
+/// Confirming a position lowers no restart position, and changes no slot of another session.
+pub fn confirmed_rises()
+    ensures raised { (session at before : ℕ) (slot : Slot) → slot.restart ≡ Some before → (after : ℕ) × ((confirmed session at slot).restart ≡ Some after) × (before ≤ after) }
+    ensures others { (session at : ℕ) (slot : Slot) → is_session session slot.owner ≡ false → confirmed session at slot ≡ slot }
 {}

@@ -39,7 +39,7 @@ pub fn read_slots(alloc: Global, file: &[u8]) -> Result<Vec<Slot>, SlotFault>
 
 /// The count in the header.
 fn count_of(file: &[u8]) -> Result<usize, SlotFault>
-    ensures read { IfOk result (λ count. (count ≤ 10) × (file.now ≡ header_bytes count ++ drop 8 file.now)) }
+    ensures read { IfOk result (λ count. (count ≤ SLOT_LIMIT) × (file.now ≡ header_bytes count ++ drop 8 file.now)) }
     ensures refused { IfErr result (IsAt (HeaderStops file.now)) }
 {
     magic_of(file)?;
@@ -70,7 +70,7 @@ fn version_of(file: &[u8]) -> Result<(), SlotFault>
 }
 
 fn count_at(file: &[u8]) -> Result<usize, SlotFault>
-    ensures read { IfOk result (λ count. (count ≤ 10) × (8 ≤ length file.now) × (field 6 2 file.now ≡ int16 count)) }
+    ensures read { IfOk result (λ count. (count ≤ SLOT_LIMIT) × (8 ≤ length file.now) × (field 6 2 file.now ≡ int16 count)) }
     ensures refused { IfErr result (IsAt (Stops 6 2 IsCount file.now)) }
 {
     let count = BigEndian::read_u16(field_at(file, 6, 2)?) as usize;
@@ -112,7 +112,7 @@ fn slot_at(
 /// The length of the name behind this place.
 fn size_at(file: &[u8], at: usize) -> Result<usize, SlotFault>
     requires { at ≤ length file.now }
-    ensures read { IfOk result (λ size. Holds at 1 IsNameLength file.now × (field at 1 file.now ≡ size ∷ []) × (size ≡ size_at at file.now) × (size ≤ 63)) }
+    ensures read { IfOk result (λ size. Holds at 1 IsNameLength file.now × (field at 1 file.now ≡ size ∷ []) × (size ≡ size_at at file.now) × (size ≤ SLOT_NAME_LIMIT)) }
     ensures refused { IfErr result (IsAt (Stops at 1 IsNameLength file.now)) }
 {
     match field_at(file, at, 1)?[0] as usize {

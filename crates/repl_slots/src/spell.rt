@@ -29,7 +29,7 @@ pub fn spell_slots(alloc: Global, slots: &[Slot]) -> Result<Vec<u8>, AllocError>
 
 /// How many slots are not temporary.
 fn lasting(slots: &[Slot]) -> u16
-    requires { length slots.now ≤ 10 }
+    requires { AreSlots slots.now }
     ensures { result ≡ length (entries_of slots.now) }
 {
     let mut count = 0;

@@ -11,10 +11,11 @@ ghost use Rattle.repl_slots.specs.declared.fault.SlotFault.TheVariants as fault;
 use crate::each::settle_all;
 use crate::fault::SlotFault;
 use crate::read::read_slots;
-use crate::slot::Slot;
+use crate::slot::{SLOT_LIMIT, Slot};
 use crate::slots::Slots;
 use crate::spell::spell_slots;
 use repl_disk::{Disk, DiskError, replace_by};
+use repl_text::SLOT_NAME_LIMIT;
 use std::alloc::Global;
 
 /// The file's name.
@@ -23,10 +24,11 @@ const FILE: &str = "slots";
 /// The name under which it is written first. A file of this name that a crash left is of no matter.
 const ASIDE: &str = "slots.tmp";
 
-/// Space for the longest file of slots, and for a byte more.
-const ROOM: usize = 739;
+/// Space for the longest file of slots, and for a byte more: a header, and of each slot a name and ten bytes.
+const ROOM: usize = 8 + SLOT_LIMIT * (SLOT_NAME_LIMIT + 10) + 1;
 
-const _: () = prove!(ROOM == 8 + 10 * (1 + 63 + 1 + 8) + 1);
+// What is mounted of a longer file depends on this number.
+const _: () = prove!(ROOM == 739);
 
 impl Slots {
     /// The slots that the file `slots` has, each with its restart position saved, and nobody's. Without the file there are
@@ -55,7 +57,7 @@ impl Slots {
 
     /// Writes the slots into the file `slots`, but for temporary ones, and from `Ok` on takes their restart positions as
     /// saved. A crash at any moment leaves the file that was there, or the new one. After a disk fault (`DiskFault`) every
-    /// further call answers `Broken`, until the slots are mounted again. Takes memory for the file's bytes; where there is
+    /// further save answers `Broken`, until the slots are mounted again. Takes memory for the file's bytes; where there is
     /// none, the list stays, and on the disk the old file or the new one stands.
     pub fn save<D: Disk>(&mut self, alloc: Global, disk: &mut D) -> Result<(), SlotFault>
         ensures answer { Saved self.old self.new result }

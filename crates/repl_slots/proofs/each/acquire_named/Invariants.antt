@@ -4,4 +4,5 @@ use Rattle.repl_slots.proofs.each.acquire_named.Given as goal
 use Rattle.repl_slots.specs.Slot.{acquired}
 
 abbrev pub invariant-loop-slot : goal.invariant-loop-slot
-invariant-loop-slot l = l.slot-items ≡ map (acquired l.name l.session) (take l.slot-index l.initial.slot-items) ++ drop l.slot-index l.initial.slot-items
+invariant-loop-slot l = l.slot-items ≡ map (acquired l.name l.session) (take l.slot-index l.initial.slot-items)
+    ++ drop l.slot-index l.initial.slot-items

@@ -36,4 +36,5 @@ loop-preserved c =
     read.end.1 (omega arith) few)
 
 pub returns-then-at-file-clause-refused : goal.returns-then-at-file-clause-refused
-returns-then-at-file-clause-refused c = stops_behind c.args.file.now c.in_ok-count.count c.loop.slots.items c.loop.at c.loop.counter c.loop.invariant (omega arith) (omega arith) (omega arith)
+returns-then-at-file-clause-refused c = stops_behind c.args.file.now c.in_ok-count.count c.loop.slots.items c.loop.at c.loop.counter
+    c.loop.invariant (omega arith) (omega arith) (omega arith)

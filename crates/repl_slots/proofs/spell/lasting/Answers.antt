@@ -11,5 +11,11 @@ loop-slot-preserved c =
     let slots = c.args.slots.now in
     let slot = c.slot-item.result in
     let more = ap length (entries_more slots i slot (omega arith) c.slot-item.is)
-    ∙ length-append (entries_of (take i slots)) (entries_of (slot ∷ [])) in
-    (omega (arith, more, c.written-count.ensures.count, c.loop-slot.invariant.0), omega (arith, c.written-count.ensures.once, c.loop-slot.invariant.1))
+    ∙ length-append (entries_of (take i slots)) (entries_of (slot ∷ [])) in (
+      omega (arith, more, c.written-count.ensures.count, c.loop-slot.invariant.0),
+      omega (
+        arith,
+        c.written-count.ensures.once,
+        c.loop-slot.invariant.1,
+      ),
+    )

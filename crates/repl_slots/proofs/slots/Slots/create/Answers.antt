@@ -1,5 +1,26 @@
 -- With one slot more, of a name that no other has, there are at most as many as there may be.
-use Rattle.std.proofs.Common.{◌≡◌, ◌++◌, ◌∷◌, [], ◌<◌, List, ℕ, false, Option, Some, None, MatchOption, is_some, length, ap, sym, ◌∙◌, arith, subst, rules}
+use Rattle.std.proofs.Common.{
+  ◌≡◌,
+  ◌++◌,
+  ◌∷◌,
+  [],
+  ◌<◌,
+  List,
+  ℕ,
+  false,
+  Option,
+  Some,
+  None,
+  MatchOption,
+  is_some,
+  length,
+  ap,
+  sym,
+  ◌∙◌,
+  arith,
+  subst,
+  rules,
+}
 use Rattle.std.specs.Borrow.{Bor}
 use Rattle.repl_slots.specs.Slot.{AreSlots, slot_named}
 use Rattle.repl_text.specs.SlotName.{IsSlotName}
@@ -16,7 +37,8 @@ none_found (Some x) found none is = absurd cc
 more : (now base slots seen : List Slot) (slot : Slot) (name : List ℕ) → now ≡ base ++ slot ∷ [] → base ≡ slots → AreSlots slots
     → length slots < SLOT_LIMIT → slot.name ≡ name → IsSlotName name → seen ≡ slots → slot_named name seen ≡ None → AreSlots now
 more now base slots seen slot name is kept are room same named seen_is none =
-    subst AreSlots (sym (is ∙ ap (λ (l : List Slot). l ++ slot ∷ []) kept)) (slots_more slots slot are room (subst IsSlotName (sym same) named)
+    subst AreSlots (sym (is ∙ ap (λ (l : List Slot). l ++ slot
+    ∷ []) kept)) (slots_more slots slot are room (subst IsSlotName (sym same) named)
     (ap (λ (n : List ℕ). slot_named n slots) same ∙ ap (slot_named name) (sym seen_is) ∙ none))
 
 pub invariant_of-self-2 : goal.invariant_of-self-2

@@ -8,4 +8,5 @@ pub invariant_of-self : goal.invariant_of-self
 invariant_of-self c =
     subst AreSlots (sym c.release_all.ensures) (slots_mapped (released c.args.session)
     (λ slot. named_if _ _ slot refl) _
-    (subst AreSlots (sym c.drop_temporary.ensures) (slots_filtered (λ slot. not (is_session c.args.session slot.temporary)) _ c.self.invariant)))
+    (subst AreSlots (sym c.drop_temporary.ensures) (slots_filtered (λ slot. not (is_session c.args.session slot.temporary)) _
+    c.self.invariant)))
