@@ -1,57 +1,9 @@
 -- A file comes to one end: it spells one list of slots, or goes wrong at one place.
-use Rattle.std.proofs.Common.{
-  ◌≡◌,
-  ◌≢◌,
-  ℕ,
-  ◌+◌,
-  ◌-◌,
-  ◌<◌,
-  ◌≤◌,
-  List,
-  [],
-  ◌∷◌,
-  ◌++◌,
-  length,
-  drop,
-  get_or,
-  Option,
-  Some,
-  None,
-  Ok,
-  Err,
-  refl,
-  sym,
-  ◌∙◌,
-  ap,
-  subst,
-  append_assoc,
-  inl,
-  inr,
-  ◌⊎◌,
-  arith,
-}
+use Rattle.std.proofs.Common.{◌≡◌, ◌≢◌, ℕ, ◌+◌, ◌-◌, ◌<◌, ◌≤◌, List, [], ◌∷◌, ◌++◌, length, drop, get_or, Option, Some, None, Ok, Err, refl, sym, ◌∙◌, ap, subst, append_assoc, inl, inr, ◌⊎◌, arith}
 use Rattle.std.proofs.lemmas.List.{append-nil, drop-drop, drop_at, length-append}
 use Rattle.repl_disk.specs.Folder.{Folder}
 use Rattle.repl_slots.specs.Slot.{Differ, IsNew, SlotList}
-use Rattle.repl_slots.specs.SlotFile.{
-  AreEach,
-  AreEntries,
-  BeginsWith,
-  Entry,
-  EntryStops,
-  FileStops,
-  HeaderStops,
-  Spells,
-  behind,
-  entries_bytes,
-  entries_of,
-  entry_bytes,
-  field,
-  header_bytes,
-  in_header,
-  in_slot,
-  names_in,
-}
+use Rattle.repl_slots.specs.SlotFile.{AreEach, AreEntries, BeginsWith, Entry, EntryStops, FileStops, HeaderStops, Spells, behind, entries_bytes, entries_of, entry_bytes, field, header_bytes, in_header, in_slot, names_in}
 use Rattle.repl_slots.specs.Stored.{Mounted, StoredIn, Stores, slots_name}
 use Rattle.repl_slots.specs.declared.fault.SlotFault.TheVariants as fault
 use Rattle.repl_slots.specs.declared.slot.TheConstants.{SLOT_LIMIT}

@@ -1,33 +1,5 @@
 -- What the file keeps of a list of slots, slot by slot.
-use Rattle.std.proofs.Common.{
-  ◌≡◌,
-  ℕ,
-  ◌+◌,
-  ◌<◌,
-  ◌≤◌,
-  Bool,
-  true,
-  false,
-  cond,
-  not,
-  List,
-  [],
-  ◌∷◌,
-  ◌++◌,
-  length,
-  map,
-  filter,
-  take,
-  get_or,
-  refl,
-  sym,
-  ◌∙◌,
-  ap,
-  subst,
-  is_some,
-  append_assoc,
-  arith,
-}
+use Rattle.std.proofs.Common.{◌≡◌, ℕ, ◌+◌, ◌<◌, ◌≤◌, Bool, true, false, cond, not, List, [], ◌∷◌, ◌++◌, length, map, filter, take, get_or, refl, sym, ◌∙◌, ap, subst, is_some, append_assoc, arith}
 use Rattle.std.proofs.lemmas.List.{take_more}
 use Rattle.repl_slots.specs.SlotFile.{AreEach, AreEntries, Entry, entries_bytes, entries_of, entry_bytes, entry_of, names_in}
 use Rattle.repl_slots.specs.Slot.{AreSlots, names_of, Differ}

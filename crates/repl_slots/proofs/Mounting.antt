@@ -1,34 +1,5 @@
 -- What is mounted is what the file says.
-use Rattle.std.proofs.Common.{
-  ◌≡◌,
-  ℕ,
-  ◌-◌,
-  min,
-  cond,
-  not,
-  is_some,
-  false,
-  List,
-  [],
-  ◌∷◌,
-  ◌++◌,
-  length,
-  map,
-  take,
-  drop,
-  Option,
-  Some,
-  None,
-  Ok,
-  Err,
-  refl,
-  sym,
-  ◌∙◌,
-  ap,
-  subst,
-  All,
-  arith,
-}
+use Rattle.std.proofs.Common.{◌≡◌, ℕ, ◌-◌, min, cond, not, is_some, false, List, [], ◌∷◌, ◌++◌, length, map, take, drop, Option, Some, None, Ok, Err, refl, sym, ◌∙◌, ap, subst, All, arith}
 use Rattle.std.proofs.lemmas.List.{length-take, take_at}
 use Rattle.std.proofs.lemmas.List.Elements.{All-tail, All-nil, All-cons}
 use Rattle.repl_disk.specs.Folder.{ToldFiles, IfTold, ReadsAt}

@@ -1,51 +1,8 @@
 -- How far a file is read: its header and some slots, which it spells so far.
-use Rattle.std.proofs.Common.{
-  ◌≡◌,
-  ℕ,
-  cond,
-  not,
-  is_some,
-  Option,
-  ◌+◌,
-  ◌<◌,
-  ◌≤◌,
-  List,
-  [],
-  ◌∷◌,
-  ◌++◌,
-  length,
-  map,
-  drop,
-  refl,
-  sym,
-  ◌∙◌,
-  ap,
-  subst,
-  append_assoc,
-  All,
-  arith,
-}
+use Rattle.std.proofs.Common.{◌≡◌, ℕ, cond, not, is_some, Option, ◌+◌, ◌<◌, ◌≤◌, List, [], ◌∷◌, ◌++◌, length, map, drop, refl, sym, ◌∙◌, ap, subst, append_assoc, All, arith}
 use Rattle.std.proofs.lemmas.List.{length-append, map-append, append-nil, drop_all}
 use Rattle.std.proofs.lemmas.List.Elements.{All-append, All-nil}
-use Rattle.repl_slots.specs.SlotFile.{
-  AreEntries,
-  BeginsWith,
-  IsAt,
-  in_slot,
-  behind,
-  Entry,
-  EntryStops,
-  FileStops,
-  IsEntry,
-  IsMounted,
-  Spells,
-  entries_bytes,
-  entries_of,
-  entry_bytes,
-  entry_of,
-  header_bytes,
-  names_in,
-}
+use Rattle.repl_slots.specs.SlotFile.{AreEntries, BeginsWith, IsAt, in_slot, behind, Entry, EntryStops, FileStops, IsEntry, IsMounted, Spells, entries_bytes, entries_of, entry_bytes, entry_of, header_bytes, names_in}
 use Rattle.repl_slots.specs.Slot.{IsNew, names_of}
 use Rattle.repl_slots.specs.declared.fault.SlotFault.{SlotFault}
 use Rattle.repl_slots.specs.declared.fault.SlotFault.TheVariants as fault

@@ -1,62 +1,10 @@
 -- Two walks over one file, slot by slot, come to the same end: the same slots, and the same place where it goes wrong, if it does.
-use Rattle.std.proofs.Common.{
-  ◌≡◌,
-  ℕ,
-  ◌+◌,
-  ◌^◌,
-  ◌<◌,
-  ◌≤◌,
-  List,
-  ◌++◌,
-  length,
-  take,
-  drop,
-  get_or,
-  Option,
-  Some,
-  None,
-  IfSome,
-  refl,
-  sym,
-  ◌∙◌,
-  ap,
-  subst,
-  append_assoc,
-  inl,
-  inr,
-  arith,
-}
+use Rattle.std.proofs.Common.{◌≡◌, ℕ, ◌+◌, ◌^◌, ◌<◌, ◌≤◌, List, ◌++◌, length, take, drop, get_or, Option, Some, None, IfSome, refl, sym, ◌∙◌, ap, subst, append_assoc, inl, inr, arith}
 use Rattle.std.proofs.lemmas.List.{drop-drop, drop_at, get_or-drop, length-append, length-drop, take_at}
 use Rattle.std.proofs.lemmas.Nat.{from_be_bytes-to_be_bytes_8}
 use Rattle.std.specs.Int.{w64, from_be_bytes}
 use Rattle.repl_slots.specs.Slot.{IsNew}
-use Rattle.repl_slots.specs.SlotFile.{
-  Entry,
-  EntryStops,
-  HeaderStops,
-  Holds,
-  IsCount,
-  IsEntry,
-  IsFlag,
-  IsMagic,
-  IsNameLength,
-  IsNewName,
-  IsPosition,
-  IsVersion,
-  Stops,
-  entry_bytes,
-  field,
-  in_count,
-  in_flag,
-  in_length,
-  in_magic,
-  in_name,
-  in_position,
-  in_version,
-  int64,
-  position_bytes,
-  size_at,
-}
+use Rattle.repl_slots.specs.SlotFile.{Entry, EntryStops, HeaderStops, Holds, IsCount, IsEntry, IsFlag, IsMagic, IsNameLength, IsNewName, IsPosition, IsVersion, Stops, entry_bytes, field, in_count, in_flag, in_length, in_magic, in_name, in_position, in_version, int64, position_bytes, size_at}
 
 -- ---- one field
 

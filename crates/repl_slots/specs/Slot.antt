@@ -1,38 +1,6 @@
 -- Replication slots (PostgreSQL 17 manual, section "Replication Slots"), and what calls make of the list of them. Sessions
 -- are numbered from 1; 0 stands for none.
-use Rattle.std.specs.Prelude.{
-  ◌≡◌,
-  ◌≢◌,
-  ℕ,
-  ◌<◌,
-  ◌≤◌,
-  ◌==◌,
-  max,
-  min,
-  Bool,
-  false,
-  not,
-  List,
-  [],
-  ◌∷◌,
-  ◌++◌,
-  length,
-  map,
-  filter,
-  Option,
-  Some,
-  None,
-  IsSome,
-  is_some,
-  Result,
-  Ok,
-  Err,
-  bytes_eq,
-  option_to_list,
-  if◌then◌else◌,
-  All,
-  Contains,
-}
+use Rattle.std.specs.Prelude.{◌≡◌, ◌≢◌, ℕ, ◌<◌, ◌≤◌, ◌==◌, max, min, Bool, false, not, List, [], ◌∷◌, ◌++◌, length, map, filter, Option, Some, None, IsSome, is_some, Result, Ok, Err, bytes_eq, option_to_list, if◌then◌else◌, All, Contains}
 use Rattle.std.specs.List.{find}
 use Rattle.repl_text.specs.SlotName.{IsSlotName}
 use Rattle.repl_slots.specs.declared.slot.Slot.{Slot}

@@ -4,32 +4,7 @@
 --     magic 4 | version 2 | count 2 | and for each slot, in the order of creation: length of its name 1 | name | flag 1 | position 8
 --
 -- The flag is 1 where the slot has a restart position, and 0 and followed by zeros where it has none.
-use Rattle.std.specs.Prelude.{
-  ◌≡◌,
-  ℕ,
-  ◌+◌,
-  ◌^◌,
-  ◌<◌,
-  ◌≤◌,
-  ◌⊎◌,
-  List,
-  [],
-  ◌∷◌,
-  ◌++◌,
-  length,
-  take,
-  drop,
-  map,
-  filter,
-  not,
-  codes,
-  slice_index,
-  Option,
-  Some,
-  None,
-  IfSome,
-  is_some,
-}
+use Rattle.std.specs.Prelude.{◌≡◌, ℕ, ◌+◌, ◌^◌, ◌<◌, ◌≤◌, ◌⊎◌, List, [], ◌∷◌, ◌++◌, length, take, drop, map, filter, not, codes, slice_index, Option, Some, None, IfSome, is_some}
 use Rattle.std.specs.Int.{w16, w64, to_be_bytes}
 use Rattle.repl_text.specs.SlotName.{IsSlotName}
 use Rattle.repl_slots.specs.Slot.{IsNew, Differ}

@@ -1,26 +1,5 @@
 -- With one slot more, of a name that no other has, there are at most as many as there may be.
-use Rattle.std.proofs.Common.{
-  ◌≡◌,
-  ◌++◌,
-  ◌∷◌,
-  [],
-  ◌<◌,
-  List,
-  ℕ,
-  false,
-  Option,
-  Some,
-  None,
-  MatchOption,
-  is_some,
-  length,
-  ap,
-  sym,
-  ◌∙◌,
-  arith,
-  subst,
-  rules,
-}
+use Rattle.std.proofs.Common.{◌≡◌, ◌++◌, ◌∷◌, [], ◌<◌, List, ℕ, false, Option, Some, None, MatchOption, is_some, length, ap, sym, ◌∙◌, arith, subst, rules}
 use Rattle.std.specs.Borrow.{Bor}
 use Rattle.repl_slots.specs.Slot.{AreSlots, slot_named}
 use Rattle.repl_text.specs.SlotName.{IsSlotName}
