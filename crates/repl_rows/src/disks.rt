@@ -60,7 +60,7 @@ fn fresh(alloc: Global, numbers: &[Vec<u8>]) -> Result<MemoryDisk, Miss> {
 }
 
 /// Whether a crash keeps what was not synced.
-fn is_keep(way: &[u8]) -> Result<bool, Miss> {
+pub fn is_keep(way: &[u8]) -> Result<bool, Miss> {
     match text(way)? {
         "keep" => Ok(true),
         "lose" => Ok(false),
@@ -165,7 +165,7 @@ fn read<D: Disk>(alloc: Global, disk: &mut D, name: &str, at: u64, room: u64) ->
 /// the replacement ended, and what `a` is then. The replacement's call of this number fails, or the disk fails behind so
 /// many calls.
 fn replacing(alloc: Global, keep: bool, how: &str, calls: u64) -> Answer {
-    let mut disk = failing(alloc, how, calls)?;
+    let mut disk = failing(alloc, how, calls, BEFORE)?;
     let old = put_old(&mut disk);
     if old.is_err() {
         return done(alloc, old);
@@ -177,11 +177,11 @@ fn replacing(alloc: Global, keep: bool, how: &str, calls: u64) -> Answer {
     crashed(alloc, disk, keep, &ended)
 }
 
-/// A disk without files, on which the replacement's call of this number fails where that is the way.
-fn failing(alloc: Global, how: &str, calls: u64) -> Result<MemoryDisk, Miss> {
+/// A disk without files, on which the call of this number behind those before fails where that is the way.
+pub fn failing(alloc: Global, how: &str, calls: u64, before: u64) -> Result<MemoryDisk, Miss> {
     let mut failing = Vec::new(alloc);
     match how {
-        "failing" => failing.push(calls.saturating_add(BEFORE))?,
+        "failing" => failing.push(calls.saturating_add(before))?,
         "fuse" => {}
         _ => return Err(Miss::Words),
     }

@@ -26,6 +26,7 @@ mod records;
 mod segments;
 mod server_words;
 mod sinks;
+mod slots;
 mod streams;
 mod table;
 mod texts;

@@ -3,9 +3,10 @@ use crate::values::{Names, text, words_of};
 use crate::words::{Call, is};
 use crate::{
     commands, controls, copies, disks, histories, lists, messages, pages, paths, positions, quorum,
-    reader, records, segments, streams, texts, tokens, tools, walks, wire,
+    reader, records, segments, slots, streams, texts, tokens, tools, walks, wire,
 };
 use repl_disk::MemoryDisk;
+use repl_slots::Slots;
 use std::alloc::Global;
 use std::io;
 
@@ -16,8 +17,10 @@ pub struct Table {
     names: Names,
     subject: String,
     held: u64,
-    /// The disk of the subject `disk`, which rows change.
+    /// The disk of the subjects `disk` and `slots`, which rows change.
     disk: MemoryDisk,
+    /// The slots of the subject `slots`, which rows change.
+    slots: Slots,
 }
 
 /// A row, without its words' spelling.
@@ -35,6 +38,7 @@ impl Table {
             subject: String::new(alloc),
             held: 0,
             disk: MemoryDisk::new(alloc, Vec::new(alloc)),
+            slots: Slots::new(alloc),
         }
     }
 
@@ -127,6 +131,9 @@ impl Table {
         let subject = self.subject.as_str();
         if is(subject, "disk") {
             return disks::answer(self.alloc, &mut self.disk, &call);
+        }
+        if is(subject, "slots") {
+            return slots::answer(self.alloc, &mut self.disk, &mut self.slots, &call);
         }
         library(self.alloc, subject, &call)
     }

@@ -1,0 +1,8 @@
+-- The slots before the index are done, the others are as they were.
+use Rattle.std.proofs.Common.{◌≡◌, ◌++◌, map, take, drop}
+use Rattle.repl_slots.proofs.each.acquire_named.Given as goal
+use Rattle.repl_slots.specs.Slot.{acquired}
+
+abbrev pub invariant-loop-slot : goal.invariant-loop-slot
+invariant-loop-slot l = l.slot-items ≡ map (acquired l.name l.session) (take l.slot-index l.initial.slot-items)
+    ++ drop l.slot-index l.initial.slot-items
