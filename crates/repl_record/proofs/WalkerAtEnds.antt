@@ -28,7 +28,7 @@ nothing_right ident timeline from prev (why.Checksum found computed) h =
     absurd (omega (arith, h.1, ap length_field (content-nil ident.size from)))
 nothing_right ident timeline from prev why.Padding h = absurd (omega (arith, h.1, ap length_field (content-nil ident.size from)))
 
-nothing_begins : (ident : Ident) (timeline : ℕ → ℕ) (from prev : ℕ) → IsBeginning ident timeline from prev []
+pub nothing_begins : (ident : Ident) (timeline : ℕ → ℕ) (from prev : ℕ) → IsBeginning ident timeline from prev []
 nothing_begins ident timeline from prev zero below = (nothing_over ident.size from, nothing_right ident timeline from prev)
 nothing_begins ident timeline from prev (suc m) below = (nothing_over ident.size from, nothing_right ident timeline from prev)
 

@@ -1,7 +1,7 @@
 ghost use Rattle.std.specs.Prelude.{◌≡◌, ◌+◌, ◌%◌, ◌^◌, ◌<◌, ◌≤◌, ◌++◌, ℕ, List, [], length};
 ghost use Rattle.repl_record.specs.declared.answer.WalkReason.{WalkReason};
 ghost use Rattle.repl_record.specs.Judging.{Answers};
-ghost use Rattle.repl_record.specs.Walker.{identity, position, Stands, Refuses, AreOn, GoesOn, Passes};
+ghost use Rattle.repl_record.specs.Walker.{identity, position, last_end, last_start, Stands, Refuses, AreOn, GoesOn, Passes};
 
 use crate::answer::{WalkReason, WalkStep};
 use crate::record::HEAD_LENGTH;
@@ -62,6 +62,13 @@ impl Walker {
         }
     }
 
+    /// What the pages of its log have in common.
+    pub fn ident(&self) -> Ident
+        ensures { result ≡ identity self.now }
+    {
+        self.ident
+    }
+
     /// The position of the next byte.
     pub fn position(&self) -> Lsn
         ensures { result ≡ position self.now }
@@ -71,14 +78,14 @@ impl Walker {
 
     /// Where the last whole record ends, behind which the walker stands, or where the walker began while none was whole.
     pub fn last_end(&self) -> Lsn
-        ensures { (timeline : ℕ → ℕ) (from prev : ℕ) (log : List ℕ) → Stands self.now timeline from prev log → result ≡ from }
+        ensures { result ≡ last_end self.now }
     {
         self.from
     }
 
     /// Where that record starts.
     pub fn last_start(&self) -> Lsn
-        ensures { (timeline : ℕ → ℕ) (from prev : ℕ) (log : List ℕ) → Stands self.now timeline from prev log → result ≡ prev }
+        ensures { result ≡ last_start self.now }
     {
         self.prev
     }
@@ -93,7 +100,7 @@ impl Walker {
         // The walker stands behind them, or behind the record that ended, or it refuses.
         ensures goes_on { (timeline : ℕ → ℕ) (from prev : ℕ) (log : List ℕ) → Stands self.old timeline from prev log → AreOn timeline tli (position self.old) (length bytes.now)
             → GoesOn self.new timeline from prev log bytes.now result }
-        ensures again { (at : ℕ) (reason : WalkReason) → Refuses self.old at reason → (result ≡ WalkStep.Bad at reason) × Refuses self.new at reason }
+        ensures again { (at : ℕ) (reason : WalkReason) → Refuses self.old at reason → (result ≡ WalkStep.Bad at reason) × (self.new ≡ self.old) }
         ensures ident { identity self.new ≡ identity self.old }
         ensures passes { Passes self.old self.new (length bytes.now) result }
     {
