@@ -3,5 +3,8 @@ pub mod Ends
 pub mod Faults
 pub mod Cuts
 pub mod Timelines
+-- the rest of a record, page by page
+pub mod RestPages
+pub mod RestWalks
 -- a walk over a piece
 pub mod Walks

@@ -16,6 +16,7 @@
 
 mod end_laws;
 mod pieces;
+mod rest;
 mod timeline_laws;
 mod walk_laws;
 
@@ -24,5 +25,6 @@ pub use end_laws::{
     more_keeps_faults, one_fault, prefix_behind_an_end, whole_end_behind_an_end,
 };
 pub use pieces::{WalkFault, walk};
+pub use rest::{REST_LIMIT, Rest, RestStep, rest_on_page};
 pub use timeline_laws::{alike_ends, alike_image, alike_prefix, alike_walks};
 pub use walk_laws::{begins_at_an_end, goes_on_from_its_end};
