@@ -3,6 +3,8 @@ pub mod Ends
 pub mod Faults
 pub mod Cuts
 pub mod Timelines
+-- a log behind a record that is not known
+pub mod BehindAny
 -- the rest of a record, page by page
 pub mod RestPages
 pub mod RestWalks

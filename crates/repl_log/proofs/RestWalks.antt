@@ -1,5 +1,31 @@
 -- A step over the rest of a record, page by page: what was passed over, and what is answered.
-use Rattle.std.proofs.Common.{◌≡◌, ℕ, ◌+◌, ◌-◌, ◌%◌, ◌≢◌, ◌<◌, ◌≤◌, ◌⊎◌, List, ◌++◌, length, take, drop, get_or, sym, ap, ◌∙◌, subst, inl, inr, arith, append_assoc, length-append, length-drop}
+use Rattle.std.proofs.Common.{
+  ◌≡◌,
+  ℕ,
+  ◌+◌,
+  ◌-◌,
+  ◌%◌,
+  ◌≢◌,
+  ◌<◌,
+  ◌≤◌,
+  ◌⊎◌,
+  List,
+  ◌++◌,
+  length,
+  take,
+  drop,
+  get_or,
+  sym,
+  ap,
+  ◌∙◌,
+  subst,
+  inl,
+  inr,
+  arith,
+  append_assoc,
+  length-append,
+  length-drop,
+}
 use Rattle.std.proofs.Math.Seq.{take-add}
 use Rattle.std.proofs.lemmas.Bool.{cases_lt}
 use Rattle.std.proofs.lemmas.List.{get_or_append_left, get_or_past, length-take, take-append-drop, take-append-le}
@@ -12,7 +38,18 @@ use Rattle.repl_record.specs.Record.{content}
 use Rattle.repl_record.specs.Walker.{AreOn}
 use Rattle.repl_record.proofs.Fields.{part_of_more}
 use Rattle.repl_log.specs.declared.rest.Rest.{Rest}
-use Rattle.repl_log.specs.Rest.{HasPassed, HeadersFit, IsRest, IsRestBegun, IsRestFault, IsRestWhole, header_at, left_of, rest_identity, rest_position}
+use Rattle.repl_log.specs.Rest.{
+  HasPassed,
+  HeadersFit,
+  IsRest,
+  IsRestBegun,
+  IsRestFault,
+  IsRestWhole,
+  header_at,
+  left_of,
+  rest_identity,
+  rest_position,
+}
 
 -- ---- more bytes
 

@@ -1,3 +1,4 @@
+pub mod Anywhere
 pub mod Faults
 pub mod Rest
 pub mod Timelines

@@ -14,12 +14,14 @@
 //! ```
 #![tactic(auto)]
 
+mod behind_any;
 mod end_laws;
 mod pieces;
 mod rest;
 mod timeline_laws;
 mod walk_laws;
 
+pub use behind_any::walk_behind_any;
 pub use end_laws::{
     cut_keeps_prefix, ends_go_on, ends_join, fault_has_the_greatest_end, fault_refutes_prefix,
     more_keeps_faults, one_fault, prefix_behind_an_end, whole_end_behind_an_end,

@@ -1,7 +1,7 @@
 ghost use Rattle.std.specs.Prelude.{◌≡◌, ◌+◌, ◌%◌, ◌^◌, ◌<◌, ◌≤◌, ◌++◌, ℕ, List, [], length};
 ghost use Rattle.repl_record.specs.declared.answer.WalkReason.{WalkReason};
 ghost use Rattle.repl_record.specs.Judging.{Answers};
-ghost use Rattle.repl_record.specs.Walker.{identity, position, last_end, last_start, Stands, Refuses, AreOn, GoesOn, Passes};
+ghost use Rattle.repl_record.specs.Walker.{identity, position, last_end, last_start, Stands, Refuses, AreOn, GoesOn, Passes, so_far};
 
 use crate::answer::{WalkReason, WalkStep};
 use crate::record::HEAD_LENGTH;
@@ -60,6 +60,18 @@ impl Walker {
             sum: 0,
             refused: None,
         }
+    }
+
+    /// The same walker behind a record that starts elsewhere. Where that is has not been judged while fewer than 16 bytes
+    /// of the present record are there.
+    pub fn behind(self, prev: Lsn) -> Walker
+        ensures stands { (timeline : ℕ → ℕ) (from other : ℕ) (log : List ℕ) → Stands self timeline from other log → length (so_far self from log) < 16
+            → Stands result timeline from prev log }
+        ensures ident { identity result ≡ identity self }
+        ensures position { position result ≡ position self }
+    {
+        let _fits = prev.0;
+        Walker { prev, ..self }
     }
 
     /// What the pages of its log have in common.

@@ -1,5 +1,25 @@
 -- The record's bytes go on behind the page, or end on it; then zeros follow, or a byte that is wrong.
-use Rattle.std.proofs.Common.{◌≡◌, ◌≢◌, ℕ, ◌+◌, ◌-◌, ◌<◌, ◌≤◌, List, ◌++◌, length, take, drop, get_or, ap, sym, ◌∙◌, subst, arith, get_or-drop}
+use Rattle.std.proofs.Common.{
+  ◌≡◌,
+  ◌≢◌,
+  ℕ,
+  ◌+◌,
+  ◌-◌,
+  ◌<◌,
+  ◌≤◌,
+  List,
+  ◌++◌,
+  length,
+  take,
+  drop,
+  get_or,
+  ap,
+  sym,
+  ◌∙◌,
+  subst,
+  arith,
+  get_or-drop,
+}
 use Rattle.std.proofs.lemmas.List.{get_or-take, length-drop, length-take}
 use Rattle.repl_page.specs.Page.{header_length}
 use Rattle.repl_page.specs.Header.{Agrees, header_of}
