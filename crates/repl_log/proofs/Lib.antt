@@ -8,5 +8,7 @@ pub mod BehindAny
 -- the rest of a record, page by page
 pub mod RestPages
 pub mod RestWalks
+pub mod RestAnswers
+pub mod RestImages
 -- a walk over a piece
 pub mod Walks

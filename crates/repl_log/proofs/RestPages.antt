@@ -45,6 +45,7 @@ use Rattle.repl_log.specs.Rest.{
   HasAll,
   HasPassed,
   HeadersFit,
+  IsGapBegun,
   IsRest,
   IsRestBegun,
   IsRestWhole,
@@ -288,13 +289,13 @@ page_all {r = r} {timeline = timeline} {rest = rest} {from = from} {log = log} {
     let long : length behind ≡ n - m = omega (arith, length-drop m (take n page), length-take n page) in
     let read : (i : ℕ) → i < length behind → get_or behind i 0 ≡ 0 = λ i below.
     zero_behind m n i page (omega (arith, long)) (zeros i (omega (arith, long))) in
+    let parts : take n page ≡ front ++ replicate (n - m) 0 = sym (take-append-drop m (take n page))
+    ∙ ap (λ (t : List ℕ). t ++ behind) (take-take m n page all)
+    ∙ ap (λ (t : List ℕ). front ++ t) (zeros_are behind read ∙ ap (λ (k : ℕ). replicate k 0) long) in
     record {
       front = log ++ front;
       gap = n - m;
-      parts = ap (λ (t : List ℕ). log ++ t) (sym (take-append-drop m (take n page))
-          ∙ ap (λ (t : List ℕ). t ++ behind) (take-take m n page all)
-          ∙ ap (λ (t : List ℕ). front ++ t) (zeros_are behind read ∙ ap (λ (k : ℕ). replicate k 0) long))
-          ∙ sym (append_assoc log front (replicate (n - m) 0));
+      parts = ap (λ (t : List ℕ). log ++ t) parts ∙ sym (append_assoc log front (replicate (n - m) 0));
       bytes = omega (arith, due_content due_all, due.passed.left, counted);
       last = last_on_page r timeline rest from log front due.passed due.size_is (omega (arith, counted, due.passed.some)) (omega (
         arith,
@@ -309,15 +310,27 @@ page_all {r = r} {timeline = timeline} {rest = rest} {from = from} {log = log} {
 
 -- less than up to a multiple of 8
 pub gap_begun : {r : Rest} {timeline : ℕ → ℕ} {rest from tli : ℕ} {log page : List ℕ} → IsDue r timeline rest from tli log page
-    → HasAll r.ident rest from (log ++ take (length page) page) → (length page) % 8 ≢ 0
+    → header_length r.ident.size r.at + r.left ≤ length page → (header_length r.ident.size r.at + r.left) % 8 ≢ 0
+    → (header_length r.ident.size r.at + r.left) % 8 + (length page - (header_length r.ident.size r.at + r.left)) < 8
+    → ((i : ℕ) → header_length r.ident.size r.at + r.left + i < length page
+    → get_or page (header_length r.ident.size r.at + r.left + i) 0 ≡ 0)
     → IsRestBegun r.ident timeline rest from (log ++ page)
-gap_begun {r = r} {rest = rest} {from = from} {log = log} {page = page} due all open_gap = record {
-  headers = due_headers due;
-  few = inr (
-    subst (λ (t : List ℕ). HasAll r.ident rest from (log ++ t)) (take_all (length page) page (omega arith)) all,
-    λ rounded. open_gap (omega (arith, due.passed.behind, due.passed.on_page, length-append log page)),
-  );
-}
+unfolding page_all
+gap_begun {r = r} {rest = rest} {from = from} {log = log} {page = page} due within unrounded inside zeros =
+    let m = header_length r.ident.size r.at + r.left in
+    let few : length page < m + 8 = omega arith in
+    let all = page_all (length page) due (omega arith) within few zeros in
+    let counted = length-take m page in
+    let both = length-append log (take m page) in
+    let eight : (from + length (log ++ take m page)) % 8 ≡ m % 8 = omega (arith, due.passed.behind, due.passed.on_page) in
+    record {
+      headers = due_headers due;
+      few = inr (subst (λ (t : List ℕ). IsGapBegun r.ident rest from (log ++ t)) (take_all (length page) page (omega arith)) (record {
+        all = all;
+        unrounded = λ is. unrounded (sym eight ∙ is);
+        inside = omega arith;
+      }));
+    }
 
 -- up to it
 pub page_whole : {r : Rest} {timeline : ℕ → ℕ} {rest from tli : ℕ} {log page : List ℕ} (n : ℕ) → IsDue r timeline rest from tli log page
@@ -329,6 +342,7 @@ page_whole {r = r} {timeline = timeline} {rest = rest} {from = from} {log = log}
     let cut : log ++ take n page ≡ take (r.at + n - from) (log ++ page) =
     sym (take-append-add log page n) ∙ ap (λ (k : ℕ). take k (log ++ page)) (omega (arith, due.passed.behind)) in
     record {
+      after = omega (arith, due.passed.behind, header_is r.ident.size r.at);
       within = omega (arith, due.passed.behind, length-append log page);
       rest_is = subst (IsRest r.ident timeline rest from) cut (record {
         headers = due_headers (due_front n due enough within);

@@ -56,6 +56,7 @@ use Rattle.repl_log.specs.Rest.{
 pub whole_more : (ident : Ident) (timeline : ℕ → ℕ) (rest from end : ℕ) (log more : List ℕ) → IsRestWhole ident timeline rest from log end
     → IsRestWhole ident timeline rest from (log ++ more) end
 whole_more ident timeline rest from end log more is = record {
+  after = is.after;
   within = omega (arith, is.within, length-append log more);
   rest_is = subst (IsRest ident timeline rest from) (sym (take-append-le (end - from) log more (omega (arith, is.within)))) is.rest_is;
 }

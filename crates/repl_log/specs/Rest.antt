@@ -50,10 +50,16 @@ pub record IsRest (ident : Ident) (timeline : ℕ → ℕ) (rest from : ℕ) (lo
   pub all : HasAll ident rest from log
   pub rounded : (from + length log) % 8 ≡ 0
 
+-- its bytes are all there, and the next multiple of 8 is not reached
+pub record IsGapBegun (ident : Ident) (rest from : ℕ) (log : List ℕ) : Type 0 where
+  pub all : HasAll ident rest from log
+  pub unrounded : (from + length all.front) % 8 ≢ 0
+  pub inside : (from + length all.front) % 8 + all.gap < 8
+
 -- the log is less than that, and nothing in it is wrong that can be judged
 pub record IsRestBegun (ident : Ident) (timeline : ℕ → ℕ) (rest from : ℕ) (log : List ℕ) : Type 0 where
   pub headers : HeadersFit ident timeline rest from log
-  pub few : (length (content ident.size from log) < rest) ⊎ (HasAll ident rest from log × ((from + length log) % 8 ≢ 0))
+  pub few : (length (content ident.size from log) < rest) ⊎ IsGapBegun ident rest from log
 
 -- ---- what is wrong
 
@@ -92,6 +98,7 @@ IsRestFault ident timeline rest from log at (why.Checksum found computed) = ⊥
 
 -- the rest stands at the front of the log, up to this position
 pub record IsRestWhole (ident : Ident) (timeline : ℕ → ℕ) (rest from : ℕ) (log : List ℕ) (end : ℕ) : Type 0 where
+  pub after : from < end
   pub within : end ≤ from + length log
   pub rest_is : IsRest ident timeline rest from (take (end - from) log)
 

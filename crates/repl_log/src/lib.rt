@@ -18,6 +18,7 @@ mod behind_any;
 mod end_laws;
 mod pieces;
 mod rest;
+mod rest_laws;
 mod timeline_laws;
 mod walk_laws;
 
@@ -28,5 +29,6 @@ pub use end_laws::{
 };
 pub use pieces::{WalkFault, walk};
 pub use rest::{REST_LIMIT, Rest, RestStep, rest_on_page};
+pub use rest_laws::{image_has_a_rest, one_rest_answer};
 pub use timeline_laws::{alike_ends, alike_image, alike_prefix, alike_walks};
 pub use walk_laws::{begins_at_an_end, goes_on_from_its_end};

@@ -65,6 +65,7 @@ impl Rest {
         requires some { 0 < left }
         ensures passed { (timeline : ℕ → ℕ) → HasPassed result timeline left from [] }
         ensures ident { rest_identity result ≡ ident }
+        ensures position { rest_position result ≡ from }
     {
         Rest {
             ident,

@@ -139,20 +139,21 @@ returns-then-page-end-clause-answers c timeline rest from log passed on =
     let within : m ≤ length page = omega (arith, c.if-room-left.false, c.requires.whole) in
     let least : c.min.result ≡ length page = omega (arith, c.min.ensures, c.if-page-end.true) in
     let zero = no_set m n k c.first_set.result page same c.if-first_set-gap.false c.first_set.ensures.before (omega (arith, least)) in
-    let all = page_all (length page) due (omega arith) (omega (arith, same)) (omega (
+    gap_begun due (omega (arith, same, within)) (omega (
       arith,
       same,
-      end.upper_bound,
-      c.if-page-end.true,
-    )) (λ i below. zero i (omega (arith, same, least))) in
-    gap_begun due all (λ rounded. absurd (omega (
-      arith,
       end.multiple,
       end.upper_bound,
       end.lower_bound,
       c.if-page-end.true,
-      within,
-    )))
+    )) (omega (
+      arith,
+      same,
+      end.multiple,
+      end.upper_bound,
+      end.lower_bound,
+      c.if-page-end.true,
+    )) (λ i below. zero i (omega (arith, same, least)))
 
 pub returns-clause-answers : goal.returns-clause-answers
 returns-clause-answers c timeline rest from log passed on =
