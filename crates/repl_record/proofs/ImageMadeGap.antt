@@ -113,7 +113,7 @@ zero_in_gap ident timeline from prev m log has right all gap i behind inside =
       λ none. differ (sym byte ∙ none),
     ))
 
-zeros_are : (bytes : List ℕ) → ((i : ℕ) → i < length bytes → get_or bytes i 0 ≡ 0) → bytes ≡ replicate (length bytes) 0
+pub zeros_are : (bytes : List ℕ) → ((i : ℕ) → i < length bytes → get_or bytes i 0 ≡ 0) → bytes ≡ replicate (length bytes) 0
 zeros_are [] zero_at = refl
 zeros_are (byte ∷ bytes) zero_at =
     ap (λ (b : ℕ). b ∷ bytes) (zero_at 0 (omega arith)) ∙ ap (λ (t : List ℕ). 0 ∷ t)

@@ -76,14 +76,14 @@ one_reason ident timeline from prev log a b size_is first second = absurd (omega
 -- ---- images
 
 -- in a front of the log that is an image nothing is wrong, and it is not over before
-front_right : (ident : Ident) (timeline : ℕ → ℕ) (from prev n : ℕ) (item : RecordIn) (log : List ℕ) → IsSegSize ident.size → from % 8 ≡ 0
+pub front_right : (ident : Ident) (timeline : ℕ → ℕ) (from prev n : ℕ) (item : RecordIn) (log : List ℕ) → IsSegSize ident.size → from % 8 ≡ 0
     → IsImage ident timeline from prev item (take n log) → IsRight ident timeline from prev (take n log)
 front_right ident timeline from prev n item log size_is eight is =
     let front = take n log in
     subst (IsRight ident timeline from prev) (take_all (length front) front (omega arith)) (image_right ident timeline from prev
     (length front) item front size_is eight is (omega arith))
 
-front_open : (ident : Ident) (timeline : ℕ → ℕ) (from prev n : ℕ) (item : RecordIn) (log : List ℕ) → IsSegSize ident.size → from % 8 ≡ 0
+pub front_open : (ident : Ident) (timeline : ℕ → ℕ) (from prev n : ℕ) (item : RecordIn) (log : List ℕ) → IsSegSize ident.size → from % 8 ≡ 0
     → n ≤ length log → IsImage ident timeline from prev item (take n log) → IsOpenBefore ident timeline from prev log n
 front_open ident timeline from prev n item log size_is eight within is m below =
     let counted = length-take-le n log within in
@@ -136,7 +136,7 @@ open_whole ident timeline from prev start end n log size_is is opened =
       | inr above ↦ above
     ]
 
-open_fault : (ident : Ident) (timeline : ℕ → ℕ) (from prev at n : ℕ) (log : List ℕ) (reason : WalkReason)
+pub open_fault : (ident : Ident) (timeline : ℕ → ℕ) (from prev at n : ℕ) (log : List ℕ) (reason : WalkReason)
     → (is : IsFirstFault ident timeline from prev log at reason) → IsOpenBefore ident timeline from prev log n → n ≤ is.n
 open_fault ident timeline from prev at n log reason is opened =
     elim (cases_lt is.n n) [

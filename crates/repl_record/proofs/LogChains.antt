@@ -12,19 +12,19 @@ use Rattle.repl_record.specs.Log.{RecordEnd, origin, next, IsPrefixOfRecords, Is
 use Rattle.repl_record.proofs.LogAnswers.{answered, same_answer, same_end}
 
 -- an image has at least one byte
-image_some : (ident : Ident) (timeline : ℕ → ℕ) (from prev : ℕ) (item : RecordIn) (log : List ℕ) (n : ℕ) → IsSegSize ident.size
+pub image_some : (ident : Ident) (timeline : ℕ → ℕ) (from prev : ℕ) (item : RecordIn) (log : List ℕ) (n : ℕ) → IsSegSize ident.size
     → from % 8 ≡ 0 → n ≤ length log → IsImage ident timeline from prev item (take n log) → 0 < n
 image_some ident timeline from prev item log n size_is eight within image =
     omega (arith, (answered ident timeline from prev item log n size_is eight within image).after)
 
 -- and it ends at a multiple of 8
-image_eight : (ident : Ident) (timeline : ℕ → ℕ) (from prev : ℕ) (item : RecordIn) (log : List ℕ) (n : ℕ) → n ≤ length log
+pub image_eight : (ident : Ident) (timeline : ℕ → ℕ) (from prev : ℕ) (item : RecordIn) (log : List ℕ) (n : ℕ) → n ≤ length log
     → IsImage ident timeline from prev item (take n log) → (from + n) % 8 ≡ 0
 image_eight ident timeline from prev item log n within image = ap (λ (k : ℕ). (from + k) % 8) (sym (length-take-le n log within))
     ∙ image.rounded
 
 -- a record ends where the log begins or behind it, and at a multiple of 8 if the log begins at one
-placed : (ident : Ident) (timeline : ℕ → ℕ) (from prev : ℕ) (log : List ℕ) (end last : ℕ) → from % 8 ≡ 0
+pub placed : (ident : Ident) (timeline : ℕ → ℕ) (from prev : ℕ) (log : List ℕ) (end last : ℕ) → from % 8 ≡ 0
     → RecordEnd ident timeline from prev log end last → (from ≤ end) × (end % 8 ≡ 0)
 placed ident timeline from prev log end last eight origin = (omega arith, eight)
 placed ident timeline from prev log _ _ eight (next end last item n before fits image) =
@@ -32,12 +32,12 @@ placed ident timeline from prev log _ _ eight (next end last item n before fits 
     (omega arith, image_eight ident timeline end last item (drop (end - from) log) n (omega (arith, length-drop (end - from) log)) image)
 
 -- the image of the first record of a chain, and the chain from its end on
-record FirstRecord (ident : Ident) (timeline : ℕ → ℕ) (from prev : ℕ) (log : List ℕ) (end last : ℕ) : Type 0 where
-  item : RecordIn
-  n : ℕ
-  within : n ≤ length log
-  image : IsImage ident timeline from prev item (take n log)
-  rest : RecordEnd ident timeline (from + n) (start_of ident.size from) (drop n log) end last
+pub record FirstRecord (ident : Ident) (timeline : ℕ → ℕ) (from prev : ℕ) (log : List ℕ) (end last : ℕ) : Type 0 where
+  pub item : RecordIn
+  pub n : ℕ
+  pub within : n ≤ length log
+  pub image : IsImage ident timeline from prev item (take n log)
+  pub rest : RecordEnd ident timeline (from + n) (start_of ident.size from) (drop n log) end last
 
 -- a chain of one record
 one_record : (ident : Ident) (timeline : ℕ → ℕ) (from prev : ℕ) (log : List ℕ) (end last : ℕ) (item : RecordIn) (n : ℕ) → end ≡ from
@@ -58,7 +58,7 @@ one_record ident timeline from prev log end last item n at behind fits image =
     }
 
 -- a chain with one record more
-one_more : (ident : Ident) (timeline : ℕ → ℕ) (from prev : ℕ) (log : List ℕ) (end last : ℕ) (item : RecordIn) (n : ℕ)
+pub one_more : (ident : Ident) (timeline : ℕ → ℕ) (from prev : ℕ) (log : List ℕ) (end last : ℕ) (item : RecordIn) (n : ℕ)
     → FirstRecord ident timeline from prev log end last
     → (end - from) + n ≤ length log → IsImage ident timeline end last item (take n (drop (end - from) log))
     → FirstRecord ident timeline from prev log (end + n) (start_of ident.size end)
@@ -78,7 +78,7 @@ one_more ident timeline from prev log end last item n first fits image =
     }
 
 -- a chain has no record, or a first
-first_record : (ident : Ident) (timeline : ℕ → ℕ) (from prev : ℕ) (log : List ℕ) (end last : ℕ)
+pub first_record : (ident : Ident) (timeline : ℕ → ℕ) (from prev : ℕ) (log : List ℕ) (end last : ℕ)
     → RecordEnd ident timeline from prev log end last
     → ((end ≡ from) × (last ≡ prev)) ⊎ FirstRecord ident timeline from prev log end last
 first_record ident timeline from prev log end last origin = inl (refl, refl)

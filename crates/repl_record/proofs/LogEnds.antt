@@ -7,7 +7,7 @@ use Rattle.repl_record.specs.Log.{RecordEnd, origin, next}
 use Rattle.repl_record.proofs.Fields.{part_of_front, part_of_more}
 
 -- no record ends before the log begins
-from_le : (ident : Ident) (timeline : ℕ → ℕ) (from prev : ℕ) (log : List ℕ) (end last : ℕ) → RecordEnd ident timeline from prev log end last
+pub from_le : (ident : Ident) (timeline : ℕ → ℕ) (from prev : ℕ) (log : List ℕ) (end last : ℕ) → RecordEnd ident timeline from prev log end last
     → from ≤ end
 from_le ident timeline from prev log end last origin = omega arith
 from_le ident timeline from prev log _ _ (next end last item n before fits image) = let below =

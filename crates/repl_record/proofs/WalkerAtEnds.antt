@@ -6,11 +6,12 @@ use Rattle.repl_page.specs.Page.{page_start}
 use Rattle.repl_record.specs.declared.answer.WalkReason.TheVariants as why
 use Rattle.repl_record.specs.declared.walker.Walker.{Walker}
 use Rattle.repl_record.specs.Checksum.{checksum, message, remainder}
+use Rattle.repl_record.specs.Record.{content}
 use Rattle.repl_record.specs.Judging.{IsBeginning, IsOver, IsRight, length_field}
 use Rattle.repl_record.specs.Walker.{Keeps, Stands, so_far}
 use Rattle.repl_record.specs.Moves.{IsAtEnd}
 use Rattle.repl_record.proofs.Pages.{header_is}
-use Rattle.repl_record.proofs.Content.{content-nil}
+use Rattle.repl_record.proofs.Content.{content-nil, length-content-front}
 use Rattle.repl_record.proofs.WalkerStands.{many_are, total_is, new_page}
 
 -- ---- the beginning
@@ -28,7 +29,7 @@ nothing_right ident timeline from prev (why.Checksum found computed) h =
     absurd (omega (arith, h.1, ap length_field (content-nil ident.size from)))
 nothing_right ident timeline from prev why.Padding h = absurd (omega (arith, h.1, ap length_field (content-nil ident.size from)))
 
-nothing_begins : (ident : Ident) (timeline : ℕ → ℕ) (from prev : ℕ) → IsBeginning ident timeline from prev []
+pub nothing_begins : (ident : Ident) (timeline : ℕ → ℕ) (from prev : ℕ) → IsBeginning ident timeline from prev []
 nothing_begins ident timeline from prev zero below = (nothing_over ident.size from, nothing_right ident timeline from prev)
 nothing_begins ident timeline from prev (suc m) below = (nothing_over ident.size from, nothing_right ident timeline from prev)
 
@@ -98,4 +99,45 @@ over_tells w timeline from prev log k over =
       whole = whole;
       all = omega (arith, k.many many, total_is k (omega arith), over.all);
       rounded = omega (arith, k.behind, over.rounded);
+    }
+
+-- ---- behind another record
+
+-- what is judged of the start of the record before
+right_behind : (ident : Ident) (timeline : ℕ → ℕ) (from prev other : ℕ) (log : List ℕ) → length (content ident.size from log) < 16
+    → IsRight ident timeline from other log → IsRight ident timeline from prev log
+right_behind ident timeline from prev other log few right (why.Page fault) h = right (why.Page fault) h
+right_behind ident timeline from prev other log few right (why.Length found) h = right (why.Length found) h
+right_behind ident timeline from prev other log few right (why.Prev found expected) h = absurd (omega (arith, h.0.count_is))
+right_behind ident timeline from prev other log few right why.Reserved h = right why.Reserved h
+right_behind ident timeline from prev other log few right (why.Checksum found computed) h = right (why.Checksum found computed) h
+right_behind ident timeline from prev other log few right why.Padding h = right why.Padding h
+
+pub stands_behind : (w : Walker) (timeline : ℕ → ℕ) (from prev other : ℕ) (log : List ℕ) → prev < 2 ^ 64 → Stands w timeline from other log
+    → length (so_far w from log) < 16 → Stands (record w { prev = prev }) timeline from prev log
+stands_behind w timeline from prev other log fits s few =
+    let k = s.keeps in
+    record {
+      keeps = record {
+        not_refused = k.not_refused;
+        begins = k.begins;
+        follows = refl;
+        prev_fits = fits;
+        behind = k.behind;
+        aligned = k.aligned;
+        are_bytes = k.are_bytes;
+        header_is = k.header_is;
+        timeline_is = k.timeline_is;
+        front_is = k.front_is;
+        few = k.few;
+        many = k.many;
+        sum_is = k.sum_is;
+        has_length = k.has_length;
+        in_gap = k.in_gap;
+      };
+      beginning = λ m below. (
+        (s.beginning m below).0,
+        right_behind w.ident timeline from prev other (take m log) (omega (arith, length-content-front w.ident.size from m log, few))
+            (s.beginning m below).1,
+      );
     }

@@ -62,7 +62,7 @@ pub walked_on : (old w new : Walker) (tli : ℕ) (bytes : List ℕ) (used taken 
 walked_on old w new tli bytes used taken walked within at same moved none = record {
   within = omega (arith, walked.within, length-drop used bytes);
   behind = omega (arith, walked.behind, at);
-  same = (same.0 ∙ walked.same.0, same.1 ∙ walked.same.1);
+  same = (same.0 ∙ walked.same.0, same.1 ∙ walked.same.1, same.2 ∙ walked.same.2, same.3 ∙ walked.same.3);
   open_still = walked.open_still;
   stands = λ timeline from prev log stands on.
       let After : List ℕ → Type 0 = λ l. Stands new timeline from prev l in

@@ -30,9 +30,9 @@ abbrev pub Took : Walker → Walker → List ℕ → Result ℕ Refusal → Type
 Took old new bytes (Ok taken) = (0 < taken) × (taken ≤ length bytes) × (new.at ≡ old.at + taken)
 Took old new bytes (Err refusal) = new.at ≤ old.at + length bytes
 
--- the identity and what was refused stay
+-- the identity, what was refused, and the record before the present one stay
 abbrev pub IsOfOneLog : Walker → Walker → Type 0
-IsOfOneLog old new = (new.ident ≡ old.ident) × (new.refused ≡ old.refused)
+IsOfOneLog old new = (new.ident ≡ old.ident) × (new.refused ≡ old.refused) × (new.from ≡ old.from) × (new.prev ≡ old.prev)
 
 -- ---- what is written down of a piece
 

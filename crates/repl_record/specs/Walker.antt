@@ -19,6 +19,13 @@ position w = w.at
 abbrev pub identity : Walker → Ident
 identity w = w.ident
 
+-- where the last whole record ends, behind which the present one's image begins, and where that record starts
+abbrev pub last_end : Walker → ℕ
+last_end w = w.from
+
+abbrev pub last_start : Walker → ℕ
+last_start w = w.prev
+
 -- the record's bytes among these
 abbrev pub so_far : Walker → ℕ → List ℕ → List ℕ
 so_far w from log = content w.ident.size from log
@@ -64,7 +71,7 @@ AreOn timeline tli from count = (page : ℕ) → IsPage page → from ≤ page �
 abbrev pub GoesOn : Walker → (ℕ → ℕ) → ℕ → ℕ → List ℕ → List ℕ → WalkStep → Type 0
 GoesOn w timeline from prev log bytes (step.Whole start end used) = (from + length log + used ≡ end) × Stands w timeline end start []
 GoesOn w timeline from prev log bytes step.Short = Stands w timeline from prev (log ++ bytes)
-GoesOn w timeline from prev log bytes (step.Bad at reason) = Refuses w at reason
+GoesOn w timeline from prev log bytes (step.Bad at reason) = Refuses w at reason × (last_end w ≡ from) × (last_start w ≡ prev)
 
 -- how far the walker goes by an answer to so many bytes
 abbrev pub Passes : Walker → Walker → ℕ → WalkStep → Type 0

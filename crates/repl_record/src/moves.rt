@@ -295,7 +295,7 @@ impl Walker {
     pub(crate) fn begin_next(&mut self, used: usize) -> WalkStep
         ensures ended { IsEnded result self.old.at used }
         ensures next { self.old.from ≤ 2 ^ 63 → (result ≡ WalkStep.Whole (start_of self.old.ident.size self.old.from) self.old.at used) × (self.new ≡ renewed self.old) }
-        ensures same { IsOfOneLog self.old self.new }
+        ensures same { (self.new.ident ≡ self.old.ident) × (self.new.refused ≡ self.old.refused) }
         ensures position { position self.new ≡ position self.old }
     {
         let start = self.start();

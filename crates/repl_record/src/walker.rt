@@ -1,7 +1,7 @@
 ghost use Rattle.std.specs.Prelude.{◌≡◌, ◌+◌, ◌%◌, ◌^◌, ◌<◌, ◌≤◌, ◌++◌, ℕ, List, [], length};
 ghost use Rattle.repl_record.specs.declared.answer.WalkReason.{WalkReason};
 ghost use Rattle.repl_record.specs.Judging.{Answers};
-ghost use Rattle.repl_record.specs.Walker.{identity, position, Stands, Refuses, AreOn, GoesOn, Passes};
+ghost use Rattle.repl_record.specs.Walker.{identity, position, last_end, last_start, Stands, Refuses, AreOn, GoesOn, Passes, so_far};
 
 use crate::answer::{WalkReason, WalkStep};
 use crate::record::HEAD_LENGTH;
@@ -62,6 +62,25 @@ impl Walker {
         }
     }
 
+    /// The same walker behind a record that starts elsewhere. Where that is has not been judged while fewer than 16 bytes
+    /// of the present record are there.
+    pub fn behind(self, prev: Lsn) -> Walker
+        ensures stands { (timeline : ℕ → ℕ) (from other : ℕ) (log : List ℕ) → Stands self timeline from other log → length (so_far self from log) < 16
+            → Stands result timeline from prev log }
+        ensures ident { identity result ≡ identity self }
+        ensures position { position result ≡ position self }
+    {
+        let _fits = prev.0;
+        Walker { prev, ..self }
+    }
+
+    /// What the pages of its log have in common.
+    pub fn ident(&self) -> Ident
+        ensures { result ≡ identity self.now }
+    {
+        self.ident
+    }
+
     /// The position of the next byte.
     pub fn position(&self) -> Lsn
         ensures { result ≡ position self.now }
@@ -71,14 +90,14 @@ impl Walker {
 
     /// Where the last whole record ends, behind which the walker stands, or where the walker began while none was whole.
     pub fn last_end(&self) -> Lsn
-        ensures { (timeline : ℕ → ℕ) (from prev : ℕ) (log : List ℕ) → Stands self.now timeline from prev log → result ≡ from }
+        ensures { result ≡ last_end self.now }
     {
         self.from
     }
 
     /// Where that record starts.
     pub fn last_start(&self) -> Lsn
-        ensures { (timeline : ℕ → ℕ) (from prev : ℕ) (log : List ℕ) → Stands self.now timeline from prev log → result ≡ prev }
+        ensures { result ≡ last_start self.now }
     {
         self.prev
     }
@@ -93,7 +112,7 @@ impl Walker {
         // The walker stands behind them, or behind the record that ended, or it refuses.
         ensures goes_on { (timeline : ℕ → ℕ) (from prev : ℕ) (log : List ℕ) → Stands self.old timeline from prev log → AreOn timeline tli (position self.old) (length bytes.now)
             → GoesOn self.new timeline from prev log bytes.now result }
-        ensures again { (at : ℕ) (reason : WalkReason) → Refuses self.old at reason → (result ≡ WalkStep.Bad at reason) × Refuses self.new at reason }
+        ensures again { (at : ℕ) (reason : WalkReason) → Refuses self.old at reason → (result ≡ WalkStep.Bad at reason) × (self.new ≡ self.old) }
         ensures ident { identity self.new ≡ identity self.old }
         ensures passes { Passes self.old self.new (length bytes.now) result }
     {

@@ -3,6 +3,7 @@ use crate::miss::{Answer, Miss};
 use crate::records::{ident, lay, place};
 use crate::values::number;
 use crate::words::{Call, debug, said};
+use repl_log::{WalkFault, walk};
 use repl_lsn::{Lsn, Tli};
 use repl_record::{BODY_LIMIT, WalkStep, Walker};
 use std::alloc::{AllocError, Global};
@@ -20,6 +21,12 @@ pub fn answer(alloc: Global, call: &Call) -> Answer {
     if let Some([place, byte, shown, words @ ..]) = call.words("fault") {
         return fault_of(alloc, place, byte, shown, words);
     }
+    if let Some([size, shown, words @ ..]) = call.words("walked") {
+        return walked_of(alloc, size, shown, words);
+    }
+    if let Some([size, place, byte, words @ ..]) = call.words("walked_fault") {
+        return walked_fault(alloc, size, place, byte, words);
+    }
     Err(Miss::Call)
 }
 
@@ -35,6 +42,31 @@ fn pieces_of(alloc: Global, size: &[u8], words: &[Vec<u8>]) -> Answer {
 fn fault_of(alloc: Global, place: &[u8], byte: &[u8], shown: &[u8], words: &[Vec<u8>]) -> Answer {
     let (place, byte, shown) = (number(place)?, number(byte)?, number(shown)?);
     fault(alloc, &log(alloc, words)?, place, byte, shown)
+}
+
+fn walked_of(alloc: Global, size: &[u8], shown: &[u8], words: &[Vec<u8>]) -> Answer {
+    let (size, shown) = (number(size)?, number(shown)?);
+    let log = log(alloc, words)?;
+    match log.get(..shown as usize) {
+        Some(front) => walked(alloc, front, size),
+        None => Err(Miss::Words),
+    }
+}
+
+fn walked_fault(
+    alloc: Global,
+    size: &[u8],
+    place: &[u8],
+    byte: &[u8],
+    words: &[Vec<u8>],
+) -> Answer {
+    let (size, place, byte) = (number(size)?, number(place)?, number(byte)?);
+    let mut log = log(alloc, words)?;
+    match log.get_mut(place as usize) {
+        Some(wrong) if byte < 256 => *wrong = byte as u8,
+        _ => return Err(Miss::Words),
+    }
+    walked(alloc, &log, size)
 }
 
 /// A log of records with bodies of so many zeros.
@@ -159,4 +191,32 @@ fn fault(alloc: Global, log: &[u8], place: u64, byte: u64, shown: u64) -> Answer
         return said(alloc, "another answer behind");
     }
     debug(alloc, &answer)
+}
+
+/// Where the last whole record starts and ends that a walk over the log in whole pieces of this size finds, and the fault
+/// that it meets.
+fn walked(alloc: Global, log: &[u8], size: u64) -> Answer {
+    let Ok(size) = usize::try_from(size.max(1)) else {
+        return Err(Miss::Words);
+    };
+    let mut walker = Walker::new(place(ORIGIN)?, Lsn(0), ident()?);
+    let mut answer = Ok(());
+    for piece in log.chunks(size) {
+        if walker.position().0 >= 1 << 62 || piece.len() as u64 >= 1 << 62 {
+            return Err(Miss::Words);
+        }
+        answer = walk(&mut walker, Tli(1), piece);
+        if answer.is_err() {
+            break;
+        }
+    }
+    told(alloc, &walker, answer)
+}
+
+fn told(alloc: Global, walker: &Walker, answer: Result<(), WalkFault>) -> Answer {
+    let (start, end) = (walker.last_start().0, walker.last_end().0);
+    match answer {
+        Ok(()) => Ok(format!(in alloc; "0x{start:x}-0x{end:x}")?.into_bytes()),
+        Err(fault) => Ok(format!(in alloc; "0x{start:x}-0x{end:x} {fault}")?.into_bytes()),
+    }
 }

@@ -1,5 +1,0 @@
--- What the walker keeps is where the bytes begin for which it stands.
-use Rattle.repl_record.proofs.walker.Walker.last_start.Goals as goal
-
-pub returns : goal.returns
-returns c = λ timeline from prev log stands. stands.keeps.follows
