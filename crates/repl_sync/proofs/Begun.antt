@@ -1,10 +1,10 @@
 -- What a ticket has become, by how far it has come.
-use Rattle.std.proofs.Common.{◌≡◌, ◌≢◌, ℕ, List, Option, Some, None, refl, sym, ap, subst, ◌∙◌}
+use Rattle.std.proofs.Common.{◌≡◌, ◌≢◌, ℕ, List, Option, Some, None, refl, sym, ap, ◌∙◌}
 use Rattle.repl_names.specs.declared.quorum.Mode.{Mode}
 use Rattle.repl_sync.specs.declared.holding.Progress.{Progress}
 use Rattle.repl_sync.specs.declared.holding.Progress.TheVariants as progress
 use Rattle.repl_sync.specs.declared.holding.Holding.{Holding}
-use Rattle.repl_sync.specs.State.{Fate, Ticket, Prepared, Waiting, Released, Cancelled, fate_of}
+use Rattle.repl_sync.specs.State.{Ticket, Prepared, Waiting, Cancelled, fate_of}
 use Rattle.repl_sync.specs.Inside.{begun, fate_in, progress_of}
 
 -- a ticket that is not there is not prepared

@@ -7,19 +7,14 @@ use Rattle.std.proofs.Common.{
   suc,
   ◌<◌,
   ◌≤◌,
-  Bool,
-  true,
-  false,
   cond,
   not,
-  ◌==◌,
   if◌then◌else◌,
   List,
   [],
   ◌∷◌,
   length,
   map,
-  filter,
   get_or,
   set,
   All,
@@ -35,14 +30,12 @@ use Rattle.std.proofs.Common.{
   subst,
   ◌∙◌,
   eq-eqb,
-  get_or-set_same,
-  get_or-set_other,
   length-set,
   arith,
 }
-use Rattle.std.specs.List.{AllPairs, AllZip, remove}
+use Rattle.std.specs.List.{AllPairs, remove}
 use Rattle.std.proofs.lemmas.Bool.{ne_eqb}
-use Rattle.std.proofs.lemmas.List.Elements.{All-nil, All-cons, All-head, All-tail, All-set}
+use Rattle.std.proofs.lemmas.List.Elements.{All-head, All-tail, All-set}
 use Rattle.std.proofs.lemmas.List.Quantifiers.{all_pairs_remove}
 use Rattle.repl_names.specs.StandbyList.{Listing}
 use Rattle.repl_sync.specs.declared.session.Entry.{Entry}
@@ -50,33 +43,9 @@ use Rattle.repl_sync.specs.declared.holding.Progress.{Progress}
 use Rattle.repl_sync.specs.declared.holding.Progress.TheVariants as progress
 use Rattle.repl_sync.specs.declared.holding.Holding.{Holding}
 use Rattle.repl_sync.specs.declared.parts.Parts.{Parts}
-use Rattle.repl_sync.specs.State.{
-  Fate,
-  Ticket,
-  IsDue,
-  Prepared,
-  Waiting,
-  Released,
-  Cancelled,
-  cancels,
-  fate_of,
-  is_ticket,
-  with_fate,
-  without,
-}
+use Rattle.repl_sync.specs.State.{Fate, Ticket, IsDue, cancels, fate_of, with_fate, without}
 use Rattle.repl_sync.specs.Sync.{cancelled_of, cancels_ticket}
-use Rattle.repl_sync.specs.Inside.{
-  CancelledOne,
-  HasRoom,
-  IsKept,
-  IsLive,
-  IsReady,
-  cancelled_progress,
-  fate_in,
-  sessions_of,
-  ticket_of,
-  tickets_of,
-}
+use Rattle.repl_sync.specs.Inside.{CancelledOne, HasRoom, IsKept, IsLive, cancelled_progress, fate_in, sessions_of, ticket_of, tickets_of}
 use Rattle.repl_sync.proofs.Sessions.{all_remove}
 
 -- ---- the place of a ticket

@@ -9,3 +9,4 @@ pub mod Held
 pub mod Begun
 pub mod Settled
 pub mod Rooms
+pub mod Lawful

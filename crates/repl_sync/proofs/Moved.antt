@@ -8,8 +8,6 @@ use Rattle.std.proofs.Common.{
   true,
   false,
   cond,
-  ◌&&◌,
-  nat_lt,
   List,
   [],
   ◌∷◌,
@@ -63,10 +61,10 @@ met_for_moved list cs ds m end moved = met_for_both list.names list cs ds m end 
 
 -- ---- those that stream
 
-abbrev Ranked : Listing → Entry → Type 0
+abbrev pub Ranked : Listing → Entry → Type 0
 Ranked list e = e.candidate.priority ≡ priority_of list.names e.name
 
-stands_as : (list : Listing) (e : Entry) → Ranked list e → standing list (session_of e) ≡ e.candidate
+pub stands_as : (list : Listing) (e : Entry) → Ranked list e → standing list (session_of e) ≡ e.candidate
 stands_as list e ranked = ap (λ (p : ℕ). record {
   session = e.candidate.session;
   priority = p;

@@ -3,7 +3,7 @@ use Rattle.std.proofs.Common.{◌≡◌, ℕ, ◌+◌, ◌<◌, Bool, ◌==◌, 
 use Rattle.std.proofs.Math.Seq.{drop-cons}
 use Rattle.repl_sync.specs.declared.session.Entry.{Entry}
 use Rattle.repl_sync.specs.State.{name_of}
-use Rattle.repl_sync.specs.Inside.{session_of, sessions_of}
+use Rattle.repl_sync.specs.Inside.{sessions_of}
 
 -- the name among the sessions from this one on
 pub name_step : (es : List Entry) (i : ℕ) (e : Entry) (n : ℕ) (b : Bool) → i < length es → e ≡ get_or es i e

@@ -2,10 +2,7 @@
 use Rattle.std.proofs.Common.{
   ◌≡◌,
   ℕ,
-  ◌^◌,
-  ◌<◌,
   ◌≤◌,
-  ◌↔◌,
   Bool,
   true,
   false,
@@ -33,14 +30,14 @@ use Rattle.std.proofs.Common.{
   ◌∙◌,
   arith,
 }
-use Rattle.std.proofs.lemmas.List.Elements.{All-nil, All-head, All-tail, All-filter, filter_agree}
+use Rattle.std.proofs.lemmas.List.Elements.{All-head, All-tail, All-filter, filter_agree}
 use Rattle.std.proofs.lemmas.List.Sorted.{IsPermutation-sym}
 use Rattle.repl_names.specs.StandbyList.{Listing, IsListing, Demands}
 use Rattle.repl_names.specs.declared.list.Method.{Method}
 use Rattle.repl_names.specs.declared.list.Method.TheVariants as method
 use Rattle.repl_names.specs.declared.quorum.Mode.{Mode}
 use Rattle.repl_names.specs.declared.quorum.Candidate.{Candidate}
-use Rattle.repl_names.specs.Quorum.{Met, Counted, CountedFor, InOrder, candidates, counts, eligible, goes_before, reaches}
+use Rattle.repl_names.specs.Quorum.{Met, CountedFor, InOrder, candidates, counts, eligible, goes_before, reaches}
 use Rattle.repl_names.proofs.Quorums.{filter_filter}
 use Rattle.repl_sync.specs.declared.certificate.Certificate.{Certificate}
 use Rattle.repl_sync.specs.declared.holding.Progress.{Progress}
@@ -48,8 +45,8 @@ use Rattle.repl_sync.specs.declared.holding.Progress.TheVariants as progress
 use Rattle.repl_sync.specs.declared.holding.Holding.{Holding}
 use Rattle.repl_sync.specs.declared.reach.Reach.{Reach}
 use Rattle.repl_sync.specs.declared.session.Entry.{Entry}
-use Rattle.repl_sync.specs.State.{Session, name_of, standbys, IsDue, Released}
-use Rattle.repl_sync.specs.Sync.{Becomes, IsCertificate, Settles, counted_as}
+use Rattle.repl_sync.specs.State.{name_of, standbys, IsDue, Released}
+use Rattle.repl_sync.specs.Sync.{Becomes, IsCertificate, counted_as}
 use Rattle.repl_sync.specs.Inside.{
   Bytes,
   IsBlank,
@@ -66,10 +63,8 @@ use Rattle.repl_sync.specs.Inside.{
   fate_in,
   is_taken,
   reach_in,
-  session_of,
   sessions_of,
   taken,
-  ticket_of,
 }
 use Rattle.repl_sync.proofs.Orders.{filter_all}
 use Rattle.repl_sync.proofs.Moved.{met_for_moved}

@@ -9,7 +9,6 @@ use Rattle.std.proofs.Common.{
   ◌<◌,
   ◌≤◌,
   ◌^◌,
-  ◌⊎◌,
   ⊎_elim,
   inl,
   min,
@@ -29,7 +28,6 @@ use Rattle.std.proofs.Common.{
   All,
   Vec,
   Global,
-  vec_len,
   vec_capacity,
   refl,
   sym,
@@ -42,7 +40,7 @@ use Rattle.std.proofs.Common.{
 use Rattle.std.specs.List.{AllPairs, AllZip}
 use Rattle.std.proofs.lemmas.Bool.{cases_lt}
 use Rattle.std.proofs.lemmas.List.{map-append}
-use Rattle.std.proofs.lemmas.List.Elements.{All-nil, All-cons, All-head, All-tail, All-append, All-push, All-weaker}
+use Rattle.std.proofs.lemmas.List.Elements.{All-nil, All-head, All-tail, All-push}
 use Rattle.std.proofs.lemmas.List.Quantifiers.{all_pairs_push}
 use Rattle.repl_names.specs.StandbyList.{IsListing, Listing, priority_of}
 use Rattle.repl_names.specs.declared.quorum.Candidate.{Candidate}
@@ -54,12 +52,9 @@ use Rattle.repl_sync.specs.declared.holding.Holding.{Holding}
 use Rattle.repl_sync.specs.declared.parts.Parts.{Parts}
 use Rattle.repl_sync.specs.State.{Fate, IsDue, Prepared, Rests, Session, Ticket, connected}
 use Rattle.repl_sync.specs.Inside.{
-  Bytes,
-  FitsEach,
   HasPlaces,
   HasRoom,
   HasRoomFor,
-  IsBlank,
   IsKept,
   IsLive,
   IsReady,

@@ -5,11 +5,8 @@ use Rattle.std.proofs.Common.{
   ℕ,
   zero,
   suc,
-  ◌+◌,
   ◌<◌,
   ◌≤◌,
-  min,
-  Bool,
   true,
   false,
   cond,
@@ -20,7 +17,6 @@ use Rattle.std.proofs.Common.{
   List,
   [],
   ◌∷◌,
-  ◌++◌,
   length,
   map,
   filter,
@@ -40,32 +36,18 @@ use Rattle.std.proofs.Common.{
   eq-eqb,
   arith,
 }
-use Rattle.std.specs.List.{AllZip, list_any, remove}
+use Rattle.std.specs.List.{AllZip, remove}
 use Rattle.std.proofs.lemmas.Bool.{ne_eqb}
 use Rattle.std.proofs.Math.Bool.{or-true}
 use Rattle.std.proofs.lemmas.List.Elements.{All-nil, All-cons, All-head, All-tail, All-append, All-take, All-drop, All-weaker}
-use Rattle.std.proofs.lemmas.List.Folds.{list_any_at, list_any_none}
+use Rattle.std.proofs.lemmas.List.Folds.{list_any_none}
 use Rattle.repl_names.specs.StandbyList.{Listing, priority_of}
-use Rattle.repl_names.specs.declared.quorum.Candidate.{Candidate}
 use Rattle.repl_names.specs.Quorum.{Differ}
 use Rattle.repl_sync.specs.declared.session.Entry.{Entry}
 use Rattle.repl_sync.specs.declared.holding.Holding.{Holding}
 use Rattle.repl_sync.specs.declared.parts.Parts.{Parts}
 use Rattle.repl_sync.specs.State.{Session, Rests, changed, is_numbered, knows, stops}
-use Rattle.repl_sync.specs.Inside.{
-  Alike,
-  AllStopped,
-  Bytes,
-  FitsEach,
-  HasRoom,
-  HasRoomFor,
-  IsBlank,
-  IsReady,
-  candidate_of,
-  countable,
-  session_of,
-  sessions_of,
-}
+use Rattle.repl_sync.specs.Inside.{Alike, AllStopped, Bytes, FitsEach, HasRoom, IsReady, candidate_of, countable, session_of, sessions_of}
 
 -- ---- all of one list, from all of another
 

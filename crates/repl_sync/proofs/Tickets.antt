@@ -1,5 +1,5 @@
 -- Tickets, one for one, where waits are released.
-use Rattle.std.proofs.Common.{◌≡◌, ℕ, zero, suc, ◌<◌, ◌≤◌, List, [], ◌∷◌, length, map, get_or, arith}
+use Rattle.std.proofs.Common.{◌≡◌, ℕ, zero, suc, ◌<◌, List, [], ◌∷◌, length, map, get_or, arith}
 use Rattle.std.specs.List.{AllZip}
 use Rattle.repl_names.specs.StandbyList.{Listing}
 use Rattle.repl_sync.specs.declared.session.Entry.{Entry}

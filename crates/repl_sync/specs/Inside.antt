@@ -66,7 +66,6 @@ use Rattle.repl_sync.specs.State.{
   State,
   Rests,
   IsDue,
-  cancels,
   changed,
   connected,
   fate_of,

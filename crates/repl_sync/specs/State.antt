@@ -16,7 +16,6 @@ use Rattle.std.specs.Prelude.{
   List,
   [],
   ◌∷◌,
-  ◌++◌,
   map,
   filter,
   All,
@@ -26,7 +25,6 @@ use Rattle.std.specs.Prelude.{
   None,
 }
 use Rattle.std.specs.List.{list_any}
-use Rattle.repl_text.specs.Text.{IsText}
 use Rattle.repl_names.specs.StandbyList.{Listing, IsListing, priority_of}
 use Rattle.repl_names.specs.declared.quorum.Mode.{Mode}
 use Rattle.repl_names.specs.declared.quorum.Candidate.{Candidate}

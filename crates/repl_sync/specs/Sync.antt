@@ -1,5 +1,7 @@
 -- What each event makes of the sessions and tickets, what it replies, and which waits it releases.
 use Rattle.std.specs.Prelude.{
+  Contains,
+  ◌≤◌,
   ◌≡◌,
   ◌≢◌,
   ℕ,
@@ -176,6 +178,11 @@ pub record IsCertificate (list : Listing) (sessions : List Session) (m : Mode) (
   pub in_force : c.list ≡ list
   pub counted : (cs : List Candidate) × quorum.Counted list (standbys list sessions) m end cs
       × (c.counted ≡ map (counted_as sessions m) cs)
+
+-- what a certificate tells of a session: it is that of a candidate with its name, which has the position
+pub record IsSound (list : Listing) (sessions : List Session) (m : Mode) (end : ℕ) (k : Counted) : Type 0 where
+  pub of : (c : Candidate) × Contains (quorum.candidates (standbys list sessions)) c × (k ≡ counted_as sessions m c)
+  pub reaches : end ≤ k.position
 
 -- A wait is released where the list in force is met at its end, and else goes on. Nothing else becomes of a ticket.
 abbrev pub Becomes : Listing → List Session → Fate → Fate → Type 0

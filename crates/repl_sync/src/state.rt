@@ -1,7 +1,7 @@
 //! The sessions and tickets of a server, and the events that change them.
 ghost use Rattle.std.specs.Prelude.{◌≡◌, ◌↔◌, [], IsTrue, Some, filter, length};
 ghost use Rattle.repl_text.specs.Text.{IsText};
-ghost use Rattle.repl_sync.specs.State.{Prepared, fate_of};
+ghost use Rattle.repl_sync.specs.State.{IsState, Prepared, fate_of};
 ghost use Rattle.repl_names.specs.declared.list.Method.TheVariants as Method;
 ghost use Rattle.repl_sync.specs.Sync.{SyncStep, done, given, stored, Connect, Streaming, StopStreaming, Disconnect, Report, Feedback, SetNames, NewTimeline, Prepare, Wait, WaitCancelled, ToLook, Cancel, CancelAll, Done, Looked};
 
@@ -142,7 +142,8 @@ impl SyncState {
 
     /// How many sessions stream.
     pub fn streaming_sessions(&self) -> usize
-        ensures { result ≡ length (filter (λ s. s.streaming) self.now.sessions) }
+        ensures count { result ≡ length (filter (λ s. s.streaming) self.now.sessions) }
+        ensures state { IsState self.now }
     {
         count_streaming(&self.parts.entries)
     }

@@ -1,9 +1,9 @@
 -- What `change_session` needs and ensures.
-use Rattle.std.proofs.Common.{◌≡◌, ◌≢◌, ◌<◌, ℕ, List, length, map, get_or, set, All, Some, None, MatchOption, refl, sym, ap, subst, ◌∙◌}
+use Rattle.std.proofs.Common.{◌≡◌, List, refl, sym, ap, subst, ◌∙◌}
 use Rattle.repl_sync.specs.declared.session.Entry.{Entry}
 use Rattle.repl_sync.specs.State.{Session}
 use Rattle.repl_sync.specs.Sync.{Releases}
-use Rattle.repl_sync.specs.Inside.{effect, session_of, state_of, with_sessions}
+use Rattle.repl_sync.specs.Inside.{effect, state_of, with_sessions}
 use Rattle.repl_sync.proofs.Sessions.{alike_set, changed_at, known_at, known_not, ready_alike}
 use Rattle.repl_sync.proofs.Places.{Placed, at_place, no_place}
 use Rattle.repl_sync.proofs.change.change_session.Goals as goal

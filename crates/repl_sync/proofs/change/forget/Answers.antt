@@ -1,6 +1,5 @@
 -- What `forget` needs and ensures.
-use Rattle.std.proofs.Common.{◌≡◌, ◌≤◌, List, length, refl, sym, ap, subst, ◌∙◌, arith}
-use Rattle.repl_sync.specs.declared.session.Entry.{Entry}
+use Rattle.std.proofs.Common.{List, refl, sym, ap, subst, ◌∙◌, arith}
 use Rattle.repl_sync.specs.State.{Session}
 use Rattle.repl_sync.specs.Sync.{Releases}
 use Rattle.repl_sync.specs.Inside.{sessions_of, state_of, with_sessions}

@@ -1,9 +1,9 @@
 -- What `stop_all` needs and ensures.
-use Rattle.std.proofs.Common.{◌≡◌, List, length, map, refl, sym, ap, subst, ◌∙◌, arith}
+use Rattle.std.proofs.Common.{◌≡◌, List, length, sym, ap, subst, ◌∙◌, arith}
 use Rattle.std.specs.List.{AllZip}
 use Rattle.std.proofs.lemmas.List.{with_items_is}
 use Rattle.repl_sync.specs.declared.session.Entry.{Entry}
-use Rattle.repl_sync.specs.State.{Session, stops}
+use Rattle.repl_sync.specs.State.{Session}
 use Rattle.repl_sync.specs.Sync.{Releases}
 use Rattle.repl_sync.specs.Inside.{Alike, AllStopped, sessions_of, state_of, with_sessions}
 use Rattle.repl_sync.proofs.Sessions.{ready_alike, sessions_stopped, zip_stopped}

@@ -22,9 +22,9 @@ use Rattle.std.proofs.Common.{
   arith,
 }
 use Rattle.repl_sync.specs.declared.session.Entry.{Entry}
-use Rattle.repl_sync.specs.State.{State, connected}
+use Rattle.repl_sync.specs.State.{State}
 use Rattle.repl_sync.specs.Sync.{Releases}
-use Rattle.repl_sync.specs.Inside.{entry_of, sessions_of, state_of, with_sessions}
+use Rattle.repl_sync.specs.Inside.{entry_of, state_of}
 use Rattle.repl_sync.proofs.Places.{found_known, found_none}
 use Rattle.repl_sync.proofs.Sessions.{known_not}
 use Rattle.repl_sync.proofs.Rooms.{below_max, below_max_right, connected_state, ready_connected}

@@ -1,5 +1,5 @@
 -- What `prepare` ensures.
-use Rattle.std.proofs.Common.{◌≡◌, ◌+◌, ◌<◌, ◌^◌, List, refl, subst, arith}
+use Rattle.std.proofs.Common.{◌+◌, ◌<◌, ◌^◌, List, refl, subst, arith}
 use Rattle.repl_sync.specs.declared.session.Entry.{Entry}
 use Rattle.repl_sync.specs.Inside.{HasRoom}
 use Rattle.repl_sync.proofs.Rooms.{kept_prepared}

@@ -1,25 +1,5 @@
 -- What `relist_each` ensures.
-use Rattle.std.proofs.Common.{
-  ◌≡◌,
-  ◌+◌,
-  ◌<◌,
-  ℕ,
-  [],
-  ◌∷◌,
-  ◌++◌,
-  List,
-  length,
-  All,
-  get_or,
-  set,
-  sym,
-  ap,
-  subst,
-  ◌∙◌,
-  length-set,
-  length-append,
-  arith,
-}
+use Rattle.std.proofs.Common.{◌≡◌, ◌<◌, length, get_or, set, subst, length-set, arith}
 use Rattle.repl_names.specs.StandbyList.{Listing}
 use Rattle.repl_sync.specs.Inside.{RelistedOne}
 use Rattle.repl_sync.proofs.Rooms.{all_front, all_last, left_more, pairs_more, same_place}

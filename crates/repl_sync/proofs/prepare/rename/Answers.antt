@@ -1,5 +1,5 @@
 -- What `rename` needs and ensures.
-use Rattle.std.proofs.Common.{◌≡◌, ◌≤◌, List, length, min, All, vec_len, refl, sym, ap, subst, ◌∙◌, arith}
+use Rattle.std.proofs.Common.{◌≡◌, ◌≤◌, List, length, min, All, vec_len, sym, ap, subst, ◌∙◌, arith}
 use Rattle.std.specs.Vec.{with_items}
 use Rattle.std.proofs.lemmas.List.{with_items_is}
 use Rattle.repl_names.specs.StandbyList.{Listing}

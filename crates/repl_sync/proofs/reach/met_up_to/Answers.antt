@@ -1,5 +1,5 @@
 -- What `met_up_to` ensures of a list with names.
-use Rattle.std.proofs.Common.{◌<◌, length, rules, arith}
+use Rattle.std.proofs.Common.{◌<◌, length, arith}
 use Rattle.std.proofs.lemmas.Grind.{common_steps}
 use Rattle.repl_names.proofs.GreatestMet.{met_where_released}
 use Rattle.repl_sync.proofs.reach.met_up_to.Goals as goal

@@ -1,5 +1,5 @@
 -- What each turn of the loop in `release_each` keeps: tickets before it are settled, and the others are as they were.
-use Rattle.std.proofs.Common.{◌≡◌, ◌≤◌, ℕ, ◌<◌, length, slice_index_or}
+use Rattle.std.proofs.Common.{◌≡◌, ◌≤◌, ℕ, ◌<◌, slice_index_or}
 use Rattle.repl_sync.specs.declared.holding.Holding.{Holding}
 use Rattle.repl_sync.specs.Inside.{ReleasesOne}
 use Rattle.repl_sync.proofs.release.release_each.Given as goal

@@ -1,5 +1,5 @@
 -- What `release_one` needs and ensures.
-use Rattle.std.proofs.Common.{Some, None, refl, subst}
+use Rattle.std.proofs.Common.{refl, subst}
 use Rattle.repl_sync.specs.Inside.{IsDueBy}
 use Rattle.repl_sync.proofs.Releasing.{blank_names, one_left, one_released}
 use Rattle.repl_sync.proofs.release.release_one.Goals as goal

@@ -1,11 +1,10 @@
 -- What `begin` ensures.
-use Rattle.std.proofs.Common.{◌≡◌, List, Some, None, refl, sym, ap, subst, ◌∙◌}
-use Rattle.repl_sync.specs.declared.holding.Progress.TheVariants as progress
+use Rattle.std.proofs.Common.{List, Some, refl, sym, ap, subst, ◌∙◌}
 use Rattle.repl_sync.specs.declared.holding.Progress.{Progress}
 use Rattle.repl_sync.specs.declared.holding.Holding.{Holding}
-use Rattle.repl_sync.specs.State.{Fate, Ticket, Prepared, fate_of}
+use Rattle.repl_sync.specs.State.{Ticket}
 use Rattle.repl_sync.specs.Sync.{Releases}
-use Rattle.repl_sync.specs.Inside.{begun, fate_in, progress_of, state_of, tickets_of, with_tickets}
+use Rattle.repl_sync.specs.Inside.{begun, fate_in, state_of, tickets_of, with_tickets}
 use Rattle.repl_sync.proofs.Held.{PlacedTicket, at_ticket, no_ticket, fate_at, no_fate, with_fate_at}
 use Rattle.repl_sync.proofs.Begun.{begins, not_prepared, nothing_prepared}
 use Rattle.repl_sync.proofs.ticket.begin.Goals as goal

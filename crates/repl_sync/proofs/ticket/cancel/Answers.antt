@@ -1,5 +1,5 @@
 -- What `cancel` ensures.
-use Rattle.std.proofs.Common.{◌≡◌, List, Some, None, set, refl, sym, ap, subst, ◌∙◌}
+use Rattle.std.proofs.Common.{List, set, refl, ap}
 use Rattle.repl_sync.specs.declared.holding.Progress.TheVariants as progress
 use Rattle.repl_sync.specs.declared.holding.Holding.{Holding}
 use Rattle.repl_sync.specs.State.{Ticket, Prepared}

@@ -1,5 +1,5 @@
 -- What `is_prepared` ensures.
-use Rattle.std.proofs.Common.{◌≡◌, true, false, refl}
+use Rattle.std.proofs.Common.{refl}
 use Rattle.repl_sync.specs.declared.holding.Progress.TheVariants as progress
 use Rattle.repl_sync.specs.Inside.{tickets_of}
 use Rattle.repl_sync.proofs.Held.{Found, fate_found, no_fate, no_ticket}

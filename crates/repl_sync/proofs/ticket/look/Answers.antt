@@ -1,8 +1,8 @@
 -- What `look` ensures.
-use Rattle.std.proofs.Common.{◌≡◌, List, Option, Some, None, refl, sym, ap, subst, ◌∙◌}
+use Rattle.std.proofs.Common.{List, Some, refl, sym, ap, subst, ◌∙◌}
 use Rattle.repl_sync.specs.declared.certificate.Certificate.{Certificate}
 use Rattle.repl_sync.specs.declared.holding.Progress.TheVariants as progress
-use Rattle.repl_sync.specs.State.{Fate, Ticket, Released}
+use Rattle.repl_sync.specs.State.{Ticket, Released}
 use Rattle.repl_sync.specs.Sync.{HasNoAnswer, IsWaiting}
 use Rattle.repl_sync.specs.Inside.{with_tickets}
 use Rattle.repl_sync.proofs.Held.{Found, fate_again, fate_found, no_fate, no_ticket, rest_found}

@@ -1,5 +1,5 @@
 -- What `cancel` ensures.
-use Rattle.std.proofs.Common.{true, false, Bool, Result, sym, subst}
+use Rattle.std.proofs.Common.{Bool, Result, sym, subst}
 use Rattle.repl_sync.specs.declared.fault.SyncFault.{SyncFault}
 use Rattle.repl_sync.specs.Sync.{SyncStep, Cancel, done}
 use Rattle.repl_sync.specs.Inside.{Cancels, state_of}
