@@ -1,0 +1,12 @@
+pub mod Orders
+pub mod Moved
+pub mod Names
+pub mod Releasing
+pub mod Tickets
+pub mod Sessions
+pub mod Places
+pub mod Held
+pub mod Begun
+pub mod Settled
+pub mod Rooms
+pub mod Lawful
