@@ -7,6 +7,8 @@ use Rattle.repl_counts.specs.Counts.{Rose, Stood}
 use Rattle.repl_disk.specs.Crash.{LeavesOnly}
 use Rattle.repl_disk.specs.Folder.{Folder}
 use Rattle.repl_disk.specs.State.{DiskState}
+use Rattle.repl_disk.specs.declared.disk.DiskError.{DiskError}
+use Rattle.repl_disk.specs.declared.disk.DiskError.TheVariants as error
 use Rattle.repl_lsn.specs.History.{Path, canonical, last_switch}
 use Rattle.repl_lsn.specs.Path.{Step, steps}
 use Rattle.repl_lsn.specs.declared.history.TheConstants.{HISTORY_LIMIT}
@@ -61,6 +63,12 @@ pub record IsCaused {A : Type 0} (result : Result A StoreFault) (old new : DiskS
   pub failed : result ≡ Err fault.DiskFault → Rose old.faults new.faults ⊎ Rose old.lacks new.lacks
   pub no_memory : result ≡ Err fault.Memory → Stood old.faults new.faults
   pub broken : result ≡ Err fault.Broken → new ≡ old
+
+-- what an error of the disk is to a store that made the file
+abbrev pub fault_of : DiskError → StoreFault
+fault_of error.Missing = fault.DiskFault
+fault_of error.Failed = fault.DiskFault
+fault_of error.Memory = fault.Memory
 
 -- the store is broken after a failure of the disk, and stays so
 abbrev pub Breaks : {A : Type 0} → Result A StoreFault → Bool → Bool → Type 0

@@ -24,7 +24,7 @@ impl<D: Disk> Store<D> {
         ensures keeps { D.keeps self.old.disk self.new.disk }
         ensures comes { (s : State) → Backs (D.state self.old.disk) self.old.head s →
             Comes result (D.state self.old.disk) (D.state self.new.disk) self.new.head
-                (Either s.durable (flushed s self.old.head.control.role whole prev).durable) (flushed s self.old.head.control.role whole prev) (λ t. t ≡ s) }
+            (Either s.durable (flushed s self.old.head.control.role whole prev).durable) (flushed s self.old.head.control.role whole prev) (λ t. t ≡ s) }
     {
         let role = self.head.control.role;
         self.set_role(role, whole, prev)
@@ -41,7 +41,7 @@ impl<D: Disk> Store<D> {
         ensures keeps { D.keeps self.old.disk self.new.disk }
         ensures comes { (s : State) → Backs (D.state self.old.disk) self.old.head s →
             Comes result (D.state self.old.disk) (D.state self.new.disk) self.new.head
-                (Either s.durable (flushed s role whole prev).durable) (flushed s role whole prev) (λ t. t ≡ s) }
+            (Either s.durable (flushed s role whole prev).durable) (flushed s role whole prev) (λ t. t ≡ s) }
     {
         unimplemented
     }

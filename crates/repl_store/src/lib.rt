@@ -24,6 +24,7 @@ mod known;
 mod mount;
 mod raise;
 mod read;
+mod segments;
 mod store;
 mod switch;
 mod write;

@@ -23,9 +23,9 @@ impl<D: Disk> Store<D> {
         ensures keeps { D.keeps self.old.disk self.new.disk }
         ensures comes { (s : State) → Backs (D.state self.old.disk) self.old.head s →
             Comes result (D.state self.old.disk) (D.state self.new.disk) self.new.head
-                (Either s.durable (raised s.durable floor))
-                (record { durable = raised s.durable floor; unflushed = s.unflushed })
-                (λ t. (t ≡ s) ⊎ (t ≡ record { durable = raised s.durable floor; unflushed = s.unflushed })) }
+            (Either s.durable (raised s.durable floor))
+            (record { durable = raised s.durable floor; unflushed = s.unflushed })
+            (λ t. (t ≡ s) ⊎ (t ≡ record { durable = raised s.durable floor; unflushed = s.unflushed })) }
     {
         unimplemented
     }

@@ -34,9 +34,9 @@ impl<D: Disk> Store<D> {
         // A crash leaves the store as it was, or that with the new timeline's number known, or the new one.
         ensures comes { (s : State) → Backs (D.state self.old.disk) self.old.head s →
             Comes result (D.state self.old.disk) (D.state self.new.disk) self.new.head
-                (λ d. (d ≡ s.durable) ⊎ (d ≡ heard s.durable child.now.own) ⊎ (d ≡ switched s.durable child.now role whole prev))
-                (record { durable = switched s.durable child.now role whole prev; unflushed = [] })
-                (λ t. (t ≡ s) ⊎ (t ≡ record { durable = heard s.durable child.now.own; unflushed = s.unflushed })) }
+            (λ d. (d ≡ s.durable) ⊎ (d ≡ heard s.durable child.now.own) ⊎ (d ≡ switched s.durable child.now role whole prev))
+            (record { durable = switched s.durable child.now role whole prev; unflushed = [] })
+            (λ t. (t ≡ s) ⊎ (t ≡ record { durable = heard s.durable child.now.own; unflushed = s.unflushed })) }
     {
         unimplemented
     }
