@@ -53,7 +53,7 @@ LeavesOne old new size column = LeavesOnly old new (λ image. (d : Durable) × c
 pub record Comes {A : Type 0} (result : Result A StoreFault) (old new : DiskState) (head : Head) (column : Durable → Type 0)
     (done : State) (some : State → Type 0) : Type 0 where
   pub moments : LeavesOne old new head.size column
-  pub done : OnOk result (Backs new head done)
+  pub ok : OnOk result (Backs new head done)
   pub no_memory : result ≡ Err fault.Memory → (s : State) × some s × Backs new head s
   pub failed : result ≡ Err fault.DiskFault → Rose old.faults new.faults
 
@@ -62,7 +62,14 @@ pub record IsCaused {A : Type 0} (result : Result A StoreFault) (old new : DiskS
   pub ok : OnOk result (Stood old.faults new.faults × Stood old.wants new.wants)
   pub failed : result ≡ Err fault.DiskFault → Rose old.faults new.faults ⊎ Rose old.lacks new.lacks
   pub no_memory : result ≡ Err fault.Memory → Stood old.faults new.faults
-  pub broken : result ≡ Err fault.Broken → new ≡ old
+
+-- a read of the log into a room, which leaves the store and its files as they were
+pub record Reads {A : Type 0} (result : Result A StoreFault) (old new : DiskState) (head : Head) (s : State) (at : ℕ)
+    (before after : List ℕ) : Type 0 where
+  pub moments : LeavesOnly old new old.may_leave
+  pub backs : Backs new head s
+  pub read : OnOk result (after ≡ take (length before) (drop (at - head.control.floor) (log s)))
+  pub failed : result ≡ Err fault.DiskFault → Rose old.faults new.faults
 
 -- what an error of the disk is to a store that made the file
 abbrev pub fault_of : DiskError → StoreFault

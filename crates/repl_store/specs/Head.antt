@@ -45,10 +45,10 @@ pub record Held (D : Type 0) : Type 0 where
 
 -- the store has this control and path, and bytes up to this end, which are on the disk as far as they were
 pub record Stands (head : Head) (size : ℕ) (control : Control) (path : Path) (written : ℕ) : Type 0 where
-  pub size : head.size ≡ size
-  pub control : head.control ≡ control
-  pub path : head.path ≡ path
-  pub written : head.written ≡ written
+  pub same_size : head.size ≡ size
+  pub same_control : head.control ≡ control
+  pub same_path : head.path ≡ path
+  pub same_end : head.written ≡ written
 
 -- the same store, but that it may have written more or less
 abbrev pub IsAt : Head → Head → ℕ → Type 0

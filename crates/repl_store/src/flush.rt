@@ -17,6 +17,7 @@ impl<D: Disk> Store<D> {
     pub fn flush(&mut self, whole: Lsn, prev: Lsn) -> Result<(), StoreFault>
         requires { CanFlush self.old.head self.old.head.control.role whole prev }
         ensures broken { (result ≡ Err StoreFault.Broken) ↔ (self.old.broken ≡ true) }
+        ensures idle { result ≡ Err StoreFault.Broken → self.new.disk ≡ self.old.disk }
         ensures breaks { Breaks result self.old.broken self.new.broken }
         ensures ok { OnOk result (Stands self.new.head self.old.head.size (flushed_control self.old.head.control self.old.head.control.role self.old.head.written whole prev) self.old.head.path self.old.head.written) }
         ensures stays { IfErr result (λ e. IsAt self.old.head self.new.head self.old.head.written) }
@@ -34,6 +35,7 @@ impl<D: Disk> Store<D> {
     pub fn set_role(&mut self, role: Role, whole: Lsn, prev: Lsn) -> Result<(), StoreFault>
         requires { CanFlush self.old.head role whole prev }
         ensures broken { (result ≡ Err StoreFault.Broken) ↔ (self.old.broken ≡ true) }
+        ensures idle { result ≡ Err StoreFault.Broken → self.new.disk ≡ self.old.disk }
         ensures breaks { Breaks result self.old.broken self.new.broken }
         ensures ok { OnOk result (Stands self.new.head self.old.head.size (flushed_control self.old.head.control role self.old.head.written whole prev) self.old.head.path self.old.head.written) }
         ensures stays { IfErr result (λ e. IsAt self.old.head self.new.head self.old.head.written) }

@@ -1,6 +1,5 @@
 //! What a store has in memory.
-ghost use Rattle.std.specs.Prelude.{◌≡◌, ◌≤◌, ◌<◌, ◌+◌, ◌/◌, ◌*◌, Some, None};
-ghost use Rattle.repl_store.specs.Head.{IsHead, IsAt};
+ghost use Rattle.std.specs.Prelude.{◌≡◌, ◌<◌, ◌+◌, ◌%◌};
 
 use repl_control::Control;
 use repl_lsn::{History, Lsn, SegSize};
@@ -31,4 +30,15 @@ impl Model for Head {
     ghost view = { λ h. record { size = h.size; control = h.control; path = h.history; written = h.written; synced = h.synced; unsynced = option_map string_bytes h.unsynced } };
 
     ghost invariant = { λ h. spec.IsHead (record { size = h.size; control = h.control; path = h.history; written = h.written; synced = h.synced; unsynced = option_map string_bytes h.unsynced }) };
+}
+
+impl Head {
+    /// How many bytes the segment of this position has from it on.
+    pub(crate) fn left_in_segment(&self, at: Lsn) -> usize
+        ensures value { result + at % self.now.size ≡ self.now.size }
+        ensures some { 0 < result }
+    {
+        let size = u64::from(self.size.bytes());
+        (size - at.0 % size) as usize
+    }
 }

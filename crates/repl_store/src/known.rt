@@ -15,6 +15,7 @@ impl<D: Disk> Store<D> {
     /// disk's files.
     pub fn known_numbers(&mut self) -> Result<Tli, StoreFault>
         ensures broken { (result ≡ Err StoreFault.Broken) ↔ (self.old.broken ≡ true) }
+        ensures idle { result ≡ Err StoreFault.Broken → self.new.disk ≡ self.old.disk }
         ensures breaks { Breaks result self.old.broken self.new.broken }
         ensures head { self.new.head ≡ self.old.head }
         ensures known { IfOk result (λ known. IfTold (D.state self.old.disk).files (λ folder. IsKnown folder self.old.head.control.tli known)) }

@@ -15,6 +15,7 @@ impl<D: Disk> Store<D> {
     pub fn raise_floor(&mut self, floor: Lsn) -> Result<(), StoreFault>
         requires { CanRaise self.old.head floor }
         ensures broken { (result ≡ Err StoreFault.Broken) ↔ (self.old.broken ≡ true) }
+        ensures idle { result ≡ Err StoreFault.Broken → self.new.disk ≡ self.old.disk }
         ensures breaks { Breaks result self.old.broken self.new.broken }
         ensures ok { OnOk result (Stands self.new.head self.old.head.size (raised_control self.old.head.control floor) self.old.head.path self.old.head.written) }
         ensures stays { IfErr result (λ e. (self.new.head ≡ self.old.head) ⊎ ((result ≡ Err StoreFault.Memory)

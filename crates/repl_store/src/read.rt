@@ -1,12 +1,14 @@
 //! Reading the log along the path.
-ghost use Rattle.std.specs.Prelude.{◌≡◌, ◌≤◌, ◌+◌, ◌-◌, ◌↔◌, length, take, drop, true, Err, OnOk};
-ghost use Rattle.repl_store.specs.Backing.{Backs, Before, Breaks, Comes, IsCaused, State, log};
+ghost use Rattle.std.specs.Prelude.{◌≡◌, ◌≢◌, ◌≤◌, ◌+◌, ◌-◌, ◌%◌, ◌↔◌, length, take, drop, true, Err, OnOk};
+ghost use Rattle.repl_store.specs.Backing.{Backs, Before, Breaks, Comes, IsCaused, Reads, State, log};
 ghost use Rattle.repl_store.specs.declared.fault.StoreFault.TheVariants as StoreFault;
 
-use crate::fault::StoreFault;
+use crate::fault::{StoreFault, fault_of};
+use crate::head::Head;
+use crate::segments::segment_file;
 use crate::store::Store;
 use repl_disk::Disk;
-use repl_lsn::Lsn;
+use repl_lsn::{Lsn, seg_of};
 use std::alloc::Global;
 
 impl<D: Disk> Store<D> {
@@ -16,6 +18,7 @@ impl<D: Disk> Store<D> {
         requires floor { self.old.head.control.floor ≤ at }
         requires end { at + length room.old ≤ self.old.head.written }
         ensures broken { (result ≡ Err StoreFault.Broken) ↔ (self.old.broken ≡ true) }
+        ensures idle { result ≡ Err StoreFault.Broken → self.new.disk ≡ self.old.disk }
         ensures breaks { Breaks result self.old.broken self.new.broken }
         ensures head { self.new.head ≡ self.old.head }
         ensures caused { IsCaused result (D.state self.old.disk) (D.state self.new.disk) }
@@ -25,6 +28,62 @@ impl<D: Disk> Store<D> {
         ensures comes { (s : State) → Backs (D.state self.old.disk) self.old.head s →
             Comes result (D.state self.old.disk) (D.state self.new.disk) self.new.head (Before s) s (λ t. t ≡ s) }
     {
-        unimplemented
+        if self.broken {
+            return Err(StoreFault::Broken);
+        }
+        let done = read_range(alloc, &mut self.disk, &self.head, at, room);
+        self.remember(done)
+    }
+}
+
+/// Fills the room with the bytes of the log from this position on, file by file.
+fn read_range<D: Disk>(
+    alloc: Global,
+    disk: &mut D,
+    head: &Head,
+    at: Lsn,
+    room: &mut [u8],
+) -> Result<(), StoreFault>
+    requires floor { head.now.control.floor ≤ at }
+    requires end { at + length room.old ≤ head.now.written }
+    ensures size { length room.new ≡ length room.old }
+    ensures caused { IsCaused result (D.state disk.old) (D.state disk.new) }
+    ensures unbroken { result ≢ Err StoreFault.Broken }
+    ensures keeps { D.keeps disk.old disk.new }
+    ensures reads { (s : State) → Backs (D.state disk.old) head.now s → Reads result (D.state disk.old) (D.state disk.new) head.now s at room.old room.new }
+{
+    let mut filled = 0;
+    while filled < room.len() {
+        let place = Lsn(at.0 + filled as u64);
+        let end = room.len().min(filled + head.left_in_segment(place));
+        read_piece(alloc, disk, head, place, &mut room[filled..end])?;
+        filled = end;
+    }
+    Ok(())
+}
+
+/// Fills the room with bytes of the log from this position on, which stand in one file.
+fn read_piece<D: Disk>(
+    alloc: Global,
+    disk: &mut D,
+    head: &Head,
+    at: Lsn,
+    room: &mut [u8],
+) -> Result<(), StoreFault>
+    requires floor { head.now.control.floor ≤ at }
+    requires end { at + length room.old ≤ head.now.written }
+    requires inside { at % head.now.size + length room.old ≤ head.now.size }
+    ensures size { length room.new ≡ length room.old }
+    ensures caused { IsCaused result (D.state disk.old) (D.state disk.new) }
+    ensures unbroken { result ≢ Err StoreFault.Broken }
+    ensures keeps { D.keeps disk.old disk.new }
+    ensures reads { (s : State) → Backs (D.state disk.old) head.now s → Reads result (D.state disk.old) (D.state disk.new) head.now s at room.old room.new }
+{
+    let name = segment_file(alloc, &head.history, seg_of(at, head.size), head.size)?;
+    let place = at.0 % u64::from(head.size.bytes());
+    match disk.read_at(&name, place, room) {
+        Ok(count) if count == room.len() => Ok(()),
+        Ok(_) => Err(StoreFault::DiskFault),
+        Err(error) => Err(fault_of(error)),
     }
 }

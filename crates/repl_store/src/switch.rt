@@ -26,6 +26,7 @@ impl<D: Disk> Store<D> {
     ) -> Result<(), StoreFault>
         requires { CanSwitch self.old.head child.now role whole prev }
         ensures broken { (result ≡ Err StoreFault.Broken) ↔ (self.old.broken ≡ true) }
+        ensures idle { result ≡ Err StoreFault.Broken → self.new.disk ≡ self.old.disk }
         ensures breaks { Breaks result self.old.broken self.new.broken }
         ensures ok { OnOk result (Stands self.new.head self.old.head.size (switched_control self.old.head.control child.now role whole prev) child.now (last_switch child.now.parents)) }
         ensures stays { IfErr result (λ e. IsAt self.old.head self.new.head self.old.head.written) }

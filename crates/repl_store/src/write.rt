@@ -17,6 +17,7 @@ impl<D: Disk> Store<D> {
     pub fn write(&mut self, alloc: Global, bytes: &[u8]) -> Result<(), StoreFault>
         requires { self.old.head.written + length bytes.now ≤ 2 ^ 63 }
         ensures broken { (result ≡ Err StoreFault.Broken) ↔ (self.old.broken ≡ true) }
+        ensures idle { result ≡ Err StoreFault.Broken → self.new.disk ≡ self.old.disk }
         ensures breaks { Breaks result self.old.broken self.new.broken }
         ensures ok { OnOk result (IsAt self.old.head self.new.head (self.old.head.written + length bytes.now)) }
         ensures stays { IfErr result (λ e. IsAt self.old.head self.new.head self.old.head.written) }
