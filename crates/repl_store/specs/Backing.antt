@@ -38,6 +38,7 @@ pub record Backs (disk : DiskState) (head : Head) (s : State) : Type 0 where
   pub told : disk.files ≡ Some folder
   pub control : s.durable.control ≡ head.control
   pub path : s.durable.path ≡ head.path
+  pub counted : head.control.floor + length s.durable.bytes ≡ head.control.flushed
   pub written : head.control.flushed + length s.unflushed ≡ head.written
   pub reads : Carries head.size folder head.path head.control.floor (log s)
   pub images : (image : Folder) → disk.may_leave image → Keeps head s image
