@@ -4,7 +4,7 @@ use Rattle.repl_control.specs.Control.{IsControl}
 use Rattle.repl_control.specs.declared.control.Control.{Control}
 use Rattle.repl_control.specs.declared.control.Role.{Role}
 use Rattle.repl_counts.specs.Counts.{Rose, Stood}
-use Rattle.repl_disk.specs.Crash.{LeavesOnly}
+use Rattle.repl_disk.specs.Crash.{LeavesOnly, NoneNew}
 use Rattle.repl_disk.specs.Folder.{Folder}
 use Rattle.repl_disk.specs.State.{DiskState}
 use Rattle.repl_disk.specs.declared.disk.DiskError.{DiskError}
@@ -68,6 +68,7 @@ pub record IsCaused {A : Type 0} (result : Result A StoreFault) (old new : DiskS
 pub record Reads {A : Type 0} (result : Result A StoreFault) (old new : DiskState) (head : Head) (s : State) (at : ℕ)
     (before after : List ℕ) : Type 0 where
   pub moments : LeavesOnly old new old.may_leave
+  pub none_new : NoneNew old.may_leave new.may_leave
   pub backs : Backs new head s
   pub read : OnOk result (after ≡ take (length before) (drop (at - head.control.floor) (log s)))
   pub failed : result ≡ Err fault.DiskFault → Rose old.faults new.faults
