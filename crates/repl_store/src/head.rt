@@ -1,5 +1,5 @@
 //! What a store has in memory.
-ghost use Rattle.std.specs.Prelude.{◌≡◌, ◌<◌, ◌+◌, ◌%◌};
+ghost use Rattle.std.specs.Prelude.{◌≡◌, ◌%◌};
 
 use repl_control::Control;
 use repl_lsn::{History, Lsn, SegSize};
@@ -33,12 +33,10 @@ impl Model for Head {
 }
 
 impl Head {
-    /// How many bytes the segment of this position has from it on.
-    pub(crate) fn left_in_segment(&self, at: Lsn) -> usize
-        ensures value { result + at % self.now.size ≡ self.now.size }
-        ensures some { 0 < result }
+    /// Where the position stands in the file of its segment.
+    pub(crate) fn place_in_segment(&self, at: Lsn) -> u64
+        ensures { result ≡ at % self.now.size }
     {
-        let size = u64::from(self.size.bytes());
-        (size - at.0 % size) as usize
+        at.0 % u64::from(self.size.bytes())
     }
 }
