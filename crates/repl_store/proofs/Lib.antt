@@ -1,0 +1,3 @@
+pub mod Names
+pub mod Carrying
+pub mod Standing
