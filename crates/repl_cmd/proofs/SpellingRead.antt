@@ -11,7 +11,8 @@ use Rattle.repl_names.specs.declared.setting.Setting.TheVariants as setting
 use Rattle.repl_cmd.specs.declared.command.Command.{Command}
 use Rattle.repl_cmd.specs.declared.command.Command.TheVariants as command
 use Rattle.repl_cmd.specs.declared.token.Kind.TheVariants as kind
-use Rattle.repl_cmd.specs.Name.{IsSlotName, IsParameterName}
+use Rattle.repl_text.specs.SlotName.{IsSlotName}
+use Rattle.repl_cmd.specs.Name.{IsParameterName}
 use Rattle.repl_cmd.specs.Token.{Lexeme}
 use Rattle.repl_cmd.specs.Command.{Part, Keyword, Sign, Slot, Parameter, Position, Number, Value, Body, Names, Follow, OneOf, IsCommand, SaysCommand, IsTimeline, IsSlotOf, forms, create_physical, temporary_part, start_words, slot_part, timeline_part, wait_part, number_part, reserve_wal, set_words, alter_words, setting_word}
 use Rattle.repl_cmd.specs.Printing.{spelling}

@@ -15,7 +15,8 @@ use Rattle.repl_cmd.specs.declared.command.Command.{Command}
 use Rattle.repl_cmd.specs.declared.command.Command.TheVariants as command
 use Rattle.repl_cmd.specs.declared.token.Kind.{Kind}
 use Rattle.repl_cmd.specs.declared.token.Kind.TheVariants as kind
-use Rattle.repl_cmd.specs.Name.{IsSlotName, IsParameterName}
+use Rattle.repl_text.specs.SlotName.{IsSlotName}
+use Rattle.repl_cmd.specs.Name.{IsParameterName}
 use Rattle.repl_cmd.specs.Token.{Lexeme, Reads}
 
 -- ---- tokens with a meaning

@@ -5,7 +5,8 @@ ghost use Rattle.repl_lsn.specs.Position.{position_text};
 ghost use Rattle.repl_names.specs.StandbyList.{IsListing, spelling};
 ghost use Rattle.repl_token.specs.Token.{quoted};
 ghost use Rattle.repl_cmd.specs.Command.{IsTimeline, IsSlotOf, setting_word};
-ghost use Rattle.repl_cmd.specs.Name.{IsSlotName, IsParameterName};
+ghost use Rattle.repl_text.specs.SlotName.{IsSlotName};
+ghost use Rattle.repl_cmd.specs.Name.{IsParameterName};
 ghost use Rattle.repl_cmd.specs.Printing.{word_if, slot_words, timeline_words, number_word};
 
 use crate::name::{ParameterName, SlotName};

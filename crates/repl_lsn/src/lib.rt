@@ -38,18 +38,18 @@ mod timeline;
 mod words;
 
 pub use fault::HistoryFault;
-pub use file_names::{history_name, parse_history_name, partial_name};
+pub use file_names::{history_name, parse_history_name, parse_partial_name, partial_name};
 pub use history::{HISTORY_LIMIT, History, Line, Part, Parts};
-pub use history_laws::one_history;
-pub use history_lines::{history_text, parse_history};
+pub use history_laws::{one_history, one_refusal};
+pub use history_lines::{history_text, parse_history, parse_history_between};
 pub use laws::{one_canonical_text, one_value, text_spells};
 pub use path_laws::{
-    child_is_child, next_begins, one_relation, one_timeline, path_goes_on, same_before_switch,
-    timeline_of_position,
+    child_is_child, next_begins, one_relation, one_timeline, one_up_to, path_goes_on,
+    same_before_switch, timeline_of_position,
 };
 pub use position::{Lsn, PlaceFault};
 pub use relation::Relation;
 pub use repl_text::Text;
 pub use segment::{SegNo, SegSize, parse_seg_name, seg_name, seg_of, seg_start};
-pub use segment_laws::{one_file, one_segment};
+pub use segment_laws::{no_other_file, one_file, one_partial, one_segment};
 pub use timeline::Tli;

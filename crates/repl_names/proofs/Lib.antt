@@ -14,3 +14,4 @@ pub mod Quorums
 pub mod Ranks
 pub mod Taken
 pub mod TokenKinds
+pub mod CountedOrder

@@ -55,3 +55,8 @@ pub fn counted_reach()
         Differ sessions → Met list sessions m end → Counted list sessions m end counted →
         (length counted ≡ list.number) × Differ counted × All (λ (c : Candidate). Contains (candidates sessions) c × (end ≤ position m c)) counted }
 {}
+
+/// There is one list at most of those by which a list is met.
+pub fn one_counted()
+    ensures { (list : Listing) (sessions a b : List Candidate) (m : Mode) (end : ℕ) → Counted list sessions m end a → Counted list sessions m end b → a ≡ b }
+{}

@@ -14,6 +14,7 @@
 //! ```
 #![tactic(auto)]
 
+mod counting;
 mod fault;
 mod grammar;
 mod laws;
@@ -27,9 +28,10 @@ mod quorum;
 mod setting;
 mod token;
 
+pub use counting::put_counted;
 pub use fault::NamesFault;
 pub use laws::{
-    any_reached, counted_reach, met_below, met_forward, met_without_names, one_list,
+    any_reached, counted_reach, met_below, met_forward, met_without_names, one_counted, one_list,
     printed_is_read, released_decides,
 };
 pub use list::{Method, NUMBER_LIMIT, NameList, SPELLING_LIMIT, StandbyList};

@@ -1,0 +1,6 @@
+-- The law `one_counted`.
+use Rattle.repl_names.proofs.CountedOrder.{one_counted}
+use Rattle.repl_names.proofs.laws.one_counted.Goals as goal
+
+pub returns : goal.returns
+returns c = one_counted
