@@ -1,11 +1,37 @@
 -- Numbers of bytes: the bytes of a number that was read are those that it was read from.
-use Rattle.std.proofs.Common.{◌≡◌, ℕ, zero, suc, ◌+◌, ◌*◌, ◌/◌, ◌^◌, ◌<◌, ◌≤◌, List, [], ◌∷◌, ◌++◌, length, get_or, take, drop, refl, sym, ap, ◌∙◌, arith, All, ⊎_elim}
+use Rattle.std.proofs.Common.{
+  ◌≡◌,
+  ℕ,
+  zero,
+  suc,
+  ◌+◌,
+  ◌*◌,
+  ◌/◌,
+  ◌^◌,
+  ◌<◌,
+  ◌≤◌,
+  List,
+  [],
+  ◌∷◌,
+  ◌++◌,
+  length,
+  get_or,
+  take,
+  drop,
+  refl,
+  sym,
+  ap,
+  ◌∙◌,
+  arith,
+  All,
+  ⊎_elim,
+}
 use Rattle.std.specs.Int.{byte_at, bytes_high_first}
 use Rattle.std.proofs.Math.Nat.{mod-lt}
 use Rattle.std.proofs.Math.Seq.{take-add}
 use Rattle.std.proofs.lemmas.Bool.{cases_lt}
 use Rattle.std.proofs.lemmas.List.{append-nil, get_or_past, length-drop, length-take-le}
-use Rattle.std.proofs.lemmas.List.Elements.{All-nil, All-cons, All-head, All-tail, All-take, All-drop}
+use Rattle.std.proofs.lemmas.List.Elements.{All-nil, All-cons, All-tail, All-take, All-drop}
 use Rattle.std.proofs.lemmas.Nat.{div-mul-add}
 use Rattle.byteorder.specs.Endian.{big_from, big_bytes}
 use Rattle.byteorder.specs.Numbers.{big_from-cons, big_from-lt, big_from-take, big_number-reads_back, length-bytes_high_first}
@@ -51,7 +77,8 @@ number_one (suc n) (x ∷ xs) (y ∷ ys) xs_length ys_length xs_fit ys_fit e =
     let ys_bytes = All-tail (λ b. b < 256) y ys ys_fit in
     let same : x * 256 ^ n + big_from 0 n xs ≡ y * 256 ^ n + big_from 0 n ys =
     ap (λ t. x * 256 ^ n + t) (sym (big_from-cons 0 n x xs)) ∙ e ∙ ap (λ t. y * 256 ^ n + t) (big_from-cons 0 n y ys) in
-    let parts = digit_one (256 ^ n) x y (big_from 0 n xs) (big_from 0 n ys) (number_small n xs xs_bytes) (number_small n ys ys_bytes) same in
+    let parts = digit_one (256 ^ n) x y (big_from 0 n xs) (big_from 0 n ys) (number_small n xs xs_bytes) (number_small n ys ys_bytes) same
+    in
     let rest = number_one n xs ys (omega arith) (omega arith) xs_bytes ys_bytes parts.1 in
     cc (parts.0, rest)
 

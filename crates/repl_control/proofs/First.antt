@@ -1,12 +1,30 @@
 -- The first field that is wrong: there is one at most, and one or none.
-use Rattle.std.proofs.Common.{◌≡◌, ◌≢◌, ℕ, ◌<◌, ◌⊎◌, inl, inr, List, [], ◌∷◌, ◌++◌, refl, sym, ap, subst, ◌∙◌, arith, All, ⊎_elim}
+use Rattle.std.proofs.Common.{◌≡◌, ◌≢◌, ℕ, ◌<◌, ◌⊎◌, inl, inr, List, [], ◌∷◌, ◌++◌, refl, sym, ap, subst, ◌∙◌, All, ⊎_elim}
 use Rattle.std.specs.List.{AllByRecursion as ByRecursion}
 use Rattle.std.proofs.lemmas.List.Elements.{All-nil, All-from_recursion, All-head, All-tail}
 use Rattle.repl_control.specs.declared.control.Role.{Role}
 use Rattle.repl_control.specs.declared.control.Role.TheVariants.{Primary, Standby}
 use Rattle.repl_control.specs.declared.control.Control.{Control}
 use Rattle.repl_control.specs.declared.fields.Fields.{Fields}
-use Rattle.repl_control.specs.Control.{Field, mark, version, role, zero, timeline, padding, flushed, whole, floor, prev, layout, place_of, role_number, fields_of, IsRight, IsFirstWrong}
+use Rattle.repl_control.specs.Control.{
+  Field,
+  mark,
+  version,
+  role,
+  zero,
+  timeline,
+  padding,
+  flushed,
+  whole,
+  floor,
+  prev,
+  layout,
+  place_of,
+  role_number,
+  fields_of,
+  IsRight,
+  IsFirstWrong,
+}
 
 head_is : (a b : Field) (xs ys : List Field) → a ∷ xs ≡ b ∷ ys → a ≡ b
 head_is a b xs ys e = cc
@@ -15,7 +33,8 @@ tail_is : (a b : Field) (xs ys : List Field) → a ∷ xs ≡ b ∷ ys → xs �
 tail_is a b xs ys e = cc
 
 -- of two lists one is the other's front, up to the first at which P fails
-first_one : (P : Field → Type 0) (xs ys : List Field) (a b : Field) (more others : List Field) → xs ++ a ∷ more ≡ ys ++ b ∷ others → All P xs → ¬ P a
+first_one : (P : Field → Type 0) (xs ys : List Field) (a b : Field) (more others : List Field) → xs ++ a ∷ more ≡ ys ++ b ∷ others
+    → All P xs → ¬ P a
     → All P ys → ¬ P b → a ≡ b
 first_one P [] [] a b more others e xs_right a_wrong ys_right b_wrong = head_is a b more others e
 first_one P [] (y ∷ ys) a b more others e xs_right a_wrong ys_right b_wrong =

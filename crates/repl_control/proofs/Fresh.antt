@@ -5,7 +5,6 @@ use Rattle.std.proofs.lemmas.Bool.{cases_lt}
 use Rattle.std.proofs.lemmas.Nat.{pow-add, pow_below, div-mul-add}
 use Rattle.repl_lsn.specs.Segment.{IsSegSize}
 use Rattle.repl_control.specs.declared.control.Role.{Role}
-use Rattle.repl_control.specs.declared.control.Control.{Control}
 use Rattle.repl_control.specs.Control.{IsControl, fresh_control, segment_start}
 
 -- a size is a multiple of 8

@@ -1,12 +1,35 @@
 -- Bytes spell a control or have a fault: each field is right or is not, and where all are, their numbers are a control's.
-use Rattle.std.proofs.Common.{◌≡◌, ◌≢◌, ℕ, ◌%◌, ◌^◌, ◌<◌, ◌≤◌, ◌⊎◌, inl, inr, List, [], ◌∷◌, ◌++◌, length, min, refl, sym, ap, ◌∙◌, arith, All, ⊎_elim}
+use Rattle.std.proofs.Common.{◌≡◌, ℕ, ◌%◌, ◌^◌, ◌<◌, ◌≤◌, ◌⊎◌, inl, inr, List, [], ◌∷◌, ◌++◌, length, min, refl, sym, ap, ◌∙◌, arith, All, ⊎_elim}
 use Rattle.std.proofs.lemmas.Bool.{cases_eq, cases_lt}
 use Rattle.std.proofs.lemmas.List.Elements.{All-nil, All-cons, recursion_from_All}
 use Rattle.repl_control.specs.declared.control.Role.{Role}
 use Rattle.repl_control.specs.declared.control.Role.TheVariants.{Primary, Standby}
 use Rattle.repl_control.specs.declared.control.Control.{Control}
 use Rattle.repl_control.specs.declared.fields.Fields.{Fields}
-use Rattle.repl_control.specs.Control.{Field, mark, version, role, zero, timeline, padding, flushed, whole, floor, prev, layout, place_of, role_number, fields_of, fields_in, segment_start, IsRight, IsFirstWrong, IsControl, SpellsControl, IsControlFault}
+use Rattle.repl_control.specs.Control.{
+  Field,
+  mark,
+  version,
+  role,
+  zero,
+  timeline,
+  padding,
+  flushed,
+  whole,
+  floor,
+  prev,
+  layout,
+  place_of,
+  role_number,
+  fields_of,
+  fields_in,
+  segment_start,
+  IsRight,
+  IsFirstWrong,
+  IsControl,
+  SpellsControl,
+  IsControlFault,
+}
 use Rattle.repl_control.proofs.Bytes.{AreBytes}
 use Rattle.repl_control.proofs.First.{no_role}
 use Rattle.repl_control.proofs.Spelled.{spelled}

@@ -1,17 +1,16 @@
 -- What spells a control, and what is wrong with other bytes: each of both is one, and there is one or the other.
-use Rattle.std.proofs.Common.{◌≡◌, ◌≢◌, ℕ, ◌+◌, ◌^◌, ◌<◌, ◌≤◌, ◌⊎◌, inl, inr, List, [], ◌∷◌, ◌++◌, length, drop, get_or, min, refl, sym, ap, subst, ◌∙◌, arith, All, ⊎_elim}
+use Rattle.std.proofs.Common.{◌≡◌, ℕ, ◌^◌, ◌<◌, inr, List, length, drop, get_or, refl, sym, ap, subst, ◌∙◌, arith, All, ⊎_elim}
 use Rattle.std.specs.List.{AllByRecursion as ByRecursion}
 use Rattle.std.proofs.Math.Nat.{div-mul-le_self}
-use Rattle.std.proofs.lemmas.Bool.{cases_eq}
 use Rattle.std.proofs.lemmas.List.Elements.{All-drop, All-from_get_or, All-from_recursion}
 use Rattle.repl_control.specs.declared.control.Role.{Role}
 use Rattle.repl_control.specs.declared.control.Role.TheVariants.{Primary, Standby}
 use Rattle.repl_control.specs.declared.control.Control.{Control}
 use Rattle.repl_control.specs.declared.fault.ControlFault.{ControlFault}
 use Rattle.repl_control.specs.declared.fields.Fields.{Fields}
-use Rattle.repl_control.specs.Control.{layout, number_at, IsRight, IsFirstWrong, IsControl, FitsFields, SpellsControl, IsControlFault, fields_of, fields_in, bytes_of, control_bytes, role_number, IsFlushed}
+use Rattle.repl_control.specs.Control.{layout, number_at, IsRight, IsFirstWrong, IsControl, FitsFields, SpellsControl, IsControlFault, fields_of, fields_in, bytes_of, role_number, IsFlushed}
 use Rattle.repl_control.proofs.Bytes.{AreBytes, number_small}
-use Rattle.repl_control.proofs.Spelling.{InRange, bytes_again, fields_again}
+use Rattle.repl_control.proofs.Spelling.{InRange, bytes_again, fields_again, length-bytes_of}
 use Rattle.repl_control.proofs.First.{role_right, one_place, none_wrong}
 
 -- ---- roles
@@ -80,9 +79,12 @@ all_right size c fits right =
     (refl, (refl, (role_right c.role, (refl, (fits.timeline.0, (refl, (flushed, (right.whole, (right.floor, (right.prev, tt)))))))))) in
     All-from_recursion (IsRight size (fields_of c)) layout rules
 
+pub spelled-length : {size : ℕ} {bytes : List ℕ} {c : Control} → SpellsControl size bytes c → length bytes ≡ 56
+spelled-length {c = c} h = ap length h.spelled ∙ length-bytes_of (fields_of c)
+
 pub spelled_right : (size : ℕ) (bytes : List ℕ) (c : Control) (place : ℕ) → SpellsControl size bytes c → ¬ IsControlFault size bytes place
 spelled_right size bytes c place h = ⊎_elim
-    (λ short. short.0 (ap length h.spelled))
+    (λ short. short.0 (spelled-length h))
     (λ wrong. none_wrong size (fields_of c) place (all_right size c h.fits h.right)
     (subst (λ (n : Fields). IsFirstWrong size n place) (fields_read size bytes c h) wrong.1))
 
@@ -101,6 +103,7 @@ number_fits place n bytes fit = number_small n (drop place bytes) (All-drop (λ 
 
 pub spelled : (size : ℕ) (bytes : List ℕ) (c : Control) → AreBytes bytes → length bytes ≡ 56 → fields_of c ≡ fields_in bytes → 0 < c.tli
     → IsControl size c → SpellsControl size bytes c
+unfolding fields_in
 spelled size bytes c fit len same above right = record {
   fits = record {
     system = omega (arith, ap (λ (n : Fields). n.sysid) same, number_fits 8 8 bytes fit);

@@ -1,14 +1,15 @@
 -- What bytes spell: the numbers that are read of a control's bytes are its own, and bytes without a fault are a control's.
-use Rattle.std.proofs.Common.{◌≡◌, ℕ, ◌+◌, ◌^◌, ◌<◌, ◌≤◌, List, [], ◌∷◌, ◌++◌, length, take, drop, refl, sym, ap, ◌∙◌, arith}
+use Rattle.std.proofs.Common.{◌≡◌, ℕ, ◌^◌, ◌<◌, List, [], ◌++◌, length, refl, ◌∙◌, arith}
 use Rattle.std.proofs.lemmas.List.{take_all}
 use Rattle.byteorder.specs.Endian.{big_bytes}
 use Rattle.byteorder.specs.Numbers.{big_number-reads_back}
 use Rattle.repl_control.specs.declared.fields.Fields.{Fields}
-use Rattle.repl_control.specs.Control.{bytes_of, fields_in, number_at}
+use Rattle.repl_control.specs.Control.{bytes_of, fields_in}
 use Rattle.repl_control.proofs.Bytes.{AreBytes, spelled_on}
 
 -- the numbers in bytes spell them
 pub bytes_again : (bytes : List ℕ) → AreBytes bytes → length bytes ≡ 56 → bytes_of (fields_in bytes) ≡ bytes
+unfolding bytes_of fields_in
 bytes_again bytes fit len =
     let mark = spelled_on 0 4 4 bytes [] fit refl (omega arith) refl in
     let version = spelled_on 4 2 6 bytes _ fit refl (omega arith) mark in
@@ -23,6 +24,11 @@ bytes_again bytes fit len =
     let floor = spelled_on 40 8 48 bytes _ fit refl (omega arith) whole in
     let prev = spelled_on 48 8 56 bytes _ fit refl (omega arith) floor in
     prev ∙ take_all 56 bytes (omega arith)
+
+-- they are 56 bytes
+pub length-bytes_of : (numbers : Fields) → length (bytes_of numbers) ≡ 56
+unfolding bytes_of
+length-bytes_of numbers = refl
 
 -- numbers fit their fields
 pub record InRange (numbers : Fields) : Type 0 where
@@ -59,6 +65,7 @@ same_fields a b m v r z s t g p f w l e = λ i. record {
 
 -- the numbers that are read are those that were spelled
 pub fields_again : (numbers : Fields) → InRange numbers → fields_in (bytes_of numbers) ≡ numbers
+unfolding bytes_of fields_in
 fields_again numbers fit =
     let floor = big_bytes 8 numbers.floor ++ big_bytes 8 numbers.prev in
     let whole = big_bytes 8 numbers.whole ++ floor in

@@ -86,7 +86,7 @@ fields_of control = record {
 }
 
 -- the bytes of these numbers, the highest byte of each first
-abbrev pub bytes_of : Fields → List ℕ
+unfoldable pub bytes_of : Fields → List ℕ
 bytes_of fields =
     big_bytes 4 fields.mark ++ big_bytes 2 fields.version ++ big_bytes 1 fields.role ++ big_bytes 1 fields.zero
     ++ big_bytes 8 fields.sysid ++ big_bytes 4 fields.tli ++ big_bytes 2 fields.magic ++ big_bytes 2 fields.padding
@@ -109,7 +109,7 @@ abbrev pub number_at : ℕ → ℕ → List ℕ → ℕ
 number_at place n bytes = big_number n (drop place bytes)
 
 -- the numbers that stand in the bytes
-abbrev pub fields_in : List ℕ → Fields
+unfoldable pub fields_in : List ℕ → Fields
 fields_in bytes = record {
   mark = number_at 0 4 bytes;
   version = number_at 4 2 bytes;

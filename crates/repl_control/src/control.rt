@@ -1,7 +1,6 @@
 ghost use Rattle.std.specs.Prelude.{◌≡◌, ◌^◌, ◌↔◌, IsTrue};
 ghost use Rattle.repl_lsn.specs.Segment.{IsSegSize};
-ghost use Rattle.repl_control.specs.Control.{IsControl, IsRight, fresh_control, fields_of, role_number};
-ghost use Rattle.repl_control.specs.Control.{IsPrev};
+ghost use Rattle.repl_control.specs.Control.{IsControl, IsPrev, IsRight, fresh_control, fields_of, role_number};
 ghost use Rattle.repl_control.specs.Control as field;
 
 use repl_lsn::{Lsn, SegSize, Tli, seg_of, seg_start};
@@ -16,8 +15,10 @@ pub const VERSION_1_SIZE: u32 = 16_777_216;
 
 const _: () = prove!(VERSION_1_SIZE == 16_777_216);
 
-/// The largest position up to which bytes are flushed.
-const FLUSHED_LIMIT: u64 = 1 << 63;
+/// The last position up to which bytes are flushed: 2^63.
+pub const FLUSHED_LIMIT: u64 = 1 << 63;
+
+const _: () = prove!(FLUSHED_LIMIT == 9_223_372_036_854_775_808);
 
 /// The size of segments in a store whose control is of version 1.
 pub fn version_1_size() -> SegSize

@@ -1,7 +1,8 @@
-ghost use Rattle.std.specs.Prelude.{◌≡◌, ◌+◌, ◌<◌, ◌≤◌, length};
-ghost use Rattle.repl_control.specs.Control.{fields_in, number_at};
+ghost use Rattle.std.specs.Prelude.{◌≡◌, ◌+◌, ◌<◌, ◌≤◌, ◌++◌, length};
+ghost use Rattle.byteorder.specs.Endian.{big_bytes};
+ghost use Rattle.repl_control.specs.Control.{FitsFields, bytes_of, fields_in, fields_of, number_at};
 
-use crate::control::CONTROL_SIZE;
+use crate::control::{CONTROL_SIZE, Control};
 use byteorder::{BigEndian, ByteOrder};
 use repl_lsn::Lsn;
 
@@ -29,8 +30,61 @@ pub(crate) struct Fields {
 }
 
 impl Fields {
+    /// The numbers of a control, which fit their fields.
+    pub fn of(control: &Control) -> Fields
+        ensures value { result ≡ fields_of control.now }
+        ensures fits { FitsFields control.now }
+    {
+        let (sysid, tli, magic) = (control.sysid, control.tli.0, control.magic);
+        Fields {
+            mark: MARK,
+            version: VERSION,
+            role: control.role.number(),
+            zero: 0,
+            sysid,
+            tli,
+            magic,
+            padding: 0,
+            flushed: control.flushed,
+            whole: control.whole,
+            floor: control.floor,
+            prev: control.prev,
+        }
+    }
+
+    /// The bytes of these numbers, which are big-endian.
+    #[tactic(auto, unfolding(crate::specs::Control::bytes_of))]
+    pub fn bytes(&self) -> [u8; CONTROL_SIZE]
+        ensures { result ≡ bytes_of self.now }
+    {
+        let (role, zero) = (self.role, self.zero);
+        let mut bytes = [0; CONTROL_SIZE];
+        BigEndian::write_u32(&mut bytes, self.mark);
+        BigEndian::write_u16(&mut bytes[4..], self.version);
+        bytes[6] = role;
+        bytes[7] = zero;
+        BigEndian::write_u64(&mut bytes[8..], self.sysid);
+        BigEndian::write_u32(&mut bytes[16..], self.tli);
+        BigEndian::write_u16(&mut bytes[20..], self.magic);
+        BigEndian::write_u16(&mut bytes[22..], self.padding);
+        self.put_positions(&mut bytes[24..]);
+        bytes
+    }
+
+    /// Fills the room with the bytes of the four positions.
+    fn put_positions(&self, room: &mut [u8])
+        requires { length room.old ≡ 32 }
+        ensures { room.new ≡ big_bytes 8 self.now.flushed ++ big_bytes 8 self.now.whole ++ big_bytes 8 self.now.floor ++ big_bytes 8 self.now.prev }
+    {
+        BigEndian::write_u64(room, self.flushed.0);
+        BigEndian::write_u64(&mut room[8..], self.whole.0);
+        BigEndian::write_u64(&mut room[16..], self.floor.0);
+        BigEndian::write_u64(&mut room[24..], self.prev.0);
+    }
+
     /// The numbers that stand in the bytes.
-    pub fn of(bytes: &[u8]) -> Fields
+    #[tactic(auto, unfolding(crate::specs::Control::fields_in))]
+    pub fn read(bytes: &[u8]) -> Fields
         requires { length bytes.now ≡ CONTROL_SIZE }
         ensures { result ≡ fields_in bytes.now }
     {

@@ -24,7 +24,7 @@ pub fn read_control(bytes: &[u8], size: SegSize) -> Result<Control, ControlFault
         let place = bytes.len().min(CONTROL_SIZE) as u64;
         return Err(ControlFault { place });
     }
-    let control = control_of(&Fields::of(bytes))?;
+    let control = control_of(&Fields::read(bytes))?;
     judge(&control, size)?;
     Ok(control)
 }

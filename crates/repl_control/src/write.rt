@@ -1,24 +1,14 @@
-ghost use Rattle.std.specs.Prelude.{◌≡◌};
-ghost use Rattle.repl_control.specs.Control.{control_bytes};
+ghost use Rattle.std.specs.Prelude.{◌≡◌, ℕ};
+ghost use Rattle.repl_control.specs.Control.{IsControl, SpellsControl, control_bytes};
 
 use crate::control::{CONTROL_SIZE, Control};
-use crate::fields::{MARK, VERSION};
-use byteorder::{BigEndian, ByteOrder};
+use crate::fields::Fields;
 
-/// The control's one spelling, whose numbers are big-endian. Takes no memory.
+/// The control's one spelling. Takes no memory.
 pub fn write_control(control: &Control) -> [u8; CONTROL_SIZE]
-    ensures { result ≡ control_bytes control.now }
+    ensures value { result ≡ control_bytes control.now }
+    // A control that is right is read back.
+    ensures spells { (size : ℕ) → IsControl size control.now → SpellsControl size result control.now }
 {
-    let mut bytes = [0; CONTROL_SIZE];
-    BigEndian::write_u32(&mut bytes, MARK);
-    BigEndian::write_u16(&mut bytes[4..], VERSION);
-    bytes[6] = control.role.number();
-    BigEndian::write_u64(&mut bytes[8..], control.sysid);
-    BigEndian::write_u32(&mut bytes[16..], control.tli.number());
-    BigEndian::write_u16(&mut bytes[20..], control.magic);
-    BigEndian::write_u64(&mut bytes[24..], control.flushed.0);
-    BigEndian::write_u64(&mut bytes[32..], control.whole.0);
-    BigEndian::write_u64(&mut bytes[40..], control.floor.0);
-    BigEndian::write_u64(&mut bytes[48..], control.prev.0);
-    bytes
+    Fields::of(control).bytes()
 }

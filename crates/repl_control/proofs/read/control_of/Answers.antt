@@ -53,4 +53,5 @@ returns-in_err-expect-4-clause-refused c =
     let version = eqb-true _ _ c.in_ok-expect-2.ensures in
     let role = role_said _ _ c.in_ok-role.ensures in
     let zero = eqb-true _ _ c.in_ok-expect-3.ensures in
-    rw (p.1, p.2) (λ size. wrong_padding size _ c.args.fields.now mark version role zero c.in_ok-tli.ensures.0 (eqb-false _ _ said.0) said.1)
+    rw (p.1, p.2) (λ size. wrong_padding size _ c.args.fields.now mark version role zero c.in_ok-tli.ensures.0 (eqb-false _ _ said.0)
+    said.1)

@@ -1,5 +1,4 @@
 -- Each position that is wrong is the first, since those before it are right.
-use Rattle.std.proofs.Common.{◌≡◌, ◌∙◌, sym}
 use Rattle.std.proofs.lemmas.Bool.{iff_false}
 use Rattle.std.proofs.lemmas.Result.{err_from_is_err_and, MatchResult-weaker}
 use Rattle.repl_control.proofs.First.{wrong_flushed, wrong_whole, wrong_floor, wrong_prev}
