@@ -3,7 +3,7 @@ use Rattle.std.specs.Prelude.{◌≡◌, ℕ, ◌+◌, ◌-◌, ◌≤◌, ◌�
 use Rattle.repl_control.specs.Control.{IsControl}
 use Rattle.repl_control.specs.declared.control.Control.{Control}
 use Rattle.repl_control.specs.declared.control.Role.{Role}
-use Rattle.repl_counts.specs.Counts.{Rose, Stood}
+use Rattle.repl_counts.specs.Counts.{DidNotFall, Rose, Stood}
 use Rattle.repl_disk.specs.Crash.{LeavesOnly, NoneNew}
 use Rattle.repl_disk.specs.Folder.{Folder, Stayed}
 use Rattle.repl_disk.specs.State.{DiskState}
@@ -77,6 +77,7 @@ pub record Asks {A : Type 0} (result : Result A StoreFault) (old new : DiskState
   pub ok : OnOk result (Stood old.faults new.faults × Stood old.wants new.wants)
   pub failed : result ≡ Err fault.DiskFault → Rose old.faults new.faults ⊎ ((old.files ≡ None) × Rose old.lacks new.lacks)
   pub others : IfErr result (λ e. (e ≡ fault.DiskFault) ⊎ Stood old.faults new.faults)
+  pub lacks : DidNotFall old.lacks new.lacks
 
 -- a read of the log into a room, which leaves the store and its files as they were
 pub record Reads {A : Type 0} (result : Result A StoreFault) (old new : DiskState) (head : Head) (s : State) (at : ℕ)

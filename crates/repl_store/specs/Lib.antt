@@ -2,3 +2,4 @@ pub mod Durable
 pub mod Head
 pub mod Backing
 pub mod Refusal
+pub mod Numbers

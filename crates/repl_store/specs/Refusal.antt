@@ -4,7 +4,7 @@ use Rattle.repl_control.specs.Control.{IsControlFault, SpellsControl}
 use Rattle.repl_control.specs.declared.control.Control.{Control}
 use Rattle.repl_disk.specs.Folder.{Folder}
 use Rattle.repl_lsn.specs.Between.{IsFaultBetween}
-use Rattle.repl_lsn.specs.History.{Path}
+use Rattle.repl_lsn.specs.History.{IsHistoryFault, Path}
 use Rattle.repl_lsn.specs.Segment.{history_name}
 use Rattle.repl_store.specs.Durable.{HasPath, control_name, segment_file}
 use Rattle.repl_store.specs.declared.fault.StoreFault.{StoreFault}
@@ -40,7 +40,7 @@ abbrev pub IsMissing : ℕ → Folder → List ℕ → Type 0
 IsMissing size folder name = (folder name ≡ None) × ((name ≡ control_name)
     ⊎ ((control : Control) × HasControl size folder control × (control.tli ≢ 1) × (name ≡ history_name control.tli))
     ⊎ ((control : Control) × (path : Path) × (segment : ℕ) × HasControl size folder control × HasPath size folder control path
-      × IsFirstShort size folder control path segment × (name ≡ segment_file size path segment)))
+    × IsFirstShort size folder control path segment × (name ≡ segment_file size path segment)))
 
 pub record IsShort (size : ℕ) (folder : Folder) (name : List ℕ) (have wanted : ℕ) : Type 0 where
   pub control : Control
@@ -67,3 +67,53 @@ IsRefusal size folder (fault.BadHistory tli wrong) = (control : Control) × (tex
 IsRefusal size folder (fault.ShortFile name have wanted) = IsShort size folder name have wanted
 IsRefusal size folder fault.DiskFault = Unit {0}
 IsRefusal size folder fault.Memory = Unit {0}
+
+-- the file is not there, or the files have no part in it
+abbrev pub IsMissingOr : Folder → List ℕ → StoreFault → Type 0
+IsMissingOr folder file fault.Broken = ⊥
+IsMissingOr folder file fault.Exists = ⊥
+IsMissingOr folder file (fault.Missing name) = (folder file ≡ None) × (name ≡ file)
+IsMissingOr folder file (fault.BadControl place) = ⊥
+IsMissingOr folder file (fault.BadHistory tli wrong) = ⊥
+IsMissingOr folder file (fault.ShortFile name have wanted) = ⊥
+IsMissingOr folder file fault.DiskFault = Unit {0}
+IsMissingOr folder file fault.Memory = Unit {0}
+
+-- the text of a history is not read
+abbrev pub IsUnread : Folder → List ℕ → ℕ → StoreFault → Type 0
+IsUnread folder file own fault.Broken = ⊥
+IsUnread folder file own fault.Exists = ⊥
+IsUnread folder file own (fault.Missing name) = (folder file ≡ None) × (name ≡ file)
+IsUnread folder file own (fault.BadControl place) = ⊥
+IsUnread folder file own (fault.BadHistory tli wrong) = (tli ≡ own) × ((text : List ℕ) × (folder file ≡ Some text) × IsHistoryFault own text wrong)
+IsUnread folder file own (fault.ShortFile name have wanted) = ⊥
+IsUnread folder file own fault.DiskFault = Unit {0}
+IsUnread folder file own fault.Memory = Unit {0}
+
+-- what the segment lacks
+abbrev pub IsSegmentLack : ℕ → Folder → Control → Path → ℕ → StoreFault → Type 0
+IsSegmentLack size folder control path segment fault.Broken = ⊥
+IsSegmentLack size folder control path segment fault.Exists = ⊥
+IsSegmentLack size folder control path segment (fault.Missing name) = (name ≡ segment_file size path segment) × (folder name ≡ None)
+IsSegmentLack size folder control path segment (fault.BadControl place) = ⊥
+IsSegmentLack size folder control path segment (fault.BadHistory tli wrong) = ⊥
+IsSegmentLack size folder control path segment (fault.ShortFile name have wanted) = (name ≡ segment_file size path segment)
+    × ((bytes : List ℕ) × (folder name ≡ Some bytes) × (have ≡ length bytes)) × (wanted ≡ needed size control.flushed segment) × (have < wanted)
+IsSegmentLack size folder control path segment fault.DiskFault = Unit {0}
+IsSegmentLack size folder control path segment fault.Memory = Unit {0}
+
+-- the first that lacks something lacks that
+abbrev pub IsLackOf : ℕ → Folder → Control → Path → StoreFault → Type 0
+IsLackOf size folder control path wrong = (segment : ℕ) × IsFirstShort size folder control path segment
+    × IsSegmentLack size folder control path segment wrong
+
+-- a call of the disk failed, or memory was wanting
+abbrev pub IsOfDisk : StoreFault → Type 0
+IsOfDisk fault.Broken = ⊥
+IsOfDisk fault.Exists = ⊥
+IsOfDisk (fault.Missing name) = ⊥
+IsOfDisk (fault.BadControl place) = ⊥
+IsOfDisk (fault.BadHistory tli wrong) = ⊥
+IsOfDisk (fault.ShortFile name have wanted) = ⊥
+IsOfDisk fault.DiskFault = Unit {0}
+IsOfDisk fault.Memory = Unit {0}

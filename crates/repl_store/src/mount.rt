@@ -1,23 +1,28 @@
 //! Opening the store that stands on a disk.
-ghost use Rattle.std.specs.Prelude.{◌≡◌, ◌≢◌, ◌*◌, ◌+◌, ◌/◌, ◌<◌, ◌≤◌, ◌⊎◌, ◌^◌, ℕ, List, [], length, take, false, Some, None, Ok, Err, IfOk, IfErr, OnOk, MatchResult};
-ghost use Rattle.repl_control.specs.Control.{IsControlFault, SpellsControl};
-ghost use Rattle.repl_control.specs.declared.control.Control.{Control};
+ghost use Rattle.std.specs.Prelude.{◌≡◌, ◌↔◌, ◌≢◌, ◌*◌, ◌+◌, ◌/◌, ◌<◌, ◌≤◌, ◌⊎◌, ◌^◌, ℕ, List, [], length, take, false, Some, None, Ok, Err, IfOk, IfErr, IsTrue, OnOk, MatchResult};
+ghost use Rattle.repl_control.specs.Control.{FitsFields, IsControl};
 ghost use Rattle.repl_control.specs.declared.control.TheConstants.{VERSION_1_SIZE};
 ghost use Rattle.repl_disk.specs.Folder.{Folder, IfTold};
+ghost use Rattle.repl_lsn.specs.Between.{AreBetween};
 ghost use Rattle.repl_store.specs.Backing.{Asks, Backs, OnlyReads};
 ghost use Rattle.repl_store.specs.Durable.{Durable, HasPath, StandsFor, control_name};
 ghost use Rattle.repl_store.specs.Head.{IsMounted};
-ghost use Rattle.repl_store.specs.Refusal.{HasControl, IsEnough, IsHeld, IsRefusal};
+ghost use Rattle.repl_store.specs.Refusal.{HasControl, IsEnough, IsHeld, IsLackOf, IsRefusal, IsSegmentLack, IsUnread};
+ghost use Rattle.repl_text.specs.Text.{IsText};
 ghost use Rattle.repl_store.specs.declared.fault.StoreFault.TheVariants as StoreFault;
 
 use crate::control::CONTROL;
-use crate::fault::{StoreFault, fault_of};
+use crate::fault::StoreFault;
+use crate::files::{length_of, read_front};
 use crate::head::Head;
-use crate::segments::segment_file;
+use crate::segments::{history_file, segment_file};
 use crate::store::Store;
 use repl_control::{CONTROL_SIZE, Control, read_control, version_1_size};
-use repl_disk::{Disk, DiskError};
-use repl_lsn::{History, Lsn, SegNo, SegSize, Text, Tli, history_name, parse_history_between, seg_of};
+use repl_disk::Disk;
+use repl_lsn::{
+    HISTORY_LIMIT, History, HistoryFault, Lsn, SegNo, SegSize, Text, Tli, parse_history_between,
+    seg_of, seg_start,
+};
 use std::alloc::Global;
 
 impl<D: Disk> Store<D> {
@@ -70,9 +75,31 @@ fn read_head<D: Disk>(alloc: Global, disk: &mut D) -> Result<Head, StoreFault>
 }
 
 /// The control that stands on the disk.
-fn read_control_file<D: Disk>(alloc: Global, disk: &mut D, size: SegSize) -> Result<Control, StoreFault>
+fn read_control_file<D: Disk>(
+    alloc: Global,
+    disk: &mut D,
+    size: SegSize,
+) -> Result<Control, StoreFault>
+    ensures right { IfOk result (λ control. FitsFields control × IsControl size control) }
     ensures read { IfOk result (λ control. IfTold (D.state disk.old).files (λ folder. HasControl size folder control)) }
     ensures refused { IfErr result (λ e. IfTold (D.state disk.old).files (λ folder. IsRefusal size folder e)) }
+    ensures asks { Asks result (D.state disk.old) (D.state disk.new) }
+    ensures keeps { D.keeps disk.old disk.new }
+{
+    let bytes = read_control_bytes(alloc, disk)?;
+    match read_control(&bytes, size) {
+        Ok(control) => Ok(control),
+        Err(fault) => Err(StoreFault::BadControl(fault.place)),
+    }
+}
+
+/// The bytes of the control, where they are as many as those of one.
+fn read_control_bytes<D: Disk>(
+    alloc: Global,
+    disk: &mut D,
+) -> Result<[u8; CONTROL_SIZE], StoreFault>
+    ensures read { IfOk result (λ bytes. IfTold (D.state disk.old).files (λ folder. folder control_name ≡ Some bytes)) }
+    ensures refused { IfErr result (λ e. IfTold (D.state disk.old).files (λ folder. (size : ℕ) → IsRefusal size folder e)) }
     ensures asks { Asks result (D.state disk.old) (D.state disk.new) }
     ensures keeps { D.keeps disk.old disk.new }
 {
@@ -82,14 +109,17 @@ fn read_control_file<D: Disk>(alloc: Global, disk: &mut D, size: SegSize) -> Res
     }
     let mut bytes = [0; CONTROL_SIZE];
     read_front(disk, CONTROL, &mut bytes)?;
-    match read_control(&bytes, size) {
-        Ok(control) => Ok(control),
-        Err(fault) => Err(StoreFault::BadControl(fault.place)),
-    }
+    Ok(bytes)
 }
 
 /// The history of the control's timeline: timeline 1 has none, and no parents.
-fn read_own_history<D: Disk>(alloc: Global, disk: &mut D, control: &Control, size: SegSize) -> Result<History, StoreFault>
+fn read_own_history<D: Disk>(
+    alloc: Global,
+    disk: &mut D,
+    control: &Control,
+    size: SegSize,
+) -> Result<History, StoreFault>
+    ensures right { IfOk result (λ history. (history.own ≡ control.now.tli) × AreBetween size control.now.whole history.parents) }
     ensures read { IfOk result (λ history. IfTold (D.state disk.old).files (λ folder. HasPath size folder control.now history)) }
     ensures refused { IfErr result (λ e. IfTold (D.state disk.old).files (λ folder. HasControl size folder control.now → IsRefusal size folder e)) }
     ensures asks { Asks result (D.state disk.old) (D.state disk.new) }
@@ -99,9 +129,8 @@ fn read_own_history<D: Disk>(alloc: Global, disk: &mut D, control: &Control, siz
     if tli == Tli(1) {
         return Ok(History::first(alloc, tli));
     }
-    let name = history_name(alloc, tli)?;
-    let length = length_of(alloc, disk, &name)?;
-    let text = read_text(alloc, disk, &name, length, tli)?;
+    let name = history_file(alloc, tli)?;
+    let text = read_text(alloc, disk, &name, tli)?;
     let least = Lsn(u64::from(size.bytes()));
     match parse_history_between(alloc, tli, &text, least, control.whole) {
         Ok(history) => Ok(history),
@@ -110,13 +139,100 @@ fn read_own_history<D: Disk>(alloc: Global, disk: &mut D, control: &Control, siz
     }
 }
 
-/// Looks whether each segment with flushed bytes has its file, which is long enough.
-fn check_segments<D: Disk>(alloc: Global, disk: &mut D, control: &Control, history: &History, size: SegSize) -> Result<(), StoreFault>
-    requires { control.now.floor ≤ control.now.flushed }
-    ensures enough { OnOk result (IfTold (D.state disk.old).files (λ folder. (segment : ℕ) → IsHeld size control.now segment → IsEnough size folder control.now history.now segment)) }
-    ensures refused { IfErr result (λ e. IfTold (D.state disk.old).files (λ folder. HasControl size folder control.now → HasPath size folder control.now history.now → IsRefusal size folder e)) }
+/// The text of a history, which is refused unread where it is too long.
+fn read_text<D: Disk>(
+    alloc: Global,
+    disk: &mut D,
+    name: &str,
+    tli: Tli,
+) -> Result<Vec<u8>, StoreFault>
+    requires { IsText name.now }
+    ensures read { IfOk result (λ text. IfTold (D.state disk.old).files (λ folder. folder name.now ≡ Some text.items)) }
+    ensures refused { IfErr result (λ e. IfTold (D.state disk.old).files (λ folder. IsUnread folder name.now tli e)) }
     ensures asks { Asks result (D.state disk.old) (D.state disk.new) }
     ensures keeps { D.keeps disk.old disk.new }
 {
-    unimplemented
+    let length = length_of(alloc, disk, name)?;
+    if length > HISTORY_LIMIT {
+        let fault = HistoryFault::TooLong { have: length };
+        return Err(StoreFault::BadHistory { tli, fault });
+    }
+    let mut text = vec![in alloc; 0; length as usize]?;
+    read_front(disk, name, &mut text)?;
+    Ok(text)
+}
+
+/// Looks whether each segment with flushed bytes has its file, which is long enough.
+fn check_segments<D: Disk>(
+    alloc: Global,
+    disk: &mut D,
+    control: &Control,
+    history: &History,
+    size: SegSize,
+) -> Result<(), StoreFault>
+    requires order { control.now.floor ≤ control.now.flushed }
+    requires limit { control.now.flushed ≤ 2 ^ 63 }
+    ensures enough { OnOk result (IfTold (D.state disk.old).files (λ folder. (segment : ℕ) → IsHeld size control.now segment → IsEnough size folder control.now history.now segment)) }
+    ensures refused { IfErr result (λ e. IfTold (D.state disk.old).files (λ folder. IsLackOf size folder control.now history.now e)) }
+    ensures asks { Asks result (D.state disk.old) (D.state disk.new) }
+    ensures keeps { D.keeps disk.old disk.new }
+{
+    let mut number = number_of(control.floor, size);
+    while is_held(control, number, size) {
+        check_segment(alloc, disk, control, history, SegNo(number), size)?;
+        number += 1;
+    }
+    Ok(())
+}
+
+/// Whether bytes of the segment with this number are flushed.
+fn is_held(control: &Control, number: u64, size: SegSize) -> bool
+    requires { number * size < 2 ^ 64 }
+    ensures { IsTrue result ↔ (number * size < control.now.flushed) }
+{
+    number * u64::from(size.bytes()) < control.flushed.0
+}
+
+/// The number of the segment in which the position is.
+fn number_of(at: Lsn, size: SegSize) -> u64
+    ensures { result ≡ at / size }
+{
+    seg_of(at, size).0
+}
+
+/// Looks whether a segment has its file, which is long enough.
+fn check_segment<D: Disk>(
+    alloc: Global,
+    disk: &mut D,
+    control: &Control,
+    history: &History,
+    segment: SegNo,
+    size: SegSize,
+) -> Result<(), StoreFault>
+    requires held { segment * size < control.now.flushed }
+    requires limit { control.now.flushed ≤ 2 ^ 63 }
+    ensures enough { OnOk result (IfTold (D.state disk.old).files (λ folder. IsEnough size folder control.now history.now segment)) }
+    ensures refused { IfErr result (λ e. IfTold (D.state disk.old).files (λ folder. IsSegmentLack size folder control.now history.now segment e)) }
+    ensures asks { Asks result (D.state disk.old) (D.state disk.new) }
+    ensures keeps { D.keeps disk.old disk.new }
+{
+    let name = segment_file(alloc, history, segment, size)?;
+    let have = length_of(alloc, disk, &name)?;
+    let left = control.flushed.0 - seg_start(segment, size).0;
+    let needed = left.min(u64::from(size.bytes()));
+    if have < needed {
+        return Err(short(alloc, &name, have, needed));
+    }
+    Ok(())
+}
+
+/// What is said of a file that is too short.
+fn short(alloc: Global, name: &str, have: u64, needed: u64) -> StoreFault
+    requires { IsText name.now }
+    ensures { (result ≡ StoreFault.ShortFile name.now have needed) ⊎ (result ≡ StoreFault.Memory) }
+{
+    match Text::copied(alloc, name.as_bytes()) {
+        Ok(name) => StoreFault::ShortFile { name, have, needed },
+        Err(error) => StoreFault::from(error),
+    }
 }
