@@ -4,7 +4,8 @@
 //! with a slash between them: `Lsn::text` prints the one canonical text of a position, and `Lsn::parse`
 //! reads exactly the texts that spell one and says of any other where it goes wrong. A segment is a file's worth of
 //! the log, whose name says its timeline and number: `seg_name` and `parse_seg_name`. A history is a path through
-//! the log, from timeline to timeline: `parse_history` and `history_text` read and print it, `timeline_at` and
+//! the log, from timeline to timeline: `parse_history` and `history_text` read and print it, `parse_history_between`
+//! reads that of a log from its origin to its end, `timeline_at` and
 //! `end_of` say which timeline holds which positions, and `relation_to` how two histories stand to each other.
 //! Contracts see positions, segments and timelines as numbers. What spells what stands in `specs/Position.antt`,
 //! `specs/Segment.antt` and `specs/History.antt`, and what is said of paths in `specs/Path.antt`. Stands on

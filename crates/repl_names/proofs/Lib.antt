@@ -15,3 +15,6 @@ pub mod Ranks
 pub mod Taken
 pub mod TokenKinds
 pub mod CountedOrder
+pub mod Settings
+pub mod Staying
+pub mod SomeCounted
