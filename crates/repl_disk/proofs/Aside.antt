@@ -109,7 +109,8 @@ module _ (name aside bytes : List ℕ) where
   leaves_either (Err error.Missing) differs old mid new has leaves = λ image now. aside_is_before differs old image
       (has image (leaves image now)).0
   leaves_either (Err error.Failed) differs old mid new has leaves = follows_either differs old mid new has leaves
-  leaves_either (Err error.Memory) differs old mid new has leaves = follows_either differs old mid new has leaves
+  leaves_either (Err error.Memory) differs old mid new has leaves = λ image now. aside_is_before differs old image
+      (has image (leaves image now)).0
 
   -- ---- the files as they read
 

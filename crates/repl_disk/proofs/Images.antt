@@ -139,7 +139,7 @@ Goes result step old new = Leaves result step (Images old) (Images new) × Passi
 failed_leaves : (old : Held) (step : Folder → Folder → Type 0) (e : DiskError) → Goes (Err e) step old old
 failed_leaves old step error.Missing = (λ image is. is, same_elapses old, λ image is. is)
 failed_leaves old step error.Failed = (λ image is. (image, is, inl refl), same_elapses old, λ image is. is)
-failed_leaves old step error.Memory = (λ image is. (image, is, inl refl), same_elapses old, λ image is. is)
+failed_leaves old step error.Memory = (λ image is. is, same_elapses old, λ image is. is)
 
 answer_leaves : (old new : Held) (effect : Folder → Folder) (step : Folder → Folder → Type 0) (P : DiskError → Type 0)
     → ((e : DiskError) → P e → new ≡ old) → (answer : Result (Unit {0}) DiskError) → MatchResult answer (λ _. Did old new effect step) P

@@ -52,13 +52,13 @@ NeverMissing (Err error.Missing) = ⊥
 NeverMissing (Err error.Failed) = Unit {0}
 NeverMissing (Err error.Memory) = Unit {0}
 
--- The files are as the effect makes them where the call is done, as they were where the name is missing, and one or the
--- other where the call failed.
+-- The files are as the effect makes them where the call is done, as they were where the name is missing or there was no
+-- memory, and one or the other where the call failed.
 abbrev pub Does : {A : Type 0} → Result A DiskError → ToldFiles → ToldFiles → (Folder → Folder) → Type 0
 Does (Ok x) before now effect = Became before now effect
 Does (Err error.Missing) before now effect = Stayed before now
 Does (Err error.Failed) before now effect = Stayed before now ⊎ Became before now effect
-Does (Err error.Memory) before now effect = Stayed before now ⊎ Became before now effect
+Does (Err error.Memory) before now effect = Stayed before now
 
 abbrev pub Wrote : {A : Type 0} → Result A DiskError → ToldFiles → ToldFiles → List ℕ → ℕ → List ℕ → Type 0
 Wrote result before now name at bytes = Does result before now (λ folder. written folder name at bytes)
@@ -69,13 +69,13 @@ Moved result before now from to = Does result before now (λ folder. moved folde
 abbrev pub Removed : {A : Type 0} → Result A DiskError → ToldFiles → ToldFiles → List ℕ → Type 0
 Removed result before now name = Does result before now (λ folder. put folder name None)
 
--- What a crash may leave after the step where the call is done, what it might have left where the name is missing, and
--- one or the other where the call failed.
+-- What a crash may leave after the step where the call is done, what it might have left where the name is missing or there
+-- was no memory, and one or the other where the call failed.
 abbrev pub Leaves : {A : Type 0} → Result A DiskError → (Folder → Folder → Type 0) → (Folder → Type 0) → (Folder → Type 0) → Type 0
 Leaves (Ok x) step old new = Follows step old new
 Leaves (Err error.Missing) step old new = NoneNew old new
 Leaves (Err error.Failed) step old new = Follows (Either step) old new
-Leaves (Err error.Memory) step old new = Follows (Either step) old new
+Leaves (Err error.Memory) step old new = NoneNew old new
 
 -- All that the step makes of an image is left where the call is done, and all that might have been where it failed.
 abbrev pub LeavesAll : {A : Type 0} → Result A DiskError → (Folder → Folder → Type 0) → (Folder → Type 0) → (Folder → Type 0) → Type 0

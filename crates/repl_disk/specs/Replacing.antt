@@ -1,7 +1,9 @@
 -- Putting other bytes under a name, so that a crash leaves the old ones or the new. They are written under a second name
 -- first, the temporary one.
 use Rattle.std.specs.Prelude.{◌≡◌, ◌≢◌, ◌⊎◌, ℕ, List, ◌++◌, Option, Some, None, codes}
+use Rattle.repl_disk.specs.Crash.{LeavesOnly}
 use Rattle.repl_disk.specs.Folder.{Folder, ToldFiles, put}
+use Rattle.repl_disk.specs.State.{DiskState}
 
 -- the temporary name, unless another is given
 abbrev pub temporary : List ℕ → List ℕ
@@ -23,6 +25,13 @@ HasAside old new name bytes = (image : Folder) → new image → IsAside old nam
 abbrev pub IsHalfAside : ToldFiles → ToldFiles → List ℕ → Type 0
 IsHalfAside None now name = now ≡ None
 IsHalfAside (Some folder) now name = (after : Folder) × (now ≡ Some after) × IsAside (λ f. f ≡ folder) name after
+
+-- A crash at any moment of a run leaves what one before it might have left, but for this file, and the files read as they
+-- did, but for this file.
+pub record IsUntouched (old new : DiskState) (name : List ℕ) : Type 0 where
+  pub any_moment : LeavesOnly old new (IsAside old.may_leave name)
+  pub now : (image : Folder) → new.may_leave image → IsAside old.may_leave name image
+  pub files : IsHalfAside old.files new.files name
 
 -- ---- a file replaced
 

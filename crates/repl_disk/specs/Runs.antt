@@ -91,6 +91,21 @@ module _ (old mid new : DiskState) (P : Folder → Type 0) (folder : Folder) (Q 
         (either so_far follows makes) (λ image. ⊎_elim (within image) (within_then image)),
   )
 
+-- one that did nothing, and so left nothing new
+stood : (old mid new : DiskState) (P : Folder → Type 0) (folder : Folder) (Q R : Folder → Type 0) (effect : Folder → Folder)
+    (step : Folder → Folder → Folder → Type 0) → Run old mid P folder Q → Stayed mid.files new.files
+    → IfTold mid.files (λ f. NoneNew mid.may_leave new.may_leave) → Elapses mid new → ((image : Folder) → Q image → P image)
+    → ((image : Folder) → R image → P image)
+    → (now : Folder) × ((now ≡ folder) ⊎ (now ≡ effect folder)) × Run old new P now (λ image. Q image ⊎ R image)
+stood old mid new P folder Q R effect step so_far stayed crash time within within_then =
+    let none_new = told_so mid.files folder (λ f. NoneNew mid.may_leave new.may_leave) so_far.reads crash in (
+      folder,
+      inl refl,
+      ends old mid new P folder Q R effect (step folder) so_far folder (λ image. Q image ⊎ R image)
+          (stayed ∙ so_far.reads) time (λ image now. inl (so_far.now image (none_new image now)))
+          (λ image. ⊎_elim (within image) (within_then image)),
+    )
+
 -- A call that changes files: `Wrote`, `Moved` and `Removed` say what it does, and `crash` what it leaves.
 pub ran : {A : Type 0} (result : Result A DiskError) (old mid new : DiskState) (P : Folder → Type 0) (folder : Folder)
     (Q R : Folder → Type 0) (effect : Folder → Folder) (step : Folder → Folder → Folder → Type 0)
@@ -105,21 +120,29 @@ ran (Ok x) old mid new P folder Q R effect step so_far does crash time makes wit
     ends old mid new P folder Q R effect (step folder) so_far (effect folder) R
     (does ∙ ap (option_map effect) so_far.reads) time leaves within_then
 ran (Err error.Missing) old mid new P folder Q R effect step so_far does crash time makes within within_then =
-    let none_new = told_so mid.files folder (λ f. NoneNew mid.may_leave new.may_leave) so_far.reads crash in (
-      folder,
-      inl refl,
-      ends old mid new P folder Q R effect (step folder) so_far folder (λ image. Q image ⊎ R image)
-          (does ∙ so_far.reads) time (λ image now. inl (so_far.now image (none_new image now)))
-          (λ image. ⊎_elim (within image) (within_then image)),
-    )
+    stood old mid new P folder Q R effect step so_far does crash time within within_then
 ran (Err error.Failed) old mid new P folder Q R effect step so_far does crash time makes within within_then =
     failed_run old mid new P folder Q R effect (step folder) so_far does
     (told_so mid.files folder (λ f. Follows
     (Either (step f)) mid.may_leave new.may_leave) so_far.reads crash) time makes within within_then
 ran (Err error.Memory) old mid new P folder Q R effect step so_far does crash time makes within within_then =
-    failed_run old mid new P folder Q R effect (step folder) so_far does
-    (told_so mid.files folder (λ f. Follows
-    (Either (step f)) mid.may_leave new.may_leave) so_far.reads crash) time makes within within_then
+    stood old mid new P folder Q R effect step so_far does crash time within within_then
+
+-- a call that found no memory did nothing
+pub ran_nothing : {A : Type 0} (result : Result A DiskError) (old mid new : DiskState) (P : Folder → Type 0) (folder : Folder)
+    (Q : Folder → Type 0) (effect : Folder → Folder) (step : Folder → Folder → Folder → Type 0) → result ≡ Err error.Memory
+    → Run old mid P folder Q → Does result mid.files new.files effect
+    → IfTold mid.files (λ f. Leaves result (step f) mid.may_leave new.may_leave) → Elapses mid new
+    → ((image : Folder) → Q image → P image) → Run old new P folder Q
+ran_nothing {A = A} result old mid new P folder Q effect step is so_far does crash time within =
+    let stayed = subst (λ (r : Result A DiskError). Does r mid.files new.files effect) is does in
+    let left = subst (λ (r : Result A DiskError). IfTold mid.files (λ f. Leaves r (step f) mid.may_leave new.may_leave)) is crash in
+    let none_new = told_so mid.files folder (λ f. NoneNew mid.may_leave new.may_leave) so_far.reads left in
+    record {
+      any_moment = goes_on old mid new P so_far.any_moment time (λ image now. within image (so_far.now image (none_new image now)));
+      now = λ image now. so_far.now image (none_new image now);
+      reads = stayed ∙ so_far.reads;
+    }
 
 -- a call that leaves every image in one set, however it ends
 pub ran_within : {A : Type 0} (result : Result A DiskError) (old mid new : DiskState) (P : Folder → Type 0) (folder : Folder)
@@ -145,7 +168,7 @@ pub stays : {A : Type 0} (result : Result A DiskError) (before now : ToldFiles) 
 stays (Ok x) before now folder told same = same ∙ told ∙ sym (ap (option_map (λ (f : Folder). f)) told)
 stays (Err error.Missing) before now folder told same = same
 stays (Err error.Failed) before now folder told same = inl same
-stays (Err error.Memory) before now folder told same = inl same
+stays (Err error.Memory) before now folder told same = same
 
 -- a sync
 pub ran_sync : {A : Type 0} (result : Result A DiskError) (name : List ℕ) (old mid new : DiskState) (P : Folder → Type 0) (folder : Folder)

@@ -5,7 +5,7 @@ ghost use Rattle.repl_disk.specs.declared.disk.DiskError.TheVariants as DiskErro
 ghost use Rattle.repl_disk.specs.Answers.{is_failed, Caused, NeverMissing, Removed, Leaves};
 ghost use Rattle.repl_disk.specs.Folder.{Folder, IfTold, Became, put};
 ghost use Rattle.repl_disk.specs.Crash.{LeavesOnly, Elapses, Either, Removes};
-ghost use Rattle.repl_disk.specs.Replacing.{IsAside, HasAside, IsHalfAside, IsBeforeOrAfter, IsAfter, IsHalfDone, replaced, temporary};
+ghost use Rattle.repl_disk.specs.Replacing.{IsAside, HasAside, IsHalfAside, IsBeforeOrAfter, IsAfter, IsHalfDone, IsUntouched, replaced, temporary};
 
 use crate::disk::{Disk, DiskError};
 use std::alloc::Global;
@@ -56,6 +56,9 @@ pub fn replace_by<D: Disk>(
     // After an error the name has the old file or the new, and no other file but the temporary one
     // changed.
     ensures half_done { IfErr result (λ e. IsHalfDone (D.state disk.old).files (D.state disk.new).files name.now aside.now bytes.now) }
+    // Where the disk found no memory the name has the old file.
+    ensures no_memory { result ≡ Err DiskError.Memory → IfTold (D.state disk.old).files (λ folder.
+        IsUntouched (D.state disk.old) (D.state disk.new) aside.now) }
     // An error is the disk's own, and none is passed over.
     ensures caused { Caused result (D.state disk.old) (D.state disk.new) }
     ensures there { IfTold (D.state disk.old).files (λ folder. NeverMissing result) }

@@ -1,0 +1,9 @@
+pub mod Places
+pub mod Names
+pub mod Carrying
+pub mod Standing
+pub mod Reading
+pub mod Texts
+pub mod Asking
+pub mod Hearing
+pub mod Mounting

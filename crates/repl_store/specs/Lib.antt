@@ -1,0 +1,5 @@
+pub mod Durable
+pub mod Head
+pub mod Backing
+pub mod Refusal
+pub mod Numbers
