@@ -1,3 +1,4 @@
 pub mod Durable
 pub mod Head
 pub mod Backing
+pub mod Tail

@@ -1,5 +1,6 @@
 //! What a store has in memory.
-ghost use Rattle.std.specs.Prelude.{◌≡◌, ◌<◌, ◌+◌, ◌%◌};
+ghost use Rattle.std.specs.Prelude.{◌≡◌, ◌≤◌, ◌<◌, ◌+◌, ◌%◌};
+ghost use Rattle.repl_store.specs.Tail.{PutsBack};
 
 use repl_control::Control;
 use repl_lsn::{History, Lsn, SegSize};
@@ -40,5 +41,17 @@ impl Head {
     {
         let size = u64::from(self.size.bytes());
         (size - at.0 % size) as usize
+    }
+
+    /// Forgets the bytes behind this position.
+    pub(crate) fn put_back(&mut self, written: Lsn)
+        requires flushed { self.old.control.flushed ≤ written }
+        requires below { written ≤ self.old.written }
+        ensures { PutsBack self.old self.new written }
+    {
+        self.written = written;
+        if written < self.synced {
+            self.synced = written;
+        }
     }
 }
