@@ -17,9 +17,11 @@ use Rattle.repl_names.proofs.PrintedTokens.{spelling_is_read}
 use Rattle.repl_names.specs.declared.setting.Setting.{Setting}
 use Rattle.repl_names.specs.declared.setting.Setting.TheVariants as setting
 use Rattle.repl_cmd.specs.declared.command.Command.{Command}
-use Rattle.repl_cmd.specs.Name.{IsSlotName, IsParameterName}
+use Rattle.repl_text.specs.SlotName.{IsSlotName}
+use Rattle.repl_cmd.specs.Name.{IsParameterName}
 use Rattle.repl_cmd.specs.Token.{Lexeme}
-use Rattle.repl_cmd.specs.Command.{Part, Keyword, Sign, Slot, Parameter, Position, Number, Value, Body, Names, Is, Follow, OneOf, SaysCommand, setting_word, forms}
+use Rattle.repl_names.specs.Setting.{setting_word}
+use Rattle.repl_cmd.specs.Command.{Part, Keyword, Sign, Slot, Parameter, Position, Number, Value, Body, Names, Is, Follow, OneOf, SaysCommand, forms}
 use Rattle.repl_cmd.proofs.TokenOf.{Piece, IsWritten, tokens_from, written_reads, word_piece, position_piece, name_piece, text_piece, equals_piece}
 
 -- wherever it stands, the token is this part

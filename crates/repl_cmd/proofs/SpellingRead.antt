@@ -11,9 +11,11 @@ use Rattle.repl_names.specs.declared.setting.Setting.TheVariants as setting
 use Rattle.repl_cmd.specs.declared.command.Command.{Command}
 use Rattle.repl_cmd.specs.declared.command.Command.TheVariants as command
 use Rattle.repl_cmd.specs.declared.token.Kind.TheVariants as kind
-use Rattle.repl_cmd.specs.Name.{IsSlotName, IsParameterName}
+use Rattle.repl_text.specs.SlotName.{IsSlotName}
+use Rattle.repl_cmd.specs.Name.{IsParameterName}
 use Rattle.repl_cmd.specs.Token.{Lexeme}
-use Rattle.repl_cmd.specs.Command.{Part, Keyword, Sign, Slot, Parameter, Position, Number, Value, Body, Names, Follow, OneOf, IsCommand, SaysCommand, IsTimeline, IsSlotOf, forms, create_physical, temporary_part, start_words, slot_part, timeline_part, wait_part, number_part, reserve_wal, set_words, alter_words, setting_word}
+use Rattle.repl_names.specs.Setting.{setting_word}
+use Rattle.repl_cmd.specs.Command.{Part, Keyword, Sign, Slot, Parameter, Position, Number, Value, Body, Names, Follow, OneOf, IsCommand, SaysCommand, IsTimeline, IsSlotOf, forms, create_physical, temporary_part, start_words, slot_part, timeline_part, wait_part, number_part, reserve_wal, set_words, alter_words}
 use Rattle.repl_cmd.specs.Printing.{spelling}
 use Rattle.repl_cmd.proofs.TokenOf.{Piece, IsPiece, IsWritten, IsFront, written_first, written_more, front_space, front_more, front_word, word_piece, position_piece, name_piece, text_piece, equals_piece, all_word_bytes, keyword_is_piece, number_is_piece, position_is_piece, name_is_piece, text_is_piece, equals_is_piece}
 use Rattle.repl_cmd.proofs.WrittenParts.{pieces_if, written_if, number_pieces, number_written, slot_pieces, slot_front, timeline_pieces, timeline_written}

@@ -9,7 +9,8 @@ use Rattle.repl_text.specs.Text.{IsText}
 use Rattle.repl_lsn.proofs.Halves.{half_fits}
 use Rattle.repl_cmd.specs.declared.command.Command.{Command}
 use Rattle.repl_cmd.specs.declared.command.Command.TheVariants as command
-use Rattle.repl_cmd.specs.Name.{IsSlotName, IsParameterName}
+use Rattle.repl_text.specs.SlotName.{IsSlotName}
+use Rattle.repl_cmd.specs.Name.{IsParameterName}
 use Rattle.repl_cmd.specs.Token.{Lexeme}
 use Rattle.repl_cmd.specs.Command.{Part, Keyword, Slot, Parameter, Position, Number, Body, Names, Is, IsParameter, IsPosition, IsNumber, IsBody, Follow, OneOf, temporary_part, create_physical, reserve_forms, start_words, timeline_part, wait_part, alter_words, forms, Says, IsCommand, IsTimeline, IsSlotOf}
 use Rattle.repl_cmd.proofs.WalkForms.{physical_forms}

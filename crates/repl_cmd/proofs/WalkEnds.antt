@@ -21,7 +21,7 @@ use Rattle.repl_cmd.specs.declared.state.State.{State}
 use Rattle.repl_cmd.specs.declared.state.State.TheVariants as state
 use Rattle.repl_cmd.specs.declared.token.Kind.{Kind}
 use Rattle.repl_cmd.specs.declared.token.Kind.TheVariants as kind
-use Rattle.repl_cmd.specs.Name.{is_slot_byte}
+use Rattle.repl_text.specs.SlotName.{is_slot_byte}
 use Rattle.repl_cmd.specs.Token.{Lexeme}
 use Rattle.repl_cmd.specs.Command.{IsSlot, IsParameter, IsPosition, IsNumber, IsBody, IsList, Says, IsSaid, IsEnding}
 use Rattle.repl_cmd.specs.Walk.{Moves, Steps, Runs, finish, IsStuck}

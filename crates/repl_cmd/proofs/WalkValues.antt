@@ -1,11 +1,11 @@
 -- A token says one value at most, where one is wanted.
-use Rattle.std.proofs.Common.{◌≡◌, ◌≢◌, ℕ, Bool, true, false, ◌||◌, ◌⊎◌, inl, inr, List, map, bytes_eq, if◌then◌else◌, codes, sym, ap, ◌∙◌}
+use Rattle.std.proofs.Common.{◌≡◌, ◌≢◌, ℕ, Bool, true, false, ◌||◌, ◌⊎◌, inl, inr, List, map, bytes_eq, codes, sym, ap, ◌∙◌}
 use Rattle.std.proofs.lemmas.Bool.{false≢true}
 use Rattle.std.specs.Char.{to_ascii_lowercase}
 use Rattle.hex.proofs.HexLemmas.{decode_of-same}
 use Rattle.repl_lsn.proofs.Splits.{one_position}
 use Rattle.repl_names.specs.declared.setting.Setting.{Setting}
-use Rattle.repl_names.specs.declared.setting.Setting.TheVariants as setting
+use Rattle.repl_names.proofs.Settings as settings
 use Rattle.repl_names.specs.StandbyList.{Listing}
 use Rattle.repl_names.proofs.GrammarLists.{reads_one_list}
 use Rattle.repl_cmd.specs.declared.token.Kind.{Kind}
@@ -54,23 +54,8 @@ flag_is false t (v, inr (inr e)) = ap flag_of e
 pub one_flag : (t : Lexeme) (a b : Bool) → IsFlag a t → IsFlag b t → a ≡ b
 one_flag t a b p q = sym (flag_is a t p) ∙ flag_is b t q
 
-abbrev setting_of : List ℕ → Setting
-setting_of word =
-    if bytes_eq word (codes "remote_apply") then setting.RemoteApply
-    else if bytes_eq word (codes "on") then setting.On
-    else if bytes_eq word (codes "remote_write") then setting.RemoteWrite
-    else if bytes_eq word (codes "local") then setting.Local
-    else setting.Off
-
-setting_is : (v : Setting) (t : Lexeme) → IsSetting v t → setting_of (map to_ascii_lowercase t.text) ≡ v
-setting_is setting.RemoteApply t p = ap setting_of p.1
-setting_is setting.On t p = ap setting_of p.1
-setting_is setting.RemoteWrite t p = ap setting_of p.1
-setting_is setting.Local t p = ap setting_of p.1
-setting_is setting.Off t p = ap setting_of p.1
-
 pub one_setting : (t : Lexeme) (a b : Setting) → IsSetting a t → IsSetting b t → a ≡ b
-one_setting t a b p q = sym (setting_is a t p) ∙ setting_is b t q
+one_setting t a b p q = settings.one_setting t.text a b p.1 q.1
 
 pub one_body : (t : Lexeme) (a b : List ℕ) → IsBody a t → IsBody b t → a ≡ b
 one_body t a b p q = decode_of-same t.text a b p.1 q.1

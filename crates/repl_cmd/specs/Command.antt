@@ -8,14 +8,15 @@ use Rattle.repl_text.specs.Text.{IsText}
 use Rattle.repl_token.specs.Token.{Lowers}
 use Rattle.repl_lsn.specs.Position.{Spells}
 use Rattle.repl_names.specs.declared.setting.Setting.{Setting}
-use Rattle.repl_names.specs.declared.setting.Setting.TheVariants as setting
 use Rattle.repl_names.specs.StandbyList.{Listing, IsListing}
 use Rattle.repl_names.specs.Grammar as names
+use Rattle.repl_names.specs.Setting.{SaysSetting}
 use Rattle.repl_cmd.specs.declared.command.Command.{Command}
 use Rattle.repl_cmd.specs.declared.command.Command.TheVariants as command
 use Rattle.repl_cmd.specs.declared.token.Kind.{Kind}
 use Rattle.repl_cmd.specs.declared.token.Kind.TheVariants as kind
-use Rattle.repl_cmd.specs.Name.{IsSlotName, IsParameterName}
+use Rattle.repl_text.specs.SlotName.{IsSlotName}
+use Rattle.repl_cmd.specs.Name.{IsParameterName}
 use Rattle.repl_cmd.specs.Token.{Lexeme, Reads}
 
 -- ---- tokens with a meaning
@@ -64,16 +65,9 @@ abbrev pub IsFlag : Bool → Lexeme → Type 0
 IsFlag true t = IsValue t × (Lowers t.text (codes "true") ⊎ Lowers t.text (codes "on") ⊎ Lowers t.text (codes "1"))
 IsFlag false t = IsValue t × (Lowers t.text (codes "false") ⊎ Lowers t.text (codes "off") ⊎ Lowers t.text (codes "0"))
 
-abbrev pub setting_word : Setting → List ℕ
-setting_word setting.RemoteApply = codes "remote_apply"
-setting_word setting.On = codes "on"
-setting_word setting.RemoteWrite = codes "remote_write"
-setting_word setting.Local = codes "local"
-setting_word setting.Off = codes "off"
-
 -- this value of `synchronous_commit`
 abbrev pub IsSetting : Setting → Lexeme → Type 0
-IsSetting v t = IsValue t × Lowers t.text (setting_word v)
+IsSetting v t = IsValue t × SaysSetting t.text v
 
 -- these bytes, each as two hexadecimal digits of either case
 abbrev pub IsBody : List ℕ → Lexeme → Type 0

@@ -1,17 +1,7 @@
--- Names of replication slots and of run-time parameters.
-use Rattle.std.specs.Prelude.{◌≡◌, ℕ, ◌<◌, ◌≤◌, Bool, true, ◌||◌, ◌==◌, List, length, All, map}
-use Rattle.std.specs.Char.{is_ascii_lowercase, is_ascii_digit, to_ascii_lowercase}
+-- Names of run-time parameters.
+use Rattle.std.specs.Prelude.{◌≡◌, ℕ, List, map}
+use Rattle.std.specs.Char.{to_ascii_lowercase}
 use Rattle.repl_text.specs.Text.{IsText}
-use Rattle.repl_cmd.specs.declared.name.TheConstants.{SLOT_NAME_LIMIT}
-
--- a lower-case letter, a digit or an underscore
-abbrev pub is_slot_byte : ℕ → Bool
-is_slot_byte c = is_ascii_lowercase c || is_ascii_digit c || c == 95
-
-pub record IsSlotName (name : List ℕ) : Type 0 where
-  pub some : 0 < length name
-  pub short : length name ≤ SLOT_NAME_LIMIT
-  pub bytes : All (λ c. is_slot_byte c ≡ true) name
 
 -- no capital is in it, and no zero byte
 pub record IsParameterName (name : List ℕ) : Type 0 where

@@ -6,7 +6,7 @@ use Rattle.repl_names.specs.StandbyList as names
 use Rattle.repl_cmd.specs.declared.command.Command.{Command}
 use Rattle.repl_cmd.specs.declared.command.Command.TheVariants as command
 use Rattle.repl_token.specs.Token.{quoted}
-use Rattle.repl_cmd.specs.Command.{setting_word}
+use Rattle.repl_names.specs.Setting.{setting_word}
 
 -- a word that may stand behind a command
 abbrev pub word_if : Bool → List ℕ → List ℕ

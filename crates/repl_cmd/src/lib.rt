@@ -37,6 +37,6 @@ mod wanted;
 pub use command::Command;
 pub use fault::{CmdFault, Unsupported};
 pub use laws::{one_command, printed_is_read, refused_front};
-pub use name::{ParameterName, SLOT_NAME_LIMIT, SlotName, is_slot_name};
+pub use name::{ParameterName, SlotName};
 pub use parse::parse_command;
 pub use print::print_command;

@@ -1,16 +1,11 @@
-ghost use Rattle.std.specs.Prelude.{◌≡◌, ◌↔◌, IfSome, IsSome, IsTrue, map};
+ghost use Rattle.std.specs.Prelude.{◌≡◌, ◌↔◌, IfSome, IsSome, map};
 ghost use Rattle.std.specs.Char.{to_ascii_lowercase};
 ghost use Rattle.repl_text.specs.Text.{IsText};
-ghost use Rattle.repl_cmd.specs.Name.{IsSlotName, IsParameterName, is_slot_byte};
+ghost use Rattle.repl_text.specs.SlotName.{IsSlotName};
+ghost use Rattle.repl_cmd.specs.Name.{IsParameterName};
 
-use repl_text::is_text;
+use repl_text::{is_slot_name, is_text};
 use std::marker::Model;
-
-/// The most bytes of a replication slot's name.
-pub const SLOT_NAME_LIMIT: usize = 63;
-
-// What a slot's name is depends on this number.
-const _: () = prove!(SLOT_NAME_LIMIT == 63);
 
 /// The name of a replication slot: 1 to 63 lower-case letters, digits and underscores (PostgreSQL 17 manual,
 /// section "Replication Slots").
@@ -21,7 +16,7 @@ pub struct SlotName {
 
 impl Model for SlotName {
     ghost use Rattle.std.specs.Prelude.{ℕ, List};
-    ghost use Rattle.repl_cmd.specs.Name.{IsSlotName};
+    ghost use Rattle.repl_text.specs.SlotName.{IsSlotName};
 
     ghost Value = { List ℕ };
 
@@ -50,19 +45,6 @@ impl SlotName {
     {
         &self.bytes
     }
-}
-
-/// Whether the bytes are a slot's name.
-pub fn is_slot_name(bytes: &[u8]) -> bool
-    ensures { IsTrue result ↔ IsSlotName bytes.now }
-{
-    !bytes.is_empty() && bytes.len() <= SLOT_NAME_LIMIT && bytes.iter().all(|c| is_slot_byte(*c))
-}
-
-fn is_slot_byte(c: u8) -> bool
-    ensures { result ≡ is_slot_byte c }
-{
-    c.is_ascii_lowercase() || c.is_ascii_digit() || c == b'_'
 }
 
 /// The name of a run-time parameter, as `SHOW` has it: without a zero byte and without capitals, since these are

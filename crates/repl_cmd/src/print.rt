@@ -7,7 +7,7 @@ use crate::command::Command;
 use crate::name::{ParameterName, SlotName};
 use crate::put::{
     put_body, put_decimal, put_names, put_number, put_parameter, put_position, put_slot,
-    put_slot_name, put_timeline, put_word_if, word_of,
+    put_slot_name, put_timeline, put_word_if,
 };
 use bytes::Bytes;
 use repl_lsn::{Lsn, Tli};
@@ -139,7 +139,7 @@ fn put_commit(out: &mut Vec<u8>, setting: Setting) -> Result<(), AllocError>
     ensures is { IfOk result (λ _. IsCommand (command_of.SetCommit setting)) }
 {
     out.extend_from_slice(b"SET synchronous_commit = ")?;
-    out.extend_from_slice(word_of(setting))
+    out.extend_from_slice(setting.word())
 }
 
 fn put_list(alloc: Global, out: &mut Vec<u8>, list: &StandbyList) -> Result<(), AllocError>

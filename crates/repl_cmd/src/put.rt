@@ -4,13 +4,14 @@ ghost use Rattle.hex.specs.Hex.{encode_lower};
 ghost use Rattle.repl_lsn.specs.Position.{position_text};
 ghost use Rattle.repl_names.specs.StandbyList.{IsListing, spelling};
 ghost use Rattle.repl_token.specs.Token.{quoted};
-ghost use Rattle.repl_cmd.specs.Command.{IsTimeline, IsSlotOf, setting_word};
-ghost use Rattle.repl_cmd.specs.Name.{IsSlotName, IsParameterName};
+ghost use Rattle.repl_cmd.specs.Command.{IsTimeline, IsSlotOf};
+ghost use Rattle.repl_text.specs.SlotName.{IsSlotName};
+ghost use Rattle.repl_cmd.specs.Name.{IsParameterName};
 ghost use Rattle.repl_cmd.specs.Printing.{word_if, slot_words, timeline_words, number_word};
 
 use crate::name::{ParameterName, SlotName};
 use repl_lsn::{Lsn, Tli};
-use repl_names::{Setting, StandbyList, print_names};
+use repl_names::{StandbyList, print_names};
 use repl_token::put_quoted;
 use std::alloc::{AllocError, Global};
 
@@ -116,19 +117,6 @@ pub(crate) fn put_body(alloc: Global, out: &mut Vec<u8>, body: &[u8]) -> Result<
     out.extend_from_slice(digits.as_bytes())?;
     out.push(b'\'')?;
     Ok(())
-}
-
-/// The word of a value of `synchronous_commit`.
-pub(crate) fn word_of(setting: Setting) -> &'static [u8]
-    ensures { result.now ≡ setting_word setting }
-{
-    match setting {
-        Setting::RemoteApply => b"remote_apply",
-        Setting::On => b"on",
-        Setting::RemoteWrite => b"remote_write",
-        Setting::Local => b"local",
-        Setting::Off => b"off",
-    }
 }
 
 /// The text of a standby list, in single quotes.

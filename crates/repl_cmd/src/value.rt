@@ -116,19 +116,7 @@ impl Token {
         if !self.is_value() {
             return None;
         }
-        if self.says(b"remote_apply") {
-            return Some(Setting::RemoteApply);
-        }
-        if self.says(b"on") {
-            return Some(Setting::On);
-        }
-        if self.says(b"remote_write") {
-            return Some(Setting::RemoteWrite);
-        }
-        if self.says(b"local") {
-            return Some(Setting::Local);
-        }
-        self.says(b"off").then_some(Setting::Off)
+        Setting::from_word(self.text.as_slice())
     }
 
     /// The bytes whose hexadecimal digits it quotes. Takes memory for them.

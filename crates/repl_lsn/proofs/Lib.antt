@@ -25,3 +25,6 @@ pub mod Equals
 pub mod Holders
 pub mod HistoryNames
 pub mod SizeTexts
+pub mod Outside
+pub mod FileNames
+pub mod UpTo

@@ -6,6 +6,7 @@ use crate::position::Lsn;
 use crate::timeline::Tli;
 use crate::words::is_blank;
 use std::alloc::{AllocError, Global};
+use std::fmt;
 use std::marker::Model;
 
 /// The most bytes of a history's text.
@@ -103,6 +104,20 @@ pub struct Part {
     /// The first position that is not on it.
     pub switch: Lsn,
     pub reason: Line,
+}
+
+/// The timeline's number and its switch point: `1 0/1000048`.
+impl fmt::Display for Part {
+    ghost use Rattle.std.specs.Prelude.{Some, decimal, ◌++◌, ◌∷◌};
+    ghost use Rattle.repl_lsn.specs.Position.{position_text};
+
+    ghost output = { λ part. Some (decimal part.tli ++ 32 ∷ position_text part.switch) };
+
+    fn fmt<W: fmt::Write>(&self, f: &mut fmt::Formatter<W>) -> fmt::Result {
+        let tli = self.tli;
+        let switch = self.switch;
+        write!(f, "{tli} {switch}")
+    }
 }
 
 /// Timelines that were left, in order.

@@ -1,8 +1,9 @@
 //! Histories as texts.
-ghost use Rattle.std.specs.Prelude.{◌≡◌, ℕ, ◌⊎◌, ◌^◌, ◌-◌, ◌<◌, ◌≤◌, min, List, [], ◌∷◌, ◌++◌, length, decimal, string_bytes, Ok, Err, IfOk, IfErr, OnOk};
+ghost use Rattle.std.specs.Prelude.{◌≡◌, ℕ, ◌⊎◌, ◌^◌, ◌-◌, ◌<◌, ◌≤◌, min, List, [], ◌∷◌, ◌++◌, length, decimal, string_bytes, Ok, Err, IfOk, IfErr, OnOk, MatchOption, Some, None};
 ghost use Rattle.repl_lsn.specs.declared.fault.HistoryFault.TheVariants as HistoryFault;
 ghost use Rattle.repl_lsn.specs.declared.history.TheConstants.{HISTORY_LIMIT};
 ghost use Rattle.repl_lsn.specs.History.{Path, InOrder, SaysPart, SaysHistory, IsLineFault, BreaksAt, IsHistoryFault, canonical, last_number, last_switch};
+ghost use Rattle.repl_lsn.specs.Between.{AreBetween, LiesOutside, IsFaultBetween};
 ghost use Rattle.repl_lsn.specs.Position.{Spells, position_text};
 
 use crate::fault::HistoryFault;
@@ -30,17 +31,67 @@ pub fn parse_history(alloc: Global, own: Tli, text: &[u8]) -> Result<History, Hi
     if size > HISTORY_LIMIT {
         return Err(HistoryFault::TooLong { have: size });
     }
-    let parents = parse_parents(alloc, own, text)?;
-    Ok(History::of(own, Parts::new(parents)))
+    let said = parse_parents(alloc, own, text, Lsn(0), Lsn(u64::MAX))?;
+    Ok(History::of(own, Parts::new(said.parents)))
 }
 
-/// The timelines that the text's lines say.
-fn parse_parents(alloc: Global, own: Tli, text: &[u8]) -> Result<Vec<Part>, HistoryFault>
+/// The history of timeline `own` that the text says, of a log that goes from `least` to `most`: each switch point lies
+/// between these two, or is one of them.
+///
+/// The faults of the text come first, as `parse_history` tells them. Then the first line whose switch point lies outside
+/// is refused as `NotSwitch`. Takes memory.
+pub fn parse_history_between(
+    alloc: Global,
+    own: Tli,
+    text: &[u8],
+    least: Lsn,
+    most: Lsn,
+) -> Result<History, HistoryFault>
+    // What is read is what the text says, and lies within the log.
+    ensures read { IfOk result (λ history. SaysHistory text.now history × (history.own ≡ own) × AreBetween least most history.parents) }
+    // Each refusal has its cause.
+    ensures refused { IfErr result (λ fault. IsFaultBetween own text.now least most fault) }
+    // What the text says is read where it lies within the log,
+    ensures only { (path : Path) → path.own ≡ own → SaysHistory text.now path → AreBetween least most path.parents
+        → (result ≡ Ok path) ⊎ (result ≡ Err HistoryFault.Memory) }
+    // and where it does not, the first line that lies outside is told.
+    ensures outside { (path : Path) (at : ℕ) → path.own ≡ own → SaysHistory text.now path → LiesOutside text.now least most at
+        → (result ≡ Err (HistoryFault.NotSwitch at)) ⊎ (result ≡ Err HistoryFault.Memory) }
+{
+    let size = text.len() as u64;
+    if size > HISTORY_LIMIT {
+        return Err(HistoryFault::TooLong { have: size });
+    }
+    let said = parse_parents(alloc, own, text, least, most)?;
+    if let Some(place) = said.outside {
+        return Err(HistoryFault::NotSwitch(place));
+    }
+    Ok(History::of(own, Parts::new(said.parents)))
+}
+
+/// What the lines of a text say: the timelines, and the first line whose switch point lies outside a log.
+#[derive(Drop)]
+struct Said {
+    parents: Vec<Part>,
+    outside: Option<u64>,
+}
+
+/// The timelines that the text's lines say, and the first of these lines whose switch point is below `least` or above
+/// `most`.
+fn parse_parents(
+    alloc: Global,
+    own: Tli,
+    text: &[u8],
+    least: Lsn,
+    most: Lsn,
+) -> Result<Said, HistoryFault>
     requires { length text.now ≤ HISTORY_LIMIT }
-    ensures read { IfOk result (λ parents. SaysHistory text.now (record { own = own; parents = parents.items })) }
+    ensures read { IfOk result (λ said. SaysHistory text.now (record { own = own; parents = said.parents.items })) }
+    ensures outside { IfOk result (λ said. MatchOption said.outside (AreBetween least most said.parents.items) (λ at. LiesOutside text.now least most at)) }
     ensures refused { IfErr result (λ fault. (fault ≡ HistoryFault.Memory) ⊎ BreaksAt own text.now fault) }
 {
     let mut parents = Vec::new(alloc);
+    let mut outside = None;
     let mut rest = text;
     let mut place = 0;
     while !rest.is_empty() {
@@ -48,11 +99,25 @@ fn parse_parents(alloc: Global, own: Tli, text: &[u8]) -> Result<Vec<Part>, Hist
         place += 1;
         if let Some(part) = parse_line(alloc, line, place)? {
             check_order(own, &parents, &part, place)?;
+            outside = first_outside(outside, part.switch, least, most, place);
             parents.push(part)?;
         }
         rest = behind;
     }
-    Ok(parents)
+    Ok(Said { parents, outside })
+}
+
+/// The first line whose switch point lies outside, where the line at `place` has this one.
+fn first_outside(before: Option<u64>, switch: Lsn, least: Lsn, most: Lsn, place: u64) -> Option<u64>
+    ensures { MatchOption result
+        ((before ≡ None) × (least ≤ switch) × (switch ≤ most))
+        (λ at. (before ≡ Some at) ⊎ ((before ≡ None) × (at ≡ place) × ¬ ((least ≤ switch) × (switch ≤ most)))) }
+{
+    if before.is_some() || (least <= switch && switch <= most) {
+        before
+    } else {
+        Some(place)
+    }
 }
 
 /// Whether the part goes on with those before it, and stays below the own one. `place` is its line's number.

@@ -47,6 +47,11 @@ pub fn path_goes_on()
         → IsPath history × ((history ≡ path) ⊎ ((switch : ℕ) × EndsAt path tli switch × IsChild history path switch)) }
 {}
 
+/// A timeline on a path has one history, so `up_to` has one answer.
+pub fn one_up_to()
+    ensures { (path a b : Path) (tli : ℕ) → IsPath path → IsUpTo path tli a → IsUpTo path tli b → a ≡ b }
+{}
+
 /// The next timeline starts where the one before it ends.
 pub fn next_begins()
     ensures { (path : Path) (tli next : ℕ) → IsNext path tli next

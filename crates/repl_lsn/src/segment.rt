@@ -15,7 +15,7 @@ const HIGH_PLACE: usize = NUMBER_DIGITS;
 
 const LOW_PLACE: usize = 2 * NUMBER_DIGITS;
 
-const NAME_LENGTH: usize = 3 * NUMBER_DIGITS;
+pub(crate) const NAME_LENGTH: usize = 3 * NUMBER_DIGITS;
 
 /// The size of the log's segments in bytes: a power of two from 1 MiB to 1 GiB (PostgreSQL 17 manual, section "WAL
 /// Internals", and `initdb --wal-segsize`).
@@ -127,6 +127,7 @@ pub fn parse_seg_name(text: &[u8], size: SegSize) -> Result<(Tli, SegNo), PlaceF
     ensures only { (tli seg : ℕ) → Names size text.now tli seg → result ≡ Ok (tli, seg) }
     // Each refusal has its cause, and is told where it has.
     ensures refused { IfErr result (λ fault. IsNameFault size text.now fault.place) }
+    ensures size { IsSegSize size }
 {
     let count = size.in_four_gib();
     let timeline = number_at(text, 0)?;

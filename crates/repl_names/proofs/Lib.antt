@@ -14,3 +14,7 @@ pub mod Quorums
 pub mod Ranks
 pub mod Taken
 pub mod TokenKinds
+pub mod CountedOrder
+pub mod Settings
+pub mod Staying
+pub mod SomeCounted

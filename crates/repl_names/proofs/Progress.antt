@@ -30,7 +30,7 @@ stays_met_below list sessions m earlier end le = met_for_both list.names list (c
 
 -- ---- forward
 
-forward_position : (m : Mode) (old new : Candidate) → Forward old new → position m old ≤ position m new
+pub forward_position : (m : Mode) (old new : Candidate) → Forward old new → position m old ≤ position m new
 forward_position mode.Write old new f = f.written
 forward_position mode.Flush old new f = f.flushed
 forward_position mode.Apply old new f = f.applied
@@ -41,7 +41,7 @@ forward_counts old new f some =
     let is = lt-ltb 0 new.flushed (omega (arith, f.flushed)) in
     ap (λ p. nat_lt 0 p && nat_lt 0 new.flushed) f.priority ∙ ap (λ b. nat_lt 0 old.priority && b) (is ∙ sym was)
 
-forward_before : (c d e f : Candidate) → Forward c e → Forward d f → goes_before f e ≡ goes_before d c
+pub forward_before : (c d e f : Candidate) → Forward c e → Forward d f → goes_before f e ≡ goes_before d c
 forward_before c d e f ce df =
     ap (λ p. nat_lt p e.priority || (p == e.priority && nat_lt f.session e.session)) df.priority
     ∙ ap (λ p. nat_lt d.priority p || (d.priority == p && nat_lt f.session e.session)) ce.priority

@@ -26,7 +26,7 @@ differ_cond : (b : Bool) (c : Candidate) (cs : List Candidate) → All (λ d. d.
 differ_cond true c cs apart rest = (apart, rest)
 differ_cond false c cs apart rest = rest
 
-differ_filter : (p : Candidate → Bool) (cs : List Candidate) → Differ cs → Differ (filter p cs)
+pub differ_filter : (p : Candidate → Bool) (cs : List Candidate) → Differ cs → Differ (filter p cs)
 differ_filter p [] h = h
 differ_filter p (c ∷ cs) h = differ_cond (p c) c (filter p cs) (All-filter p (λ d. d.session ≢ c.session) cs h.0) (differ_filter p cs h.1)
 

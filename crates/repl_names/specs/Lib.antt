@@ -4,3 +4,4 @@ pub mod Grammar
 pub mod Walk
 pub mod Quorum
 pub mod Order
+pub mod Setting

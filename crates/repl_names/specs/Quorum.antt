@@ -1,6 +1,33 @@
 -- When a standby list is met (PostgreSQL 17 manual, section "Synchronous Replication", and
 -- `synchronous_standby_names`): how many of the standbys that it names have reached a position.
-use Rattle.std.specs.Prelude.{◌≡◌, ℕ, ◌<◌, ◌≤◌, ◌≢◌, Bool, true, ◌&&◌, ◌||◌, nat_lt, ◌==◌, not, List, [], ◌∷◌, length, take, filter, count_by, All, Option, Some, None, IsPermutation}
+use Rattle.std.specs.Prelude.{
+  ◌≡◌,
+  ℕ,
+  ◌<◌,
+  ◌≤◌,
+  ◌≢◌,
+  Bool,
+  true,
+  ◌&&◌,
+  ◌||◌,
+  nat_lt,
+  ◌==◌,
+  not,
+  List,
+  [],
+  ◌∷◌,
+  length,
+  take,
+  filter,
+  count_by,
+  All,
+  Option,
+  Some,
+  None,
+  IsPermutation,
+  Contains,
+  ◌⊎◌,
+}
 use Rattle.repl_names.specs.declared.list.Method.{Method}
 use Rattle.repl_names.specs.declared.list.Method.TheVariants as method
 use Rattle.repl_names.specs.declared.quorum.Mode.{Mode}
@@ -99,3 +126,12 @@ pub record Forward (old new : Candidate) : Type 0 where
   pub written : old.written ≤ new.written
   pub flushed : old.flushed ≤ new.flushed
   pub applied : old.applied ≤ new.applied
+
+-- each of the first list is one of the second, where it has moved forward
+abbrev pub Continue : List Candidate → List Candidate → Type 0
+Continue old new = All (λ c. (d : Candidate) × Contains new d × Forward c d) old
+
+-- of the first n of the second list each was in the first one, or has the position
+abbrev pub NoneLags : ℕ → List Candidate → List Candidate → Mode → ℕ → Type 0
+NoneLags number old new m end = All (λ d. rank new d < number → ((c : Candidate) × Contains old c × Forward c d)
+    ⊎ (end ≤ position m d)) new

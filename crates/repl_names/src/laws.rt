@@ -1,11 +1,13 @@
-ghost use Rattle.std.specs.Prelude.{◌≡◌, ◌↔◌, Option, MatchOption, ◌≤◌, ◌<◌, ℕ, [], List, length, All, Contains, count_by};
+ghost use Rattle.std.specs.Prelude.{◌≡◌, ◌↔◌, Option, Some, MatchOption, ◌≤◌, ◌<◌, ℕ, [], List, length, All, Contains, count_by};
 ghost use Rattle.std.specs.List.{AllZip};
 ghost use Rattle.repl_names.specs.declared.list.Method.TheVariants as Method;
 ghost use Rattle.repl_names.specs.declared.quorum.Mode.{Mode};
 ghost use Rattle.repl_names.specs.declared.quorum.Candidate.{Candidate};
 ghost use Rattle.repl_names.specs.StandbyList.{Listing, IsListing, spelling};
+ghost use Rattle.repl_names.specs.declared.setting.Setting.{Setting};
 ghost use Rattle.repl_names.specs.Grammar.{SaysList};
-ghost use Rattle.repl_names.specs.Quorum.{Met, IsGreatest, IsReleased, Counted, Differ, Forward, candidates, counts, reaches, position};
+ghost use Rattle.repl_names.specs.Setting.{SaysSetting, setting_word};
+ghost use Rattle.repl_names.specs.Quorum.{Met, IsGreatest, IsReleased, Continue, Counted, Differ, Forward, NoneLags, candidates, counts, reaches, position};
 
 /// What is printed is read back as the same list.
 pub fn printed_is_read()
@@ -35,6 +37,25 @@ pub fn met_forward()
         All (λ (c : Candidate). 0 < c.flushed) old → Met list old m end → Met list new m end }
 {}
 
+/// What was met stays met where each candidate is still one and has no lesser position. With FIRST this is so exactly where
+/// moreover each of the first candidates that was none before has the position: a standby of good priority that has said for
+/// the first time what it flushed, and lags, unmeets the list.
+pub fn met_stays()
+    ensures any { (list : Listing) (old new : List Candidate) (m : Mode) (end : ℕ) → list.method ≡ Method.Any →
+        Differ old → Continue (candidates old) (candidates new) → Met list old m end → Met list new m end }
+    ensures first { (list : Listing) (old new : List Candidate) (m : Mode) (end : ℕ) → list.method ≡ Method.First → 0 < length list.names →
+        Differ old → Continue (candidates old) (candidates new) → Met list old m end →
+        (Met list new m end ↔ NoneLags list.number (candidates old) (candidates new) m end) }
+{}
+
+/// What is released does not fall on the same premises.
+pub fn released_stays()
+    ensures { (list : Listing) (old new : List Candidate) (m : Mode) (end : ℕ) (released : Option ℕ) → 0 < length list.names →
+        Differ old → Continue (candidates old) (candidates new) →
+        (list.method ≡ Method.First → NoneLags list.number (candidates old) (candidates new) m end) →
+        IsReleased list old m (Some end) → IsReleased list new m released → MatchOption released ⊥ (λ (later : ℕ). end ≤ later) }
+{}
+
 /// The list without names is met by nobody's report.
 pub fn met_without_names()
     ensures { (list : Listing) (m : Mode) (end : ℕ) → list.names ≡ [] → Met list [] m end }
@@ -54,4 +75,16 @@ pub fn counted_reach()
     ensures { (list : Listing) (sessions counted : List Candidate) (m : Mode) (end : ℕ) → IsListing list →
         Differ sessions → Met list sessions m end → Counted list sessions m end counted →
         (length counted ≡ list.number) × Differ counted × All (λ (c : Candidate). Contains (candidates sessions) c × (end ≤ position m c)) counted }
+{}
+
+/// Of different sessions there is exactly one list of those by which a list is met.
+pub fn one_counted()
+    ensures one { (list : Listing) (sessions a b : List Candidate) (m : Mode) (end : ℕ) → Counted list sessions m end a → Counted list sessions m end b → a ≡ b }
+    ensures some { (list : Listing) (sessions : List Candidate) (m : Mode) (end : ℕ) → Differ sessions → (counted : List Candidate) × Counted list sessions m end counted }
+{}
+
+/// A setting's word is that of no other, and is read back.
+pub fn one_setting()
+    ensures one { (text : List ℕ) (a b : Setting) → SaysSetting text a → SaysSetting text b → a ≡ b }
+    ensures read { (v : Setting) → SaysSetting (setting_word v) v }
 {}

@@ -5,7 +5,7 @@
 //! refuses any other at the first token with which no list goes on. `print_names` prints the one spelling
 //! of a list, which is read back as that list. `priority` finds the entry that a standby's name matches.
 //! `released` is the greatest position at which a list is met (`Met` in `specs/Quorum.antt`) by what the
-//! standbys have reported. Stands on `repl_token`, `repl_text` and `repl_lsn`.
+//! standbys have reported, and `put_counted` gives those by which it is. Stands on `repl_token`, `repl_text` and `repl_lsn`.
 //!
 //! ```text
 //! let list = parse_names(alloc, b"FIRST 1 (berlin, \"new york\")")?;
@@ -14,6 +14,7 @@
 //! ```
 #![tactic(auto)]
 
+mod counting;
 mod fault;
 mod grammar;
 mod laws;
@@ -27,10 +28,11 @@ mod quorum;
 mod setting;
 mod token;
 
+pub use counting::{are_different, put_counted};
 pub use fault::NamesFault;
 pub use laws::{
-    any_reached, counted_reach, met_below, met_forward, met_without_names, one_list,
-    printed_is_read, released_decides,
+    any_reached, counted_reach, met_below, met_forward, met_stays, met_without_names, one_counted,
+    one_list, one_setting, printed_is_read, released_decides, released_stays,
 };
 pub use list::{Method, NUMBER_LIMIT, NameList, SPELLING_LIMIT, StandbyList};
 pub use matching::priority;

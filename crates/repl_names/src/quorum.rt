@@ -34,14 +34,14 @@ pub struct Candidate {
 
 impl Candidate {
     /// Whether it is on the list and has told what it flushed.
-    fn counts(&self) -> bool
+    pub(crate) fn counts(&self) -> bool
         ensures { result ≡ counts self.now }
     {
         self.priority > 0 && self.flushed.0 > 0
     }
 
     /// The position that counts in this mode.
-    fn position(&self, mode: Mode) -> u64
+    pub(crate) fn position(&self, mode: Mode) -> u64
         ensures { result ≡ position mode self.now }
     {
         match mode {

@@ -1,7 +1,8 @@
 //! Commands of replication.
 use crate::miss::{Answer, Miss};
 use crate::words::{Call, debug, said};
-use repl_cmd::{ParameterName, SlotName, is_slot_name, parse_command, print_command};
+use repl_cmd::{ParameterName, SlotName, parse_command, print_command};
+use repl_text::is_slot_name;
 use std::alloc::Global;
 
 pub fn answer(alloc: Global, call: &Call) -> Answer {

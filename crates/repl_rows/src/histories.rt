@@ -3,7 +3,9 @@ use crate::miss::{Answer, Miss};
 use crate::segments::timeline;
 use crate::values::number;
 use crate::words::{Call, debug, joined, said};
-use repl_lsn::{History, Line, Lsn, Part, Parts, history_text, parse_history};
+use repl_lsn::{
+    History, Line, Lsn, Part, Parts, history_text, parse_history, parse_history_between,
+};
 use std::alloc::Global;
 
 pub fn answer(alloc: Global, call: &Call) -> Answer {
@@ -12,6 +14,9 @@ pub fn answer(alloc: Global, call: &Call) -> Answer {
     }
     if let Some([own, text]) = call.words("parts") {
         return parsed(alloc, own, text);
+    }
+    if let Some([own, least, most, text]) = call.words("within") {
+        return within(alloc, own, least, most, text);
     }
     if let Some([bytes]) = call.words("line") {
         return line(alloc, bytes);
@@ -33,6 +38,24 @@ fn parsed(alloc: Global, own: &[u8], text: &[u8]) -> Answer {
         Ok(history) => shown(alloc, &history),
         Err(fault) => debug(alloc, &fault),
     }
+}
+
+/// The same, of a log that goes from one position to another.
+fn within(alloc: Global, own: &[u8], least: &[u8], most: &[u8], text: &[u8]) -> Answer {
+    let (least, most) = (Lsn(number(least)?), Lsn(number(most)?));
+    match parse_history_between(alloc, timeline(own)?, text, least, most) {
+        Ok(history) => printed_parts(alloc, &history),
+        Err(fault) => debug(alloc, &fault),
+    }
+}
+
+/// The parents of a history, as they are printed.
+fn printed_parts(alloc: Global, history: &History) -> Answer {
+    let mut out = Vec::new(alloc);
+    for part in history.parents().as_slice() {
+        out.extend_from_slice(format!(in alloc; "{part};")?.as_bytes())?;
+    }
+    Ok(out)
 }
 
 fn line(alloc: Global, bytes: &Vec<u8>) -> Answer {

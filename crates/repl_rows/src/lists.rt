@@ -1,7 +1,7 @@
 //! Lists of synchronous standbys.
 use crate::miss::{Answer, Miss};
-use crate::words::{Call, debug};
-use repl_names::{StandbyList, parse_names, print_names, priority};
+use crate::words::{Call, debug, joined, said};
+use repl_names::{Setting, StandbyList, parse_names, print_names, priority};
 use std::alloc::Global;
 
 pub fn answer(alloc: Global, call: &Call) -> Answer {
@@ -17,7 +17,21 @@ pub fn answer(alloc: Global, call: &Call) -> Answer {
     if let Some([text, name]) = call.words("priority") {
         return priority_of(alloc, text, name);
     }
+    if let Some([text]) = call.words("setting") {
+        return setting(alloc, text);
+    }
     Err(Miss::Call)
+}
+
+/// The word of a setting that a text says, and what of the reports counts.
+fn setting(alloc: Global, text: &[u8]) -> Answer {
+    match Setting::from_word(text) {
+        Some(setting) => {
+            let mode = format!(in alloc; "{:?}", setting.mode())?;
+            joined(alloc, &[setting.word(), mode.as_bytes()])
+        }
+        None => said(alloc, "none"),
+    }
 }
 
 fn parsed(alloc: Global, text: &[u8]) -> Answer {

@@ -10,6 +10,7 @@
 #![tactic(auto)]
 
 mod commands;
+mod controls;
 mod copies;
 mod disks;
 mod histories;

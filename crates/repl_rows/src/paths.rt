@@ -17,6 +17,12 @@ pub fn answer(alloc: Global, call: &Call) -> Answer {
     if let Some([tli, words @ ..]) = call.words("end_of") {
         return end_of(alloc, tli, words);
     }
+    if let Some([tli, words @ ..]) = call.words("next_of") {
+        return next_of(alloc, tli, words);
+    }
+    if let Some([tli, words @ ..]) = call.words("up_to") {
+        return up_to(alloc, tli, words);
+    }
     if let Some(words) = call.words("relation") {
         return relation(alloc, words);
     }
@@ -35,6 +41,20 @@ fn end_of(alloc: Global, tli: &[u8], words: &[Vec<u8>]) -> Answer {
     let tli = timeline(tli)?;
     match history(alloc, words)?.end_of(tli) {
         Some(end) => debug(alloc, &end.0),
+        None => said(alloc, "none"),
+    }
+}
+
+fn next_of(alloc: Global, tli: &[u8], words: &[Vec<u8>]) -> Answer {
+    match history(alloc, words)?.next_of(timeline(tli)?) {
+        Some(next) => debug(alloc, &next.number()),
+        None => said(alloc, "none"),
+    }
+}
+
+fn up_to(alloc: Global, tli: &[u8], words: &[Vec<u8>]) -> Answer {
+    match history(alloc, words)?.up_to(alloc, timeline(tli)?)? {
+        Some(before) => shown(alloc, &before),
         None => said(alloc, "none"),
     }
 }

@@ -4,12 +4,15 @@ use crate::miss::{Answer, Miss};
 use crate::values::{number, pieces, short};
 use crate::words::{Call, debug, said};
 use repl_lsn::Lsn;
-use repl_names::{Candidate, Method, Mode, StandbyList, released};
+use repl_names::{Candidate, Method, Mode, StandbyList, are_different, put_counted, released};
 use std::alloc::Global;
 
 pub fn answer(alloc: Global, call: &Call) -> Answer {
     if let Some([text, mode, words @ ..]) = call.words("released") {
         return released_of(alloc, text, mode, words);
+    }
+    if let Some([text, mode, end, words @ ..]) = call.words("counted") {
+        return counted_of(alloc, text, mode, end, words);
     }
     if let Some([text]) = call.words("small_lists") {
         return small_lists(alloc, text);
@@ -21,6 +24,26 @@ fn released_of(alloc: Global, text: &[u8], mode: &[u8], words: &[Vec<u8>]) -> An
     let mode = mode_of(mode)?;
     let sessions = candidates(alloc, words)?;
     released_to(alloc, &list(alloc, text)?, &sessions, mode)
+}
+
+/// The numbers of those by which the list is met at a position.
+fn counted_of(alloc: Global, text: &[u8], mode: &[u8], end: &[u8], words: &[Vec<u8>]) -> Answer {
+    let (mode, end) = (mode_of(mode)?, Lsn(number(end)?));
+    let sessions = candidates(alloc, words)?;
+    if !are_different(&sessions) {
+        return said(alloc, "refused");
+    }
+    let mut counted = Vec::with_capacity(alloc, sessions.len())?;
+    put_counted(&list(alloc, text)?, &sessions, mode, end, &mut counted);
+    numbers(alloc, &counted)
+}
+
+fn numbers(alloc: Global, counted: &[Candidate]) -> Answer {
+    let mut out = Vec::new(alloc);
+    for session in counted {
+        out.extend_from_slice(format!(in alloc; "{};", session.session)?.as_bytes())?;
+    }
+    Ok(out)
 }
 
 fn candidates(alloc: Global, words: &[Vec<u8>]) -> Result<Vec<Candidate>, Miss> {

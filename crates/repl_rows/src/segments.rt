@@ -2,7 +2,10 @@
 use crate::miss::{Answer, Miss};
 use crate::values::{number, short};
 use crate::words::{Call, debug, said};
-use repl_lsn::{Lsn, SegSize, Tli, history_name, parse_seg_name, seg_name, seg_of, seg_start};
+use repl_lsn::{
+    Lsn, PlaceFault, SegNo, SegSize, Tli, history_name, parse_partial_name, parse_seg_name,
+    partial_name, seg_name, seg_of, seg_start,
+};
 use std::alloc::Global;
 
 pub fn answer(alloc: Global, call: &Call) -> Answer {
@@ -17,6 +20,12 @@ pub fn answer(alloc: Global, call: &Call) -> Answer {
     }
     if let Some([bytes, text]) = call.words("named") {
         return named(alloc, bytes, text);
+    }
+    if let Some([bytes, tli, at]) = call.words("partial") {
+        return partial(alloc, bytes, tli, at);
+    }
+    if let Some([bytes, text]) = call.words("named_partial") {
+        return placed(alloc, parse_partial_name(text, size(bytes)?));
     }
     if let Some([tli]) = call.words("history_name") {
         return name_of_history(alloc, tli);
@@ -35,6 +44,12 @@ fn segment_size(alloc: Global, bytes: &[u8]) -> Answer {
 fn name(alloc: Global, bytes: &[u8], tli: &[u8], at: &[u8]) -> Answer {
     let (size, at, tli) = (size(bytes)?, Lsn(number(at)?), timeline(tli)?);
     Ok(seg_name(alloc, tli, seg_of(at, size), size)?.into_bytes())
+}
+
+/// The same of a segment that is not whole.
+fn partial(alloc: Global, bytes: &[u8], tli: &[u8], at: &[u8]) -> Answer {
+    let (size, at, tli) = (size(bytes)?, Lsn(number(at)?), timeline(tli)?);
+    Ok(partial_name(alloc, tli, seg_of(at, size), size)?.into_bytes())
 }
 
 fn name_of_history(alloc: Global, tli: &[u8]) -> Answer {
@@ -61,7 +76,12 @@ fn segment(alloc: Global, bytes: &[u8], at: &[u8]) -> Answer {
 
 /// The timeline and the number of the segment that a text names.
 fn named(alloc: Global, bytes: &[u8], text: &[u8]) -> Answer {
-    let line = match parse_seg_name(text, size(bytes)?) {
+    placed(alloc, parse_seg_name(text, size(bytes)?))
+}
+
+/// The timeline and the number of a segment, or the place where the name of one goes wrong.
+fn placed(alloc: Global, named: Result<(Tli, SegNo), PlaceFault>) -> Answer {
+    let line = match named {
         Ok((tli, seg)) => format!(in alloc; "{} 0x{:x}", tli.number(), seg.0)?,
         Err(fault) => format!(in alloc; "place {}", fault.place)?,
     };

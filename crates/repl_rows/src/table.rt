@@ -2,8 +2,8 @@ use crate::miss::{Answer, Miss};
 use crate::values::{Names, text, words_of};
 use crate::words::{Call, is};
 use crate::{
-    commands, copies, disks, histories, lists, messages, pages, paths, positions, quorum, reader,
-    records, segments, streams, texts, tokens, tools, walks, wire,
+    commands, controls, copies, disks, histories, lists, messages, pages, paths, positions, quorum,
+    reader, records, segments, streams, texts, tokens, tools, walks, wire,
 };
 use repl_disk::MemoryDisk;
 use std::alloc::Global;
@@ -184,6 +184,9 @@ fn library(alloc: Global, subject: &str, call: &Call) -> Answer {
     }
     if is(subject, "walks") {
         return walks::answer(alloc, call);
+    }
+    if is(subject, "controls") {
+        return controls::answer(alloc, call);
     }
     if is(subject, "tools") {
         return tools::answer(alloc, call);

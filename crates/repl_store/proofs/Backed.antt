@@ -7,7 +7,6 @@ use Rattle.std.proofs.Common.{
   ◌*◌,
   ◌/◌,
   ◌%◌,
-  ◌^◌,
   ◌<◌,
   ◌≤◌,
   min,
@@ -16,14 +15,12 @@ use Rattle.std.proofs.Common.{
   eqb,
   eq-eqb,
   List,
-  [],
   ◌++◌,
   length,
   take,
   Option,
   Some,
   append_assoc,
-  refl,
   sym,
   ap,
   ◌∙◌,
@@ -32,7 +29,7 @@ use Rattle.std.proofs.Common.{
   arith,
   length-append,
 }
-use Rattle.std.proofs.lemmas.List.{length-take, take-append-le, take-take}
+use Rattle.std.proofs.lemmas.List.{take-append-le, take-take}
 use Rattle.std.proofs.lemmas.Bool.{cases_lt}
 use Rattle.std.proofs.lemmas.Nat.{mod-mul-add}
 use Rattle.repl_control.specs.declared.control.Control.{Control}
@@ -40,7 +37,7 @@ use Rattle.repl_disk.specs.Crash.{NoneNew}
 use Rattle.repl_disk.specs.Folder.{Folder, Stayed}
 use Rattle.repl_disk.specs.State.{DiskState}
 use Rattle.repl_lsn.specs.History.{Path}
-use Rattle.repl_store.specs.Backing.{Backs, Keeps, State, appended, log}
+use Rattle.repl_store.specs.Backing.{Backs, State, appended, log}
 use Rattle.repl_store.specs.Durable.{Carries, segment_file}
 use Rattle.repl_store.specs.Head.{Head, IsAt, IsHead}
 use Rattle.repl_store.specs.Tail.{IsReady, KeepsEnds, PutsBack}

@@ -1,3 +1,4 @@
+pub mod Places
 pub mod Names
 pub mod Carrying
 pub mod Standing
@@ -6,3 +7,8 @@ pub mod Turns
 pub mod Chaining
 pub mod Renewing
 pub mod Pieces
+pub mod Reading
+pub mod Texts
+pub mod Asking
+pub mod Hearing
+pub mod Mounting

@@ -2,13 +2,10 @@
 use Rattle.std.proofs.Common.{
   ◌≡◌,
   ◌≢◌,
-  ◌⊎◌,
   ℕ,
   ◌+◌,
   ◌-◌,
-  ◌/◌,
   ◌^◌,
-  ◌<◌,
   ◌≤◌,
   Bool,
   true,
@@ -17,11 +14,9 @@ use Rattle.std.proofs.Common.{
   [],
   ◌++◌,
   length,
-  take,
   Option,
   Some,
   None,
-  Result,
   Ok,
   Err,
   refl,
@@ -48,20 +43,20 @@ use Rattle.repl_disk.specs.Crash.{LeavesOnly}
 use Rattle.repl_disk.specs.Folder.{Became, Folder, IfTold, ToldFiles, put}
 use Rattle.std.specs.Option.{option_map}
 use Rattle.repl_disk.specs.Moments.{weakened}
-use Rattle.repl_disk.specs.Replacing.{IsAfter, IsAside, IsBeforeOrAfter, IsHalfAside, IsUntouched, replaced}
+use Rattle.repl_disk.specs.Replacing.{IsAfter, IsBeforeOrAfter, IsHalfAside, IsUntouched, replaced}
 use Rattle.repl_disk.specs.Runs.{told_so}
 use Rattle.repl_disk.specs.State.{DiskState}
-use Rattle.repl_disk.specs.Steps.{put_at, put_other}
+use Rattle.repl_disk.specs.Steps.{put_other}
+use Rattle.repl_lsn.specs.Between.{AreBetween}
 use Rattle.repl_lsn.specs.History.{Path}
-use Rattle.repl_lsn.specs.Segment.{Fits, history_name}
-use Rattle.repl_lsn.specs.declared.history.Part.{Part}
+use Rattle.repl_lsn.specs.Segment.{history_name}
 use Rattle.repl_store.specs.Backing.{Backs, Comes, Either, Keeps, LeavesOne, State, fault_of, flushed, flushed_control, log}
-use Rattle.repl_store.specs.Durable.{AreBetween, Carries, Durable, StandsFor, control_aside, control_name, segment_file}
+use Rattle.repl_store.specs.Durable.{Carries, Durable, StandsFor, control_aside, control_name, segment_file}
 use Rattle.repl_store.specs.Head.{Head, IsHead, Stands}
 use Rattle.repl_store.specs.declared.fault.StoreFault.{StoreFault}
 use Rattle.repl_store.proofs.Backed.{head_carries, log_end, own_carries}
 use Rattle.repl_store.proofs.Carrying.{carries_elsewhere}
-use Rattle.repl_store.proofs.Names.{HasNames, differ, file_differs, history_differs}
+use Rattle.repl_store.proofs.Names.{HasNames, file_differs, history_differs}
 use Rattle.repl_store.proofs.Standing.{OnlyAt, SameHistories, names_of_head, stands_by, stands_elsewhere, stands_renewed}
 use Rattle.repl_store.proofs.Turns.{done_comes, never_missing, refused_comes}
 

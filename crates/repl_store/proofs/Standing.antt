@@ -25,9 +25,11 @@ use Rattle.std.proofs.Common.{
 use Rattle.repl_control.specs.Control.{IsControl, FitsFields, control_bytes}
 use Rattle.repl_control.specs.declared.control.Control.{Control}
 use Rattle.repl_disk.specs.Folder.{Folder}
+use Rattle.repl_lsn.specs.Between.{AreBetween}
 use Rattle.repl_lsn.specs.History.{Path, InOrder, SaysHistory}
 use Rattle.repl_lsn.specs.Segment.{Fits, IsSegSize, history_name}
-use Rattle.repl_store.specs.Durable.{AreBetween, Carries, Durable, HasPath, IsKnown, StandsFor, control_name, segment_file}
+use Rattle.repl_lsn.specs.Between.{AreBetween}
+use Rattle.repl_store.specs.Durable.{Carries, Durable, HasPath, IsKnown, StandsFor, control_name, segment_file}
 use Rattle.repl_store.specs.Head.{Head, IsHead}
 use Rattle.repl_store.proofs.Carrying.{carries_elsewhere}
 use Rattle.repl_store.proofs.Names.{HasNames, differ, file_differs, history_differs, length_file}

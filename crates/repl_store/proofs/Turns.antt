@@ -2,7 +2,6 @@
 use Rattle.std.proofs.Common.{
   ◌≡◌,
   ◌≢◌,
-  ◌⊎◌,
   ℕ,
   ◌+◌,
   ◌-◌,
@@ -13,14 +12,10 @@ use Rattle.std.proofs.Common.{
   ◌<◌,
   ◌≤◌,
   List,
-  [],
-  ◌++◌,
   length,
   take,
   Option,
-  Some,
   None,
-  Result,
   Ok,
   Err,
   append_assoc,
@@ -29,31 +24,25 @@ use Rattle.std.proofs.Common.{
   ap,
   ◌∙◌,
   subst,
-  inl,
-  inr,
-  ⊎_elim,
   arith,
   length-append,
 }
 use Rattle.std.proofs.lemmas.List.{length-take, take-append-le, take_all}
-use Rattle.std.proofs.lemmas.Nat.{div-add-mod'}
 use Rattle.repl_counts.specs.Counts.{RoseExactly}
 use Rattle.repl_disk.specs.declared.disk.DiskError.{DiskError}
 use Rattle.repl_disk.specs.declared.disk.DiskError.TheVariants as error
 use Rattle.repl_disk.specs.Answers.{Does, Leaves, NeverMissing, OnlyWhereThere, is_fault}
-use Rattle.repl_disk.specs.Crash.{Elapses, LeavesOnly, NoneNew, Syncs, Tears}
-use Rattle.repl_disk.specs.Folder.{Folder, IfTold, Stayed, content, put, written}
+use Rattle.repl_disk.specs.Crash.{Elapses, NoneNew, Syncs, Tears}
+use Rattle.repl_disk.specs.Folder.{Folder, IfTold, Stayed, content, written}
 use Rattle.repl_disk.specs.Moments.{started}
 use Rattle.repl_disk.specs.Runs.{Run, ran, ran_sync, told_so}
 use Rattle.repl_disk.specs.State.{DiskState}
 use Rattle.repl_disk.specs.Steps.{keeps_sync}
-use Rattle.repl_lsn.specs.Segment.{Fits}
 use Rattle.repl_store.specs.Backing.{Backs, Before, Comes, Keeps, LeavesOne, State, appended, fault_of, log}
 use Rattle.repl_store.specs.Durable.{Carries, Durable, StandsFor, segment_file}
 use Rattle.repl_store.specs.Head.{Head, IsHead}
 use Rattle.repl_store.specs.Tail.{Grows, SyncsAll, end_file}
 use Rattle.repl_store.specs.declared.fault.StoreFault.{StoreFault}
-use Rattle.repl_store.specs.declared.fault.StoreFault.TheVariants as fault
 use Rattle.repl_store.proofs.Backed.{backs_still, ends_are, head_carries, log_end, own_carries, with_ends}
 use Rattle.repl_store.proofs.Carrying.{carries_appended, carries_front, carries_synced, carries_torn}
 use Rattle.repl_store.proofs.Names.{HasNames, fits_at, segment_of_later}

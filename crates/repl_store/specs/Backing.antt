@@ -1,18 +1,19 @@
 -- How a store and the files of its disk hang together, and what its calls make of both.
-use Rattle.std.specs.Prelude.{◌≡◌, ℕ, ◌+◌, ◌-◌, ◌≤◌, ◌⊎◌, ◌↔◌, Bool, true, max, take, drop, length, List, [], ◌∷◌, ◌++◌, Some, Result, Ok, Err, OnOk}
+use Rattle.std.specs.Prelude.{◌≡◌, ℕ, ◌+◌, ◌-◌, ◌≤◌, ◌⊎◌, ◌↔◌, Bool, true, max, take, drop, length, List, [], ◌∷◌, ◌++◌, Some, None, Result, Ok, Err, OnOk, IfErr}
 use Rattle.repl_control.specs.Control.{IsControl}
 use Rattle.repl_control.specs.declared.control.Control.{Control}
 use Rattle.repl_control.specs.declared.control.Role.{Role}
-use Rattle.repl_counts.specs.Counts.{Rose, Stood}
-use Rattle.repl_disk.specs.Crash.{LeavesOnly}
-use Rattle.repl_disk.specs.Folder.{Folder}
+use Rattle.repl_counts.specs.Counts.{DidNotFall, Rose, Stood}
+use Rattle.repl_disk.specs.Crash.{LeavesOnly, NoneNew}
+use Rattle.repl_disk.specs.Folder.{Folder, Stayed}
 use Rattle.repl_disk.specs.State.{DiskState}
 use Rattle.repl_disk.specs.declared.disk.DiskError.{DiskError}
 use Rattle.repl_disk.specs.declared.disk.DiskError.TheVariants as error
 use Rattle.repl_lsn.specs.History.{Path, canonical, last_switch}
 use Rattle.repl_lsn.specs.Path.{Step, steps}
 use Rattle.repl_lsn.specs.declared.history.TheConstants.{HISTORY_LIMIT}
-use Rattle.repl_store.specs.Durable.{AreBetween, Carries, Durable, StandsFor}
+use Rattle.repl_lsn.specs.Between.{AreBetween}
+use Rattle.repl_store.specs.Durable.{Carries, Durable, StandsFor}
 use Rattle.repl_store.specs.Head.{Head}
 use Rattle.repl_store.specs.declared.fault.StoreFault.{StoreFault}
 use Rattle.repl_store.specs.declared.fault.StoreFault.TheVariants as fault
@@ -58,16 +59,36 @@ pub record Comes {A : Type 0} (result : Result A StoreFault) (old new : DiskStat
   pub no_memory : result ≡ Err fault.Memory → (s : State) × some s × Backs new head s
   pub failed : result ≡ Err fault.DiskFault → Rose old.faults new.faults
 
+-- what a store answers that does not do what it is asked for
+abbrev pub IsAnswer : StoreFault → Type 0
+IsAnswer f = (f ≡ fault.Broken) ⊎ (f ≡ fault.DiskFault) ⊎ (f ≡ fault.Memory)
+
 -- Each failure of the disk is told, and none is told without one: over a disk that lost a file it may be a lack.
 pub record IsCaused {A : Type 0} (result : Result A StoreFault) (old new : DiskState) : Type 0 where
   pub ok : OnOk result (Stood old.faults new.faults × Stood old.wants new.wants)
   pub failed : result ≡ Err fault.DiskFault → Rose old.faults new.faults ⊎ Rose old.lacks new.lacks
   pub no_memory : result ≡ Err fault.Memory → Stood old.faults new.faults
+  pub answers : IfErr result IsAnswer
+
+-- calls of the disk that only read: the files are as they were, and a crash leaves nothing new
+pub record OnlyReads (old new : DiskState) : Type 0 where
+  pub stayed : Stayed old.files new.files
+  pub none_new : NoneNew old.may_leave new.may_leave
+  pub moments : LeavesOnly old new old.may_leave
+
+-- a call that only reads, and fails only where the disk counted a fault, or, where it does not tell its files, a lack
+pub record Asks {A : Type 0} (result : Result A StoreFault) (old new : DiskState) : Type 0 where
+  pub only : OnlyReads old new
+  pub ok : OnOk result (Stood old.faults new.faults × Stood old.wants new.wants)
+  pub failed : result ≡ Err fault.DiskFault → Rose old.faults new.faults ⊎ ((old.files ≡ None) × Rose old.lacks new.lacks)
+  pub others : IfErr result (λ e. (e ≡ fault.DiskFault) ⊎ Stood old.faults new.faults)
+  pub lacks : DidNotFall old.lacks new.lacks
 
 -- a read of the log into a room, which leaves the store and its files as they were
 pub record Reads {A : Type 0} (result : Result A StoreFault) (old new : DiskState) (head : Head) (s : State) (at : ℕ)
     (before after : List ℕ) : Type 0 where
   pub moments : LeavesOnly old new old.may_leave
+  pub none_new : NoneNew old.may_leave new.may_leave
   pub backs : Backs new head s
   pub read : OnOk result (after ≡ take (length before) (drop (at - head.control.floor) (log s)))
   pub failed : result ≡ Err fault.DiskFault → Rose old.faults new.faults

@@ -1,14 +1,14 @@
 -- What the files of a folder stand for: the control, the history of its timeline, and the segments from its floor to its
 -- flushed end (PostgreSQL 17 manual, section "WAL Internals"). Nothing else that stands in them counts, but for which
 -- histories there are.
-use Rattle.std.specs.Prelude.{◌≡◌, ◌≢◌, ℕ, ◌+◌, ◌-◌, ◌*◌, ◌/◌, ◌%◌, ◌^◌, ◌<◌, ◌≤◌, ◌⊎◌, List, [], length, get_or, Some, IsSome, All, codes}
+use Rattle.std.specs.Prelude.{◌≡◌, ◌≢◌, ℕ, ◌+◌, ◌-◌, ◌*◌, ◌/◌, ◌%◌, ◌^◌, ◌<◌, ◌≤◌, ◌⊎◌, List, [], length, get_or, Some, IsSome, codes}
 use Rattle.repl_control.specs.Control.{IsControl, FitsFields, control_bytes}
 use Rattle.repl_control.specs.declared.control.Control.{Control}
 use Rattle.repl_disk.specs.Folder.{Folder, content}
+use Rattle.repl_lsn.specs.Between.{AreBetween}
 use Rattle.repl_lsn.specs.History.{Path, SaysHistory}
 use Rattle.repl_lsn.specs.Path.{timeline_at}
 use Rattle.repl_lsn.specs.Segment.{segment_name, history_name}
-use Rattle.repl_lsn.specs.declared.history.Part.{Part}
 
 -- ---- names
 
@@ -40,10 +40,6 @@ pub record Carries (size : ℕ) (folder : Folder) (path : Path) (floor : ℕ) (b
   pub same : (i : ℕ) → i < length bytes → get_or (file_at size folder path (floor + i)) ((floor + i) % size) 0 ≡ get_or bytes i 0
 
 -- ---- the path
-
--- each was left at the log's beginning or behind it, and not behind this position
-abbrev pub AreBetween : ℕ → ℕ → List Part → Type 0
-AreBetween least most parts = All (λ part. (least ≤ part.switch) × (part.switch ≤ most)) parts
 
 -- The path of a control: without parents on timeline 1, and else that of the timeline's history. Timelines were left
 -- where whole records ended.

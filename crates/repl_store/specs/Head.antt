@@ -4,7 +4,8 @@ use Rattle.repl_control.specs.Control.{IsControl, FitsFields}
 use Rattle.repl_control.specs.declared.control.Control.{Control}
 use Rattle.repl_lsn.specs.History.{Path, IsPath}
 use Rattle.repl_lsn.specs.Segment.{IsSegSize}
-use Rattle.repl_store.specs.Durable.{AreBetween, segment_file}
+use Rattle.repl_lsn.specs.Between.{AreBetween}
+use Rattle.repl_store.specs.Durable.{Durable, segment_file}
 
 pub record Head : Type 0 where
   -- how many bytes a segment has
@@ -53,3 +54,10 @@ pub record Stands (head : Head) (size : ℕ) (control : Control) (path : Path) (
 -- the same store, but that it may have written more or less
 abbrev pub IsAt : Head → Head → ℕ → Type 0
 IsAt old new written = Stands new old.size old.control old.path written
+
+-- the store that was just mounted: nothing is written behind the flushed end
+pub record IsMounted (head : Head) (size : ℕ) (d : Durable) : Type 0 where
+  pub same_size : head.size ≡ size
+  pub same_control : head.control ≡ d.control
+  pub same_path : head.path ≡ d.path
+  pub flushed : (head.written ≡ d.control.flushed) × (head.synced ≡ d.control.flushed)

@@ -1,5 +1,6 @@
 //! Making certain what was written, and the role of a store.
 ghost use Rattle.std.specs.Prelude.{◌≡◌, ◌≢◌, ◌↔◌, true, false, Err, OnOk, IfErr};
+ghost use Rattle.repl_counts.specs.Counts.{Rose};
 ghost use Rattle.repl_store.specs.Backing.{Backs, Before, Breaks, CanFlush, Comes, Either, IsCaused, State, flushed, flushed_control};
 ghost use Rattle.repl_store.specs.Head.{IsAt, Stands};
 ghost use Rattle.repl_store.specs.Tail.{SyncsAll};
@@ -25,6 +26,8 @@ impl<D: Disk> Store<D> {
         ensures ok { OnOk result (Stands self.new.head self.old.head.size (flushed_control self.old.head.control self.old.head.control.role self.old.head.written whole prev) self.old.head.path self.old.head.written) }
         ensures stays { IfErr result (λ e. IsAt self.old.head self.new.head self.old.head.written) }
         ensures caused { IsCaused result (D.state self.old.disk) (D.state self.new.disk) }
+        // Memory is the disk's own.
+        ensures wants { result ≡ Err StoreFault.Memory → Rose (D.state self.old.disk).wants (D.state self.new.disk).wants }
         ensures keeps { D.keeps self.old.disk self.new.disk }
         ensures comes { (s : State) → Backs (D.state self.old.disk) self.old.head s →
             Comes result (D.state self.old.disk) (D.state self.new.disk) self.new.head
@@ -43,6 +46,8 @@ impl<D: Disk> Store<D> {
         ensures ok { OnOk result (Stands self.new.head self.old.head.size (flushed_control self.old.head.control role self.old.head.written whole prev) self.old.head.path self.old.head.written) }
         ensures stays { IfErr result (λ e. IsAt self.old.head self.new.head self.old.head.written) }
         ensures caused { IsCaused result (D.state self.old.disk) (D.state self.new.disk) }
+        // Memory is the disk's own.
+        ensures wants { result ≡ Err StoreFault.Memory → Rose (D.state self.old.disk).wants (D.state self.new.disk).wants }
         ensures keeps { D.keeps self.old.disk self.new.disk }
         ensures comes { (s : State) → Backs (D.state self.old.disk) self.old.head s →
             Comes result (D.state self.old.disk) (D.state self.new.disk) self.new.head
@@ -69,6 +74,7 @@ fn make_certain<D: Disk>(
     ensures stays { IfErr result (λ e. IsAt head.old head.new head.old.written) }
     ensures caused { IsCaused result (D.state disk.old) (D.state disk.new) }
     ensures unbroken { result ≢ Err StoreFault.Broken }
+    ensures wants { result ≡ Err StoreFault.Memory → Rose (D.state disk.old).wants (D.state disk.new).wants }
     ensures keeps { D.keeps disk.old disk.new }
     ensures comes { (s : State) → Backs (D.state disk.old) head.old s →
         Comes result (D.state disk.old) (D.state disk.new) head.new
@@ -97,6 +103,7 @@ fn renew<D: Disk>(disk: &mut D, head: &mut Head, control: Control) -> Result<(),
     ensures stays { IfErr result (λ e. head.new ≡ head.old) }
     ensures caused { IsCaused result (D.state disk.old) (D.state disk.new) }
     ensures unbroken { result ≢ Err StoreFault.Broken }
+    ensures wants { result ≡ Err StoreFault.Memory → Rose (D.state disk.old).wants (D.state disk.new).wants }
     ensures keeps { D.keeps disk.old disk.new }
     ensures comes { (s : State) → Backs (D.state disk.old) head.old s →
         Comes result (D.state disk.old) (D.state disk.new) head.new
@@ -118,6 +125,7 @@ pub(crate) fn sync_tail<D: Disk>(disk: &mut D, head: &mut Head) -> Result<(), St
     ensures stays { IfErr result (λ e. head.new ≡ head.old) }
     ensures caused { IsCaused result (D.state disk.old) (D.state disk.new) }
     ensures unbroken { result ≢ Err StoreFault.Broken }
+    ensures wants { result ≡ Err StoreFault.Memory → Rose (D.state disk.old).wants (D.state disk.new).wants }
     ensures keeps { D.keeps disk.old disk.new }
     ensures comes { (s : State) → Backs (D.state disk.old) head.old s →
         Comes result (D.state disk.old) (D.state disk.new) head.new (Before s) s (λ t. t ≡ s) }

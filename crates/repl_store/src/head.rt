@@ -34,13 +34,19 @@ impl Model for Head {
 }
 
 impl Head {
+    /// Where the position stands in the file of its segment.
+    pub(crate) fn place_in_segment(&self, at: Lsn) -> u64
+        ensures { result ≡ at % self.now.size }
+    {
+        at.0 % u64::from(self.size.bytes())
+    }
+
     /// How many bytes the segment of this position has from it on.
     pub(crate) fn left_in_segment(&self, at: Lsn) -> usize
         ensures value { result + at % self.now.size ≡ self.now.size }
         ensures some { 0 < result }
     {
-        let size = u64::from(self.size.bytes());
-        (size - at.0 % size) as usize
+        (u64::from(self.size.bytes()) - self.place_in_segment(at)) as usize
     }
 
     /// Forgets the bytes behind this position.

@@ -1,14 +1,16 @@
 //! Which timelines a store has heard of.
-ghost use Rattle.std.specs.Prelude.{◌≡◌, ◌↔◌, true, Err, IfOk};
+ghost use Rattle.std.specs.Prelude.{◌≡◌, ◌↔◌, ◌∷◌, [], map, string_bytes, true, Err, IfOk, IfErr};
 ghost use Rattle.repl_disk.specs.Folder.{IfTold};
-ghost use Rattle.repl_store.specs.Backing.{Backs, Before, Breaks, Comes, IsCaused, State};
+ghost use Rattle.repl_store.specs.Backing.{Asks, Backs, Before, Breaks, Comes, IsCaused, State};
 ghost use Rattle.repl_store.specs.Durable.{IsKnown};
+ghost use Rattle.repl_store.specs.Refusal.{IsOfDisk};
+ghost use Rattle.repl_store.specs.Numbers.{IsGreatest};
 ghost use Rattle.repl_store.specs.declared.fault.StoreFault.TheVariants as StoreFault;
 
-use crate::fault::StoreFault;
+use crate::fault::{StoreFault, fault_of};
 use crate::store::Store;
 use repl_disk::Disk;
-use repl_lsn::Tli;
+use repl_lsn::{Tli, parse_history_name};
 
 impl<D: Disk> Store<D> {
     /// The greatest number of a timeline on the path or among the histories that are there. It lists the names of the
@@ -25,6 +27,44 @@ impl<D: Disk> Store<D> {
         ensures comes { (s : State) → Backs (D.state self.old.disk) self.old.head s →
             Comes result (D.state self.old.disk) (D.state self.new.disk) self.new.head (Before s) s (λ t. t ≡ s) }
     {
-        unimplemented
+        if self.broken {
+            return Err(StoreFault::Broken);
+        }
+        let listed = listed(&mut self.disk, self.head.control.tli);
+        self.remember(listed)
+    }
+}
+
+/// The greatest number of this timeline and of those whose history is on the disk.
+fn listed<D: Disk>(disk: &mut D, own: Tli) -> Result<Tli, StoreFault>
+    ensures known { IfOk result (λ known. IfTold (D.state disk.old).files (λ folder. IsKnown folder own known)) }
+    ensures refused { IfErr result IsOfDisk }
+    ensures asks { Asks result (D.state disk.old) (D.state disk.new) }
+    ensures keeps { D.keeps disk.old disk.new }
+{
+    match disk.names() {
+        Ok(names) => Ok(greatest(&names, own)),
+        Err(error) => Err(fault_of(error)),
+    }
+}
+
+/// The greatest number of this timeline and of those whose history has one of the names.
+fn greatest(names: &[String], own: Tli) -> Tli
+    ensures { IsGreatest own (map string_bytes names.now) result }
+{
+    let mut known = own;
+    for name in names {
+        known = greater(name.as_bytes(), known);
+    }
+    known
+}
+
+/// The number of the timeline whose history has this name, where it is greater.
+fn greater(name: &[u8], known: Tli) -> Tli
+    ensures { IsGreatest known (name.now ∷ []) result }
+{
+    match parse_history_name(name) {
+        Ok(tli) if known.number() < tli.number() => tli,
+        _ => known,
     }
 }

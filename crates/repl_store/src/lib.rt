@@ -18,6 +18,7 @@
 mod control;
 mod create;
 mod fault;
+mod files;
 mod flush;
 mod head;
 mod known;

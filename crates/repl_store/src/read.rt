@@ -1,5 +1,5 @@
 //! Reading the log along the path.
-ghost use Rattle.std.specs.Prelude.{◌≡◌, ◌≢◌, ◌≤◌, ◌+◌, ◌-◌, ◌%◌, ◌↔◌, length, take, drop, true, Err, OnOk};
+ghost use Rattle.std.specs.Prelude.{◌≡◌, ◌≢◌, ◌<◌, ◌≤◌, ◌+◌, ◌-◌, ◌%◌, ◌↔◌, length, take, drop, true, Err, OnOk};
 ghost use Rattle.repl_store.specs.Backing.{Backs, Before, Breaks, Comes, IsCaused, Reads, State, log};
 ghost use Rattle.repl_store.specs.declared.fault.StoreFault.TheVariants as StoreFault;
 
@@ -54,12 +54,25 @@ fn read_range<D: Disk>(
 {
     let mut filled = 0;
     while filled < room.len() {
-        let place = Lsn(at.0 + filled as u64);
-        let end = room.len().min(filled + head.left_in_segment(place));
+        let (place, end) = next_piece(head, at, filled, room.len());
         read_piece(alloc, disk, head, place, &mut room[filled..end])?;
         filled = end;
     }
     Ok(())
+}
+
+/// Where the piece that stands in the next file begins in the log, and where it ends in a room of this size.
+fn next_piece(head: &Head, at: Lsn, filled: usize, size: usize) -> (Lsn, usize)
+    requires end { at + size ≤ head.now.written }
+    requires left { filled < size }
+    ensures begin { result.0 ≡ at + filled }
+    ensures end { (filled < result.1) × (result.1 ≤ size) }
+    ensures inside { (at + filled) % head.now.size + (result.1 - filled) ≤ head.now.size }
+{
+    let segment = u64::from(head.size.bytes());
+    let place = Lsn(at.0 + filled as u64);
+    let left = (segment - place.0 % segment) as usize;
+    (place, filled + left.min(size - filled))
 }
 
 /// Fills the room with bytes of the log from this position on, which stand in one file.
@@ -72,6 +85,7 @@ fn read_piece<D: Disk>(
 ) -> Result<(), StoreFault>
     requires floor { head.now.control.floor ≤ at }
     requires end { at + length room.old ≤ head.now.written }
+    requires some { 0 < length room.old }
     requires inside { at % head.now.size + length room.old ≤ head.now.size }
     ensures size { length room.new ≡ length room.old }
     ensures caused { IsCaused result (D.state disk.old) (D.state disk.new) }
@@ -80,7 +94,7 @@ fn read_piece<D: Disk>(
     ensures reads { (s : State) → Backs (D.state disk.old) head.now s → Reads result (D.state disk.old) (D.state disk.new) head.now s at room.old room.new }
 {
     let name = segment_file(alloc, &head.history, seg_of(at, head.size), head.size)?;
-    let place = at.0 % u64::from(head.size.bytes());
+    let place = head.place_in_segment(at);
     match disk.read_at(&name, place, room) {
         Ok(count) if count == room.len() => Ok(()),
         Ok(_) => Err(StoreFault::DiskFault),

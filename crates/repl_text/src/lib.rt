@@ -1,7 +1,8 @@
 //! Text fields of the protocol: bytes without a zero byte, since a zero byte ends a string on the wire.
 //!
 //! PostgreSQL's names, values and commands are strings in no stated encoding, so a `Text` need not be
-//! UTF-8. Contracts see a `Text` as the list of its bytes. Stands on std alone.
+//! UTF-8. Contracts see a `Text` as the list of its bytes. Beside it stands the rule for names of replication slots.
+//! Stands on std alone.
 //!
 //! ```text
 //! let name = Text::literal(alloc, "application_name")?;
@@ -10,6 +11,8 @@
 //! ```
 #![tactic(auto)]
 
+mod slot_name;
 mod text;
 
+pub use slot_name::{SLOT_NAME_LIMIT, is_slot_name};
 pub use text::{Text, is_text};

@@ -5,14 +5,14 @@ use Rattle.repl_lsn.specs.History.{SaysHistory}
 use Rattle.repl_lsn.proofs.Reading.{read_only, refused_broken, one_reading}
 use Rattle.repl_lsn.proofs.history_lines.parse_history.Goals as goal
 
-pub returns-in_err-parents-clause-only : goal.returns-in_err-parents-clause-only
-returns-in_err-parents-clause-only c =
+pub returns-in_err-said-clause-only : goal.returns-in_err-said-clause-only
+returns-in_err-said-clause-only c =
     λ path same read.
-    let f = c.in_err-parents.field-0.0 in
+    let f = c.in_err-said.field-0.0 in
     let memory : f ≡ HistoryFault.Memory =
     ⊎_elim (λ e. e)
     (λ b. read_only c.args.own c.args.text.now f path same read (refused_broken c.args.own c.args.text.now f b))
-    c.in_err-parents.ensures.refused in
+    c.in_err-said.ensures.refused in
     let e : c.from_residual.result ≡ Err HistoryFault.Memory = search rules in
     inr e
 

@@ -1,5 +1,5 @@
 -- A sync, and then the control; or nothing, where all is certain already.
-use Rattle.std.proofs.Common.{rules, ◌≡◌, ◌∙◌, ◌⊎◌, eqb, eqb-true, Err, refl, sym, ap, inl, inr, subst}
+use Rattle.std.proofs.Common.{rules, ◌≡◌, ◌∙◌, eqb, eqb-true, Err, refl, sym, ap, inl, subst}
 use denote.Enum.Bare.{sameb, same_true}
 use Rattle.repl_control.specs.contracts.control.Role.{the_type}
 use Rattle.repl_store.specs.Backing.{Backs, Before, Either, State, flushed}

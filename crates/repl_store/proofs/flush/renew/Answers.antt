@@ -1,5 +1,5 @@
 -- A new control, or the old one.
-use Rattle.std.proofs.Common.{◌≡◌, Err, refl, sym, ◌∙◌, ap, subst}
+use Rattle.std.proofs.Common.{Err, refl, sym, ◌∙◌, ap, subst}
 use Rattle.repl_control.specs.Control.{IsControl}
 use Rattle.repl_store.specs.Head.{Head, IsHead}
 use Rattle.repl_store.proofs.Renewing.{renew_ok, renew_refused}

@@ -1,5 +1,5 @@
 -- A sync of the file that has bytes which are not certain.
-use Rattle.std.proofs.Common.{rules, ◌≡◌, ◌/◌, ◌<◌, Some, refl, sym, ◌∙◌, ap, subst}
+use Rattle.std.proofs.Common.{◌≡◌, ◌/◌, sym, ◌∙◌, ap, subst}
 use Rattle.std.specs.Option.{option_map}
 use Rattle.std.specs.String.{string_bytes}
 use Rattle.repl_store.specs.Durable.{segment_file}

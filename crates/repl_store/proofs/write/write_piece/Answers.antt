@@ -1,6 +1,6 @@
 -- The three parts of a piece, one after the other.
-use Rattle.std.proofs.Common.{rules, ◌≡◌, ℕ, ◌+◌, ◌∙◌, Err, Result, refl, sym, subst}
-use Rattle.repl_store.specs.Backing.{Before, LeavesOne, State, appended}
+use Rattle.std.proofs.Common.{rules, ◌≡◌, ℕ, Err, refl, sym, subst}
+use Rattle.repl_store.specs.Backing.{Before, LeavesOne, appended}
 use Rattle.repl_store.specs.declared.fault.StoreFault.{StoreFault}
 use Rattle.repl_store.specs.declared.fault.StoreFault.TheVariants as fault
 use Rattle.repl_store.proofs.Backed.{backs_kept}

@@ -1,5 +1,5 @@
 -- Piece by piece.
-use Rattle.std.proofs.Common.{rules, ◌≡◌, ◌≤◌, ◌+◌, ◌-◌, ℕ, List, length, take, drop, Err, arith, refl, sym, ◌∙◌, subst, length-drop}
+use Rattle.std.proofs.Common.{rules, ◌≡◌, ◌≤◌, ◌+◌, ◌-◌, ℕ, List, length, take, drop, Err, arith, refl, ◌∙◌, subst, length-drop}
 use Rattle.std.proofs.lemmas.List.{length-take}
 use Rattle.repl_store.specs.Backing.{Before, State, appended}
 use Rattle.repl_store.specs.Head.{IsAt}

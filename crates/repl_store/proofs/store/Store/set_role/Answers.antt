@@ -1,6 +1,5 @@
 -- A flush is that of its parts.
 use Rattle.std.proofs.Common.{◌≡◌, Result, sym, subst}
-use Rattle.repl_disk.specs.State.{DiskState}
 use Rattle.repl_store.specs.Backing.{Backs, Comes, Either, State, flushed}
 use Rattle.repl_store.specs.Head.{Head, Held}
 use Rattle.repl_store.specs.declared.fault.StoreFault.{StoreFault}

@@ -1,6 +1,5 @@
 -- A write is that of its pieces.
 use Rattle.std.proofs.Common.{◌≡◌, Result, sym, subst}
-use Rattle.repl_disk.specs.State.{DiskState}
 use Rattle.repl_store.specs.Backing.{Backs, Before, Comes, State, appended}
 use Rattle.repl_store.specs.Head.{Head, Held}
 use Rattle.repl_store.specs.declared.fault.StoreFault.{StoreFault}

@@ -1,0 +1,65 @@
+-- Calls that only read, one after the other.
+use Rattle.std.proofs.Common.{◌≡◌, ◌⊎◌, ℕ, ◌+◌, ◌≤◌, Option, None, Result, Ok, Err, OnOk, IfErr, refl, sym, ◌∙◌, subst, inl, inr, ⊎_elim, arith}
+use Rattle.repl_counts.specs.Counts.{Rose, Stood}
+use Rattle.repl_disk.specs.Folder.{Folder}
+use Rattle.repl_disk.specs.Moments.{joined, started, weakened}
+use Rattle.repl_disk.specs.State.{DiskState}
+use Rattle.repl_store.specs.Backing.{Asks, OnlyReads}
+use Rattle.repl_store.specs.declared.fault.StoreFault.{StoreFault}
+use Rattle.repl_store.specs.declared.fault.StoreFault.TheVariants as fault
+
+pub reads_then : (old mid new : DiskState) → OnlyReads old mid → OnlyReads mid new → OnlyReads old new
+reads_then old mid new first second = record {
+  stayed = second.stayed ∙ first.stayed;
+  none_new = λ image now. first.none_new image (second.none_new image now);
+  moments = joined old mid new old.may_leave first.moments
+      (weakened mid new mid.may_leave old.may_leave second.moments first.none_new);
+}
+
+module _ {A B : Type 0} (x : B) (old mid new : DiskState) (first : Asks {A = B} (Ok x) old mid) where
+  pub asks_then : (result : Result A StoreFault) → Asks result mid new → Asks result old new
+  asks_then result second = record {
+    only = reads_then old mid new first.only second.only;
+    ok = ok result second.ok;
+    failed = λ is. ⊎_elim (λ rose. inl (let P : ℕ → Type 0 = λ n. Rose n new.faults in subst P first.ok.0 rose))
+        (λ (lack : (mid.files ≡ None) × Rose mid.lacks new.lacks). inr (sym first.only.stayed ∙ lack.0, omega (arith, lack.1, first.lacks)))
+        (second.failed is);
+    others = others result second.others;
+    lacks = omega (arith, first.lacks, second.lacks);
+  }
+    where
+      ok : (r : Result A StoreFault) → OnOk r (Stood mid.faults new.faults × Stood mid.wants new.wants)
+          → OnOk r (Stood old.faults new.faults × Stood old.wants new.wants)
+      ok (Ok y) stands = (stands.0 ∙ first.ok.0, stands.1 ∙ first.ok.1)
+      ok (Err e) stands = tt
+
+      others : (r : Result A StoreFault) → IfErr r (λ e. (e ≡ fault.DiskFault) ⊎ Stood mid.faults new.faults)
+          → IfErr r (λ e. (e ≡ fault.DiskFault) ⊎ Stood old.faults new.faults)
+      others (Ok y) either = tt
+      others (Err e) either = ⊎_elim inl (λ stands. inr (stands ∙ first.ok.0)) either
+
+-- an answer that was not the disk's
+pub answers : {A B : Type 0} (x : B) (e : StoreFault) (old new : DiskState) → (e ≡ fault.DiskFault → ⊥) → Asks {A = B} (Ok x) old new
+    → Asks {A = A} (Err e) old new
+answers x e old new not asks = record {
+  only = asks.only;
+  ok = tt;
+  failed = λ is. absurd (not (let same : e ≡ fault.DiskFault = cc in same));
+  others = inr asks.ok.0;
+  lacks = asks.lacks;
+}
+
+-- the answer of a call that goes on from Ok with Ok
+pub goes_on_ok : {A B : Type 0} (x : B) (y : A) (old new : DiskState) → Asks {A = B} (Ok x) old new → Asks {A = A} (Ok y) old new
+goes_on_ok x y old new asks = record { only = asks.only; ok = asks.ok; failed = λ is. absurd cc; others = tt; lacks = asks.lacks }
+
+-- before the first call
+pub asks_none : (old : DiskState) → ((image : Folder) → old.left_since old.moment image → old.may_leave image)
+    → Asks {A = Unit {0}} (Ok tt) old old
+asks_none old only_now = record {
+  only = record { stayed = refl; none_new = λ image now. now; moments = started old old.may_leave only_now };
+  ok = (refl, refl);
+  failed = λ is. absurd cc;
+  others = tt;
+  lacks = omega arith;
+}
