@@ -7,3 +7,4 @@ pub mod Texts
 pub mod Asking
 pub mod Hearing
 pub mod Mounting
+pub mod Making

@@ -3,3 +3,4 @@ pub mod Head
 pub mod Backing
 pub mod Refusal
 pub mod Numbers
+pub mod Creating
