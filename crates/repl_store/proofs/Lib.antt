@@ -12,3 +12,4 @@ pub mod Texts
 pub mod Asking
 pub mod Hearing
 pub mod Mounting
+pub mod Making
