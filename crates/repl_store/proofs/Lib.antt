@@ -12,3 +12,6 @@ pub mod Texts
 pub mod Asking
 pub mod Hearing
 pub mod Mounting
+pub mod Controls
+pub mod Raising
+pub mod Removing
