@@ -1,13 +1,17 @@
 //! Raising the floor: segments below it go.
-ghost use Rattle.std.specs.Prelude.{◌≡◌, ◌↔◌, ◌⊎◌, true, Err, OnOk, IfErr};
-ghost use Rattle.repl_store.specs.Backing.{Backs, Breaks, CanRaise, Comes, Either, IsCaused, State, raised, raised_control};
+ghost use Rattle.std.specs.Prelude.{◌≡◌, ◌≢◌, ◌↔◌, ◌⊎◌, ◌/◌, ◌<◌, IsTrue, true, Err, OnOk, IfErr};
+ghost use Rattle.repl_store.specs.Backing.{Backs, Before, Breaks, CanRaise, Comes, Either, IsCaused, State, raised, raised_control};
 ghost use Rattle.repl_store.specs.Head.{IsAt, Stands};
+ghost use Rattle.repl_store.specs.Raised.{NamesBelow, raised_head, raised_state};
 ghost use Rattle.repl_store.specs.declared.fault.StoreFault.TheVariants as StoreFault;
 
-use crate::fault::StoreFault;
+use crate::control::put_control;
+use crate::fault::{StoreFault, fault_of};
+use crate::head::Head;
 use crate::store::Store;
-use repl_disk::Disk;
-use repl_lsn::Lsn;
+use repl_control::Control;
+use repl_disk::{Disk, DiskError};
+use repl_lsn::{Lsn, SegSize, parse_seg_name, seg_of};
 
 impl<D: Disk> Store<D> {
     /// Raises the floor, and then removes the file of each segment below it, of any timeline. After a refusal the floor may
@@ -28,6 +32,106 @@ impl<D: Disk> Store<D> {
             (record { durable = raised s.durable floor; unflushed = s.unflushed })
             (λ t. (t ≡ s) ⊎ (t ≡ record { durable = raised s.durable floor; unflushed = s.unflushed })) }
     {
-        unimplemented
+        if self.broken {
+            return Err(StoreFault::Broken);
+        }
+        let done = raise(&mut self.disk, &mut self.head, floor);
+        self.remember(done)
+    }
+}
+
+/// Raises the floor, and then removes the segments below it. After a failure of the disk the head is as it was.
+fn raise<D: Disk>(disk: &mut D, head: &mut Head, floor: Lsn) -> Result<(), StoreFault>
+    requires { CanRaise head.old floor }
+    ensures ok { OnOk result (head.new ≡ raised_head head.old floor) }
+    ensures stays { IfErr result (λ e. (head.new ≡ head.old) ⊎ ((result ≡ Err StoreFault.Memory) × (head.new ≡ raised_head head.old floor))) }
+    ensures caused { IsCaused result (D.state disk.old) (D.state disk.new) }
+    ensures unbroken { result ≢ Err StoreFault.Broken }
+    ensures keeps { D.keeps disk.old disk.new }
+    ensures comes { (s : State) → Backs (D.state disk.old) head.old s →
+        Comes result (D.state disk.old) (D.state disk.new) head.new (Either s.durable (raised s.durable floor))
+        (raised_state s floor) (λ t. (t ≡ s) ⊎ (t ≡ raised_state s floor)) }
+{
+    let before = head.control;
+    put_floor(disk, head, floor)?;
+    match remove_below(disk, head) {
+        Ok(()) => Ok(()),
+        Err(StoreFault::Memory) => Err(StoreFault::Memory),
+        Err(fault) => {
+            head.control = before;
+            Err(fault)
+        }
+    }
+}
+
+/// Puts a control with this floor onto the disk.
+fn put_floor<D: Disk>(disk: &mut D, head: &mut Head, floor: Lsn) -> Result<(), StoreFault>
+    requires { CanRaise head.old floor }
+    ensures ok { OnOk result (head.new ≡ raised_head head.old floor) }
+    ensures stays { IfErr result (λ e. head.new ≡ head.old) }
+    ensures caused { IsCaused result (D.state disk.old) (D.state disk.new) }
+    ensures unbroken { result ≢ Err StoreFault.Broken }
+    ensures keeps { D.keeps disk.old disk.new }
+    ensures comes { (s : State) → Backs (D.state disk.old) head.old s →
+        Comes result (D.state disk.old) (D.state disk.new) head.new (Either s.durable (raised s.durable floor))
+        (raised_state s floor) (λ t. t ≡ s) }
+{
+    let control = Control {
+        floor,
+        ..head.control
+    };
+    match put_control(disk, &control) {
+        Ok(()) => {
+            head.control = control;
+            Ok(())
+        }
+        Err(error) => Err(fault_of(error)),
+    }
+}
+
+/// Removes the file of each segment below the floor, of any timeline.
+fn remove_below<D: Disk>(disk: &mut D, head: &Head) -> Result<(), StoreFault>
+    ensures caused { IsCaused result (D.state disk.old) (D.state disk.new) }
+    ensures unbroken { result ≢ Err StoreFault.Broken }
+    ensures keeps { D.keeps disk.old disk.new }
+    ensures comes { (s : State) → Backs (D.state disk.old) head.now s →
+        Comes result (D.state disk.old) (D.state disk.new) head.now (Before s) s (λ t. t ≡ s) }
+{
+    let names = match disk.names() {
+        Ok(names) => names,
+        Err(error) => return Err(fault_of(error)),
+    };
+    for name in &names {
+        remove_if_below(disk, head, name)?;
+    }
+    Ok(())
+}
+
+/// Removes the file if it is one of a segment below the floor. A file that is not there needs no removal.
+fn remove_if_below<D: Disk>(disk: &mut D, head: &Head, name: &str) -> Result<(), StoreFault>
+    ensures caused { IsCaused result (D.state disk.old) (D.state disk.new) }
+    ensures unbroken { result ≢ Err StoreFault.Broken }
+    ensures keeps { D.keeps disk.old disk.new }
+    ensures comes { (s : State) → Backs (D.state disk.old) head.now s →
+        Comes result (D.state disk.old) (D.state disk.new) head.now (Before s) s (λ t. t ≡ s) }
+{
+    if !is_below(name, head.control.floor, head.size) {
+        return Ok(());
+    }
+    match disk.remove(name) {
+        Ok(()) => Ok(()),
+        // It is gone already.
+        Err(DiskError::Missing) => Ok(()),
+        Err(error) => Err(fault_of(error)),
+    }
+}
+
+/// Whether the name is that of a segment before the one in which the floor is.
+fn is_below(name: &str, floor: Lsn, size: SegSize) -> bool
+    ensures { IsTrue result ↔ NamesBelow size name.now (floor / size) }
+{
+    match parse_seg_name(name.as_bytes(), size) {
+        Ok((_, segment)) => segment.0 < seg_of(floor, size).0,
+        Err(_) => false,
     }
 }
