@@ -6,6 +6,7 @@ pub mod Backed
 pub mod Turns
 pub mod Chaining
 pub mod Renewing
+pub mod Controls
 pub mod Pieces
 pub mod Reading
 pub mod Texts
@@ -16,3 +17,4 @@ pub mod Making
 pub mod Controls
 pub mod Raising
 pub mod Removing
+pub mod Putting

@@ -57,7 +57,7 @@ use Rattle.repl_store.specs.declared.fault.StoreFault.TheVariants as fault
 use Rattle.repl_store.proofs.Backed.{head_carries, log_end}
 use Rattle.repl_store.proofs.Carrying.{carries_drop}
 use Rattle.repl_store.proofs.Chaining.{comes_after, comes_as}
-use Rattle.repl_store.proofs.Controls.{
+use Rattle.repl_store.proofs.Putting.{
   ButControl,
   bytes_short,
   carries_past,

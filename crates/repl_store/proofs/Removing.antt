@@ -55,7 +55,7 @@ use Rattle.repl_store.specs.declared.fault.StoreFault.{StoreFault}
 use Rattle.repl_store.specs.declared.fault.StoreFault.TheVariants as fault
 use Rattle.repl_store.proofs.Backed.{backs_still, head_carries, own_carries}
 use Rattle.repl_store.proofs.Carrying.{carries_elsewhere, carries_again}
-use Rattle.repl_store.proofs.Controls.{bytes_short, log_short, synced_short}
+use Rattle.repl_store.proofs.Putting.{bytes_short, log_short, synced_short}
 use Rattle.repl_store.proofs.Names.{HasNames, fits_at, same_file}
 use Rattle.repl_store.proofs.Standing.{OnlyAt, names_of_head, stands_at_segment}
 use Rattle.repl_store.proofs.Turns.{done_comes, refused_comes}

@@ -7,9 +7,6 @@ use Rattle.std.proofs.Common.{
   ◌-◌,
   ◌^◌,
   ◌≤◌,
-  Bool,
-  true,
-  false,
   List,
   [],
   ◌++◌,
@@ -31,7 +28,6 @@ use Rattle.std.proofs.Common.{
   length-append,
 }
 use Rattle.std.proofs.lemmas.List.{append-nil, nil_from_length, take_all}
-use mathlib.Core.Bool.{◌&&◌}
 use Rattle.repl_control.specs.Control.{IsControl, FitsFields, control_bytes}
 use Rattle.repl_control.specs.declared.control.Control.{Control}
 use Rattle.repl_control.specs.declared.control.Role.{Role}
@@ -286,32 +282,6 @@ module _ (disk : DiskState) (head : Head) (s : State) (is : IsHead head) (backs 
         ))
 
 -- ---- where nothing is to be done
-
--- what a test of all fields says of those that a flush may change
-pub same_by_test : (a b c d e f g h : Bool) → true ≡ (a && (b && (c && (d && (e && (f && (g && h))))))) → (a ≡ true) × (e ≡ true)
-    × (f ≡ true) × (h ≡ true)
-same_by_test true true true true true true true h test = (refl, refl, refl, sym test)
-same_by_test true true true true true true false h test = absurd cc
-same_by_test true true true true true false g h test = absurd cc
-same_by_test true true true true false f g h test = absurd cc
-same_by_test true true true false e f g h test = absurd cc
-same_by_test true true false d e f g h test = absurd cc
-same_by_test true false c d e f g h test = absurd cc
-same_by_test false b c d e f g h test = absurd cc
-
--- a control whose fields are these
-pub same_control : (c : Control) (role : Role) (written whole prev : ℕ) → role ≡ c.role → written ≡ c.flushed → whole ≡ c.whole
-    → prev ≡ c.prev → flushed_control c role written whole prev ≡ c
-same_control c role written whole prev same_role same_end same_whole same_prev = λ i. record {
-  role = same_role i;
-  sysid = c.sysid;
-  tli = c.tli;
-  magic = c.magic;
-  flushed = same_end i;
-  whole = same_whole i;
-  floor = c.floor;
-  prev = same_prev i;
-}
 
 -- the control says already that all is flushed
 pub certain_already : (disk : DiskState) (head : Head) (s : State) (role : Role) (whole prev : ℕ) → Backs disk head s

@@ -20,6 +20,7 @@ impl<D: Disk> Store<D> {
     /// memory but the disk's.
     pub fn flush(&mut self, whole: Lsn, prev: Lsn) -> Result<(), StoreFault>
         requires { CanFlush self.old.head self.old.head.control.role whole prev }
+        ensures still { flushed_control self.old.head.control self.old.head.control.role self.old.head.written whole prev ≡ self.old.head.control → self.new.disk ≡ self.old.disk }
         ensures broken { (result ≡ Err StoreFault.Broken) ↔ (self.old.broken ≡ true) }
         ensures idle { result ≡ Err StoreFault.Broken → self.new.disk ≡ self.old.disk }
         ensures breaks { Breaks result self.old.broken self.new.broken }
@@ -40,6 +41,7 @@ impl<D: Disk> Store<D> {
     /// The same, and gives the store this role, by one renaming.
     pub fn set_role(&mut self, role: Role, whole: Lsn, prev: Lsn) -> Result<(), StoreFault>
         requires { CanFlush self.old.head role whole prev }
+        ensures still { flushed_control self.old.head.control role self.old.head.written whole prev ≡ self.old.head.control → self.new.disk ≡ self.old.disk }
         ensures broken { (result ≡ Err StoreFault.Broken) ↔ (self.old.broken ≡ true) }
         ensures idle { result ≡ Err StoreFault.Broken → self.new.disk ≡ self.old.disk }
         ensures breaks { Breaks result self.old.broken self.new.broken }
@@ -70,6 +72,7 @@ fn make_certain<D: Disk>(
     prev: Lsn,
 ) -> Result<(), StoreFault>
     requires { CanFlush head.old role whole prev }
+    ensures still { flushed_control head.old.control role head.old.written whole prev ≡ head.old.control → disk.new ≡ disk.old }
     ensures ok { OnOk result (Stands head.new head.old.size (flushed_control head.old.control role head.old.written whole prev) head.old.path head.old.written) }
     ensures stays { IfErr result (λ e. IsAt head.old head.new head.old.written) }
     ensures caused { IsCaused result (D.state disk.old) (D.state disk.new) }

@@ -19,13 +19,17 @@ mod control;
 mod create;
 mod fault;
 mod files;
+mod flush;
 mod head;
 mod known;
 mod laws;
 mod mount;
+mod raise;
 mod read;
 mod segments;
 mod store;
+mod switch;
+mod write;
 
 pub use fault::StoreFault;
 pub use laws::{one_durable, one_known};
