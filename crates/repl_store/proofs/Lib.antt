@@ -14,7 +14,6 @@ pub mod Asking
 pub mod Hearing
 pub mod Mounting
 pub mod Making
-pub mod Controls
 pub mod Raising
 pub mod Removing
 pub mod Putting

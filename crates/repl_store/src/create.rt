@@ -5,8 +5,8 @@ ghost use Rattle.repl_control.specs.declared.control.TheConstants.{VERSION_1_SIZ
 ghost use Rattle.repl_disk.specs.Crash.{LeavesOnly};
 ghost use Rattle.repl_disk.specs.Folder.{Folder, IfTold};
 ghost use Rattle.repl_disk.specs.Replacing.{IsBeforeOrAfter};
-ghost use Rattle.repl_store.specs.Backing.{Backs, IsCaused};
-ghost use Rattle.repl_store.specs.Creating.{IsMade, IsMaking, IsUnmade, fresh};
+ghost use Rattle.repl_store.specs.Backing.{Backs};
+ghost use Rattle.repl_store.specs.Creating.{IsMade, IsMadeOf, IsMaking, IsUnmade, fresh};
 ghost use Rattle.repl_store.specs.Durable.{IsKnown, StandsFor, control_aside, control_name};
 ghost use Rattle.repl_store.specs.Head.{IsMounted};
 ghost use Rattle.repl_store.specs.declared.fault.StoreFault.TheVariants as StoreFault;
@@ -45,8 +45,8 @@ impl<D: Disk> Store<D> {
         ensures moments { IfTold (D.state disk).files (λ folder. MatchResult result
             (λ store. LeavesOnly (D.state disk) (D.state store.disk) (IsMaking (D.state disk).may_leave role ident))
             (λ e. LeavesOnly (D.state disk) (D.state e.1) (IsMaking (D.state disk).may_leave role ident))) }
-        ensures caused { MatchResult result (λ store. IsCaused (Ok store) (D.state disk) (D.state store.disk))
-            (λ e. IsCaused {A = Store D} (Err e.0) (D.state disk) (D.state e.1)) }
+        ensures caused { MatchResult result (λ store. IsMadeOf (Ok store) (D.state disk) (D.state store.disk))
+            (λ e. IsMadeOf {A = Store D} (Err e.0) (D.state disk) (D.state e.1)) }
         ensures keeps { MatchResult result (λ store. D.keeps disk store.disk) (λ e. D.keeps disk e.1) }
     {
         let mut disk = disk;
@@ -75,7 +75,7 @@ fn make<D: Disk>(disk: &mut D, control: &Control) -> Result<(), StoreFault>
     ensures refused { IfErr result (λ e. IsUnmade (D.state disk.old).files e) }
     ensures moments { IfTold (D.state disk.old).files (λ folder. LeavesOnly (D.state disk.old) (D.state disk.new)
         (IsBeforeOrAfter (D.state disk.old).may_leave control_name control_aside (control_bytes control.now))) }
-    ensures caused { IsCaused result (D.state disk.old) (D.state disk.new) }
+    ensures caused { IsMadeOf result (D.state disk.old) (D.state disk.new) }
     ensures keeps { D.keeps disk.old disk.new }
 {
     match disk.size(CONTROL) {

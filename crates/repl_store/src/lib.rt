@@ -28,7 +28,6 @@ mod raise;
 mod read;
 mod segments;
 mod store;
-mod switch;
 mod write;
 
 pub use fault::StoreFault;
