@@ -181,6 +181,12 @@ IsLeast positions (Some least) = Contains positions least × All (λ position. l
 abbrev pub IsFloor : List Slot → Option ℕ → Type 0
 IsFloor slots floor = IsLeast (held_positions slots) floor
 
+-- the log is kept from the floor on, so also from this position, if it is one
+abbrev pub IsKeptFrom : Option ℕ → Option ℕ → Type 0
+IsKeptFrom floor None = Unit {0}
+IsKeptFrom None (Some position) = ⊥
+IsKeptFrom (Some floor) (Some position) = floor ≤ position
+
 -- the lower of two positions, if there are any
 abbrev pub lower : Option ℕ → Option ℕ → Option ℕ
 lower None second = second

@@ -1,7 +1,7 @@
 //! What holds of every file of slots, of every list and of every place.
-ghost use Rattle.std.specs.Prelude.{◌≡◌, ◌≤◌, ℕ, List, Ok, Err, Some, false};
+ghost use Rattle.std.specs.Prelude.{◌≡◌, ◌≤◌, ℕ, List, All, Option, Ok, Err, Some, false};
 ghost use Rattle.repl_disk.specs.Folder.{Folder};
-ghost use Rattle.repl_slots.specs.Slot.{SlotList, confirmed, is_session};
+ghost use Rattle.repl_slots.specs.Slot.{IsFloor, IsKeptFrom, SlotList, confirmed, held, is_session};
 ghost use Rattle.repl_slots.specs.SlotFile.{Entry, FileStops, Spells, entries_of};
 ghost use Rattle.repl_slots.specs.Stored.{Mounted, Stores};
 ghost use Rattle.repl_slots.specs.declared.slot.Slot.{Slot};
@@ -37,4 +37,9 @@ pub fn saved_is_mounted()
 pub fn confirmed_rises()
     ensures raised { (session at before : ℕ) (slot : Slot) → slot.restart ≡ Some before → (after : ℕ) × ((confirmed session at slot).restart ≡ Some after) × (before ≤ after) }
     ensures others { (session at : ℕ) (slot : Slot) → is_session session slot.owner ≡ false → confirmed session at slot ≡ slot }
+{}
+
+/// Where the log is kept from the floor on, it is kept for each slot.
+pub fn floor_keeps()
+    ensures { (slots : List Slot) (floor : Option ℕ) → IsFloor slots floor → All (λ slot. IsKeptFrom floor (held slot)) slots }
 {}

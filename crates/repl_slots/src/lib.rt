@@ -27,7 +27,9 @@ mod spell;
 mod store;
 
 pub use fault::SlotFault;
-pub use laws::{confirmed_rises, no_place, one_file, one_list, one_place, saved_is_mounted};
+pub use laws::{
+    confirmed_rises, floor_keeps, no_place, one_file, one_list, one_place, saved_is_mounted,
+};
 pub use read::read_slots;
 pub use slot::{SLOT_LIMIT, Slot};
 pub use slots::Slots;
