@@ -26,6 +26,7 @@ mod segments;
 mod server_words;
 mod sinks;
 mod streams;
+mod sync;
 mod table;
 mod texts;
 mod tokens;

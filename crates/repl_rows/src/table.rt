@@ -3,7 +3,7 @@ use crate::values::{Names, text, words_of};
 use crate::words::{Call, is};
 use crate::{
     commands, copies, disks, histories, lists, messages, pages, paths, positions, quorum, reader,
-    records, segments, streams, texts, tokens, tools, walks, wire,
+    records, segments, streams, sync, texts, tokens, tools, walks, wire,
 };
 use repl_disk::MemoryDisk;
 use std::alloc::Global;
@@ -160,6 +160,9 @@ fn library(alloc: Global, subject: &str, call: &Call) -> Answer {
     }
     if is(subject, "quorum") {
         return quorum::answer(alloc, call);
+    }
+    if is(subject, "sync") {
+        return sync::answer(alloc, call);
     }
     if is(subject, "messages") {
         return messages::answer(alloc, call);
