@@ -129,16 +129,16 @@ fn mode_of(word: &[u8]) -> Result<Mode, Miss> {
     Err(Miss::Words)
 }
 
-fn ended(alloc: Global, result: Result<(), SyncFault>) -> Answer {
-    match result {
+fn ended(alloc: Global, outcome: Result<(), SyncFault>) -> Answer {
+    match outcome {
         Ok(()) => said(alloc, "done"),
         Err(SyncFault::Memory) => Err(Miss::Memory),
         Err(fault) => debug(alloc, &fault),
     }
 }
 
-fn prepared(alloc: Global, result: Result<u64, SyncFault>) -> Answer {
-    match result {
+fn prepared(alloc: Global, outcome: Result<u64, SyncFault>) -> Answer {
+    match outcome {
         Ok(ticket) => debug(alloc, &ticket),
         Err(SyncFault::Memory) => Err(Miss::Memory),
         Err(fault) => debug(alloc, &fault),

@@ -1,38 +1,5 @@
 -- What follows from each step: certificates are sound, released tickets stay, and the last ticket never falls.
-use Rattle.std.proofs.Common.{
-  ◌≡◌,
-  ◌≢◌,
-  ℕ,
-  zero,
-  suc,
-  ◌<◌,
-  ◌≤◌,
-  Bool,
-  true,
-  false,
-  cond,
-  not,
-  ◌==◌,
-  if◌then◌else◌,
-  List,
-  [],
-  ◌∷◌,
-  ◌++◌,
-  length,
-  map,
-  filter,
-  get_or,
-  All,
-  Contains,
-  Option,
-  Some,
-  refl,
-  sym,
-  ap,
-  subst,
-  ◌∙◌,
-  arith,
-}
+use Rattle.std.proofs.Common.{◌≡◌, ◌≢◌, ℕ, zero, suc, ◌<◌, ◌≤◌, Bool, true, false, cond, not, ◌==◌, if◌then◌else◌, List, [], ◌∷◌, ◌++◌, length, map, filter, get_or, All, Contains, Option, Some, refl, sym, ap, subst, ◌∙◌, arith}
 use Rattle.std.specs.List.{AllZip, AllPairs}
 use Rattle.std.proofs.lemmas.Bool.{ne_eqb, eqb-true}
 use Rattle.std.proofs.lemmas.List.{length-map}
@@ -47,59 +14,8 @@ use Rattle.repl_sync.specs.declared.certificate.Certificate.{Certificate}
 use Rattle.repl_sync.specs.declared.session.Entry.{Entry}
 use Rattle.repl_sync.specs.declared.holding.Holding.{Holding}
 use Rattle.repl_sync.specs.declared.parts.Parts.{Parts}
-use Rattle.repl_sync.specs.State.{
-  Session,
-  State,
-  Ticket,
-  Fate,
-  IsState,
-  IsDue,
-  Rests,
-  Prepared,
-  Waiting,
-  Released,
-  Cancelled,
-  cancels,
-  fate_of,
-  standbys,
-  standing,
-  stops,
-  with_fate,
-  without,
-}
-use Rattle.repl_sync.specs.Sync.{
-  Event,
-  Reply,
-  Changes,
-  Becomes,
-  Releases,
-  Settles,
-  IsCertificate,
-  IsSound,
-  IsWaiting,
-  SyncStep,
-  Connect,
-  Streaming,
-  StopStreaming,
-  Disconnect,
-  Report,
-  Feedback,
-  SetNames,
-  NewTimeline,
-  Prepare,
-  Wait,
-  WaitCancelled,
-  ToLook,
-  Cancel,
-  CancelAll,
-  Done,
-  Given,
-  Looked,
-  Refused,
-  cancelled_of,
-  cancels_ticket,
-  counted_as,
-}
+use Rattle.repl_sync.specs.State.{Session, State, Ticket, Fate, IsState, IsDue, Rests, Prepared, Waiting, Released, Cancelled, cancels, fate_of, standbys, standing, stops, with_fate, without}
+use Rattle.repl_sync.specs.Sync.{Event, Reply, Changes, Becomes, Releases, Settles, IsCertificate, IsSound, IsWaiting, SyncStep, Connect, Streaming, StopStreaming, Disconnect, Report, Feedback, SetNames, NewTimeline, Prepare, Wait, WaitCancelled, ToLook, Cancel, CancelAll, Done, Given, Looked, Refused, cancelled_of, cancels_ticket, counted_as}
 use Rattle.repl_sync.specs.declared.certificate.Look.TheVariants as look
 use Rattle.repl_sync.specs.Inside.{IsKept, candidate_of, session_of, sessions_of, state_of, ticket_of}
 use Rattle.repl_sync.proofs.Moved.{Ranked, stands_as}
