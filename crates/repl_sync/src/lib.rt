@@ -7,7 +7,8 @@
 //! sessions that stream. A ticket that was released has a certificate: the list of that moment, and those who met it.
 //! `prepare`, `connect` and `set_names` take all memory that later releases need, so that no other call takes any. The
 //! laws of steps stand on functions of their own: certificates are sound, a released ticket stays so until it is
-//! answered, once, nobody waits without names, a new timeline leaves no report behind, and no ticket is given twice. Stands on `repl_names`.
+//! answered, once, nobody waits without names, a new timeline leaves no report behind, and no ticket is given twice.
+//! Stands on `repl_names`.
 //!
 //! ```text
 //! let mut state = SyncState::new(alloc);
