@@ -28,6 +28,7 @@ mod server_words;
 mod sinks;
 mod slots;
 mod streams;
+mod sync;
 mod table;
 mod texts;
 mod tokens;

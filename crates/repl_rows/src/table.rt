@@ -3,7 +3,7 @@ use crate::values::{Names, text, words_of};
 use crate::words::{Call, is};
 use crate::{
     commands, controls, copies, disks, histories, lists, messages, pages, paths, positions, quorum,
-    reader, records, segments, slots, streams, texts, tokens, tools, walks, wire,
+    reader, records, segments, slots, streams, sync, texts, tokens, tools, walks, wire,
 };
 use repl_disk::MemoryDisk;
 use repl_slots::Slots;
@@ -167,6 +167,9 @@ fn library(alloc: Global, subject: &str, call: &Call) -> Answer {
     }
     if is(subject, "quorum") {
         return quorum::answer(alloc, call);
+    }
+    if is(subject, "sync") {
+        return sync::answer(alloc, call);
     }
     if is(subject, "messages") {
         return messages::answer(alloc, call);

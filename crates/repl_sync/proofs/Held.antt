@@ -1,38 +1,5 @@
 -- Tickets after one of them was changed, or all of them, or one is gone.
-use Rattle.std.proofs.Common.{
-  ◌≡◌,
-  ◌≢◌,
-  ℕ,
-  zero,
-  suc,
-  ◌<◌,
-  ◌≤◌,
-  cond,
-  not,
-  if◌then◌else◌,
-  List,
-  [],
-  ◌∷◌,
-  length,
-  map,
-  get_or,
-  set,
-  All,
-  Vec,
-  Global,
-  Option,
-  Some,
-  None,
-  MatchOption,
-  refl,
-  sym,
-  ap,
-  subst,
-  ◌∙◌,
-  eq-eqb,
-  length-set,
-  arith,
-}
+use Rattle.std.proofs.Common.{◌≡◌, ◌≢◌, ℕ, zero, suc, ◌<◌, ◌≤◌, cond, not, if◌then◌else◌, List, [], ◌∷◌, length, map, get_or, set, All, Vec, Global, Option, Some, None, MatchOption, refl, sym, ap, subst, ◌∙◌, eq-eqb, length-set, arith}
 use Rattle.std.specs.List.{AllPairs, remove}
 use Rattle.std.proofs.lemmas.Bool.{ne_eqb}
 use Rattle.std.proofs.lemmas.List.Elements.{All-head, All-tail, All-set}

@@ -1,38 +1,5 @@
 -- What follows from each step: certificates are sound, released tickets stay, and the last ticket never falls.
-use Rattle.std.proofs.Common.{
-  ◌≡◌,
-  ◌≢◌,
-  ℕ,
-  zero,
-  suc,
-  ◌<◌,
-  ◌≤◌,
-  Bool,
-  true,
-  false,
-  cond,
-  not,
-  ◌==◌,
-  if◌then◌else◌,
-  List,
-  [],
-  ◌∷◌,
-  ◌++◌,
-  length,
-  map,
-  filter,
-  get_or,
-  All,
-  Contains,
-  Option,
-  Some,
-  refl,
-  sym,
-  ap,
-  subst,
-  ◌∙◌,
-  arith,
-}
+use Rattle.std.proofs.Common.{◌≡◌, ◌≢◌, ℕ, zero, suc, ◌<◌, ◌≤◌, Bool, true, false, cond, not, ◌==◌, if◌then◌else◌, List, [], ◌∷◌, ◌++◌, length, map, filter, get_or, All, Contains, Option, Some, None, refl, sym, ap, subst, ◌∙◌, arith}
 use Rattle.std.specs.List.{AllZip, AllPairs}
 use Rattle.std.proofs.lemmas.Bool.{ne_eqb, eqb-true}
 use Rattle.std.proofs.lemmas.List.{length-map}
@@ -47,59 +14,8 @@ use Rattle.repl_sync.specs.declared.certificate.Certificate.{Certificate}
 use Rattle.repl_sync.specs.declared.session.Entry.{Entry}
 use Rattle.repl_sync.specs.declared.holding.Holding.{Holding}
 use Rattle.repl_sync.specs.declared.parts.Parts.{Parts}
-use Rattle.repl_sync.specs.State.{
-  Session,
-  State,
-  Ticket,
-  Fate,
-  IsState,
-  IsDue,
-  Rests,
-  Prepared,
-  Waiting,
-  Released,
-  Cancelled,
-  cancels,
-  fate_of,
-  standbys,
-  standing,
-  stops,
-  with_fate,
-  without,
-}
-use Rattle.repl_sync.specs.Sync.{
-  Event,
-  Reply,
-  Changes,
-  Becomes,
-  Releases,
-  Settles,
-  IsCertificate,
-  IsSound,
-  IsWaiting,
-  SyncStep,
-  Connect,
-  Streaming,
-  StopStreaming,
-  Disconnect,
-  Report,
-  Feedback,
-  SetNames,
-  NewTimeline,
-  Prepare,
-  Wait,
-  WaitCancelled,
-  ToLook,
-  Cancel,
-  CancelAll,
-  Done,
-  Given,
-  Looked,
-  Refused,
-  cancelled_of,
-  cancels_ticket,
-  counted_as,
-}
+use Rattle.repl_sync.specs.State.{Session, State, Ticket, Fate, IsState, IsDue, Rests, Prepared, Waiting, Released, Cancelled, cancels, fate_of, standbys, standing, stops, with_fate, without}
+use Rattle.repl_sync.specs.Sync.{Event, Reply, Changes, Becomes, Releases, Settles, IsCertificate, IsSound, IsWaiting, SyncStep, Connect, Streaming, StopStreaming, Disconnect, Report, Feedback, SetNames, NewTimeline, Prepare, Wait, WaitCancelled, ToLook, Cancel, CancelAll, Done, Given, Looked, Refused, cancelled_of, cancels_ticket, counted_as}
 use Rattle.repl_sync.specs.declared.certificate.Look.TheVariants as look
 use Rattle.repl_sync.specs.Inside.{IsKept, candidate_of, session_of, sessions_of, state_of, ticket_of}
 use Rattle.repl_sync.proofs.Moved.{Ranked, stands_as}
@@ -375,3 +291,37 @@ kept_state p kept = record {
   last = kept.ready.last;
   waits = all_to_map ticket_of (λ t. ¬ IsDue p.list (sessions_of p.entries.items) t.fate) p.holdings.items kept.waits;
 }
+
+-- ---- a ticket that was answered
+
+gone_one : (b : Bool) (t : ℕ) (x : Ticket) (xs : List Ticket) → (x.number == t) ≡ b → fate_of (without t xs) t ≡ None
+    → fate_of (cond (not b) (x ∷ without t xs) (without t xs)) t ≡ None
+gone_one true t x xs e rest = rest
+gone_one false t x xs e rest = ap (λ b. if b then Some x.fate else fate_of (without t xs) t) e ∙ rest
+
+gone : (t : ℕ) (ts : List Ticket) → fate_of (without t ts) t ≡ None
+gone t [] = refl
+gone t (x ∷ xs) = gone_one (x.number == t) t x xs refl (gone t xs)
+
+none_one : (b : Bool) (f g : Fate) (r s : Option Fate) → (r ≡ None → s ≡ None) → (if b then Some f else r) ≡ None
+    → (if b then Some g else s) ≡ None
+none_one true f g r s rest is = absurd (cc is)
+none_one false f g r s rest is = rest is
+
+zip_none : (list : Listing) (ss : List Session) (t : ℕ) (ts us : List Ticket) → AllZip (Settles list ss) ts us → fate_of ts t ≡ None
+    → fate_of us t ≡ None
+zip_none list ss t [] [] zip is = is
+zip_none list ss t [] (u ∷ us) zip is = absurd zip
+zip_none list ss t (x ∷ xs) [] zip is = absurd zip
+zip_none list ss t (x ∷ xs) (u ∷ us) zip is =
+    ap (λ n. if n == t then Some u.fate else fate_of us t) zip.0.number
+    ∙ none_one (x.number == t) x.fate u.fate (fate_of xs t) (fate_of us t) (zip_none list ss t xs us zip.1) is
+
+pub released_once : (old new : State) (t : ℕ) (c : Certificate) → SyncStep old (ToLook t) (Looked (look.Released c)) new
+    → fate_of new.tickets t ≡ None
+released_once old new t c h = zip_none h.0.list h.0.sessions t h.0.tickets new.tickets h.2.tickets
+    (subst (λ (s : State). fate_of s.tickets t ≡ None) (sym h.1.1) (gone t old.tickets))
+
+pub cancelled_once : (old new : State) (t : ℕ) → SyncStep old (ToLook t) (Looked look.Cancelled) new → fate_of new.tickets t ≡ None
+cancelled_once old new t h = zip_none h.0.list h.0.sessions t h.0.tickets new.tickets h.2.tickets
+    (subst (λ (s : State). fate_of s.tickets t ≡ None) (sym h.1.1) (gone t old.tickets))

@@ -1,35 +1,5 @@
 -- What a release is due to, and who is counted by it.
-use Rattle.std.proofs.Common.{
-  ◌≡◌,
-  ℕ,
-  ◌≤◌,
-  Bool,
-  true,
-  false,
-  cond,
-  ◌&&◌,
-  if◌then◌else◌,
-  List,
-  [],
-  ◌∷◌,
-  length,
-  map,
-  take,
-  filter,
-  All,
-  IsPermutation,
-  ◌==◌,
-  vec_capacity,
-  get_or,
-  Some,
-  None,
-  refl,
-  sym,
-  ap,
-  subst,
-  ◌∙◌,
-  arith,
-}
+use Rattle.std.proofs.Common.{◌≡◌, ℕ, ◌≤◌, Bool, true, false, cond, ◌&&◌, if◌then◌else◌, List, [], ◌∷◌, length, map, take, filter, All, IsPermutation, ◌==◌, vec_capacity, get_or, Some, None, refl, sym, ap, subst, ◌∙◌, arith}
 use Rattle.std.proofs.lemmas.List.Elements.{All-head, All-tail, All-filter, filter_agree}
 use Rattle.std.proofs.lemmas.List.Sorted.{IsPermutation-sym}
 use Rattle.repl_names.specs.StandbyList.{Listing, IsListing, Demands}
@@ -47,25 +17,7 @@ use Rattle.repl_sync.specs.declared.reach.Reach.{Reach}
 use Rattle.repl_sync.specs.declared.session.Entry.{Entry}
 use Rattle.repl_sync.specs.State.{name_of, standbys, IsDue, Released}
 use Rattle.repl_sync.specs.Sync.{Becomes, IsCertificate, counted_as}
-use Rattle.repl_sync.specs.Inside.{
-  Bytes,
-  IsBlank,
-  FitsEach,
-  FitsNames,
-  HasRoom,
-  HasRoomFor,
-  IsDueBy,
-  IsLive,
-  IsOrder,
-  IsReach,
-  ReleasesOne,
-  SameByTests,
-  fate_in,
-  is_taken,
-  reach_in,
-  sessions_of,
-  taken,
-}
+use Rattle.repl_sync.specs.Inside.{Bytes, IsBlank, FitsEach, FitsNames, HasRoom, HasRoomFor, IsDueBy, IsLive, IsOrder, IsReach, ReleasesOne, SameByTests, fate_in, is_taken, reach_in, sessions_of, taken}
 use Rattle.repl_sync.proofs.Orders.{filter_all}
 use Rattle.repl_sync.proofs.Moved.{met_for_moved}
 

@@ -1,42 +1,5 @@
 -- Room that is taken, and what stands again once it was.
-use Rattle.std.proofs.Common.{
-  ◌≡◌,
-  ◌≢◌,
-  ℕ,
-  zero,
-  suc,
-  ◌+◌,
-  ◌<◌,
-  ◌≤◌,
-  ◌^◌,
-  ⊎_elim,
-  inl,
-  min,
-  max,
-  set,
-  Bool,
-  true,
-  false,
-  if◌then◌else◌,
-  List,
-  [],
-  ◌∷◌,
-  ◌++◌,
-  length,
-  map,
-  get_or,
-  All,
-  Vec,
-  Global,
-  vec_capacity,
-  refl,
-  sym,
-  ap,
-  subst,
-  ◌∙◌,
-  length-append,
-  arith,
-}
+use Rattle.std.proofs.Common.{◌≡◌, ◌≢◌, ℕ, zero, suc, ◌+◌, ◌<◌, ◌≤◌, ◌^◌, ⊎_elim, inl, min, max, set, Bool, true, false, if◌then◌else◌, List, [], ◌∷◌, ◌++◌, length, map, get_or, All, Vec, Global, vec_capacity, refl, sym, ap, subst, ◌∙◌, length-append, arith}
 use Rattle.std.specs.List.{AllPairs, AllZip}
 use Rattle.std.proofs.lemmas.Bool.{cases_lt}
 use Rattle.std.proofs.lemmas.List.{map-append}
@@ -51,30 +14,7 @@ use Rattle.repl_sync.specs.declared.holding.Progress.TheVariants as progress
 use Rattle.repl_sync.specs.declared.holding.Holding.{Holding}
 use Rattle.repl_sync.specs.declared.parts.Parts.{Parts}
 use Rattle.repl_sync.specs.State.{Fate, IsDue, Prepared, Rests, Session, Ticket, connected}
-use Rattle.repl_sync.specs.Inside.{
-  HasPlaces,
-  HasRoom,
-  HasRoomFor,
-  IsKept,
-  IsLive,
-  IsReady,
-  RankedOne,
-  Refitted,
-  RelistedOne,
-  SameState,
-  candidate_of,
-  countable,
-  entry_of,
-  fate_in,
-  is_live,
-  session_of,
-  sessions_of,
-  state_of,
-  ticket_of,
-  tickets_of,
-  with_list,
-  with_sessions,
-}
+use Rattle.repl_sync.specs.Inside.{HasPlaces, HasRoom, HasRoomFor, IsKept, IsLive, IsReady, RankedOne, Refitted, RelistedOne, SameState, candidate_of, countable, entry_of, fate_in, is_live, session_of, sessions_of, state_of, ticket_of, tickets_of, with_list, with_sessions}
 use Rattle.repl_sync.proofs.Sessions.{SameSession, all_of_map, all_to_map, all_zip, differ_same}
 
 -- ---- the same sessions and tickets, kept elsewhere

@@ -1,41 +1,5 @@
 -- Sessions after one of them was changed, or all of them, or one is gone.
-use Rattle.std.proofs.Common.{
-  ◌≡◌,
-  ◌≢◌,
-  ℕ,
-  zero,
-  suc,
-  ◌<◌,
-  ◌≤◌,
-  true,
-  false,
-  cond,
-  not,
-  ◌||◌,
-  ◌==◌,
-  if◌then◌else◌,
-  List,
-  [],
-  ◌∷◌,
-  length,
-  map,
-  filter,
-  get_or,
-  set,
-  take,
-  drop,
-  All,
-  Vec,
-  Global,
-  vec_capacity,
-  refl,
-  sym,
-  ap,
-  subst,
-  ◌∙◌,
-  eq-eqb,
-  arith,
-}
+use Rattle.std.proofs.Common.{◌≡◌, ◌≢◌, ℕ, zero, suc, ◌<◌, ◌≤◌, true, false, cond, not, ◌||◌, ◌==◌, if◌then◌else◌, List, [], ◌∷◌, length, map, filter, get_or, set, take, drop, All, Vec, Global, vec_capacity, refl, sym, ap, subst, ◌∙◌, eq-eqb, arith}
 use Rattle.std.specs.List.{AllZip, remove}
 use Rattle.std.proofs.lemmas.Bool.{ne_eqb}
 use Rattle.std.proofs.Math.Bool.{or-true}

@@ -8,34 +8,8 @@ use Rattle.repl_sync.specs.declared.fault.SyncFault.{SyncFault}
 use Rattle.std.specs.declared.alloc.AllocError.{AllocError}
 use Rattle.repl_sync.specs.declared.parts.Parts.{Parts}
 use Rattle.repl_sync.specs.State.{Session, Fate, Ticket, State, IsDue, connected, Prepared, Waiting, Released, Cancelled}
-use Rattle.repl_sync.specs.Sync.{
-  Becomes,
-  Releases,
-  Settles,
-  SyncStep,
-  Cancel,
-  Connect,
-  Prepare,
-  SetNames,
-  Done,
-  Given,
-  Refused,
-  done,
-  given,
-  stored,
-}
-use Rattle.repl_sync.specs.Inside.{
-  Cancels,
-  ConnectsOne,
-  IsKept,
-  Prepares,
-  RenamesTo,
-  sessions_of,
-  state_of,
-  ticket_of,
-  with_list,
-  with_sessions,
-}
+use Rattle.repl_sync.specs.Sync.{Becomes, Releases, Settles, SyncStep, Cancel, Connect, Prepare, SetNames, Done, Given, Refused, done, given, stored}
+use Rattle.repl_sync.specs.Inside.{Cancels, ConnectsOne, IsKept, Prepares, RenamesTo, sessions_of, state_of, ticket_of, with_list, with_sessions}
 use Rattle.repl_sync.proofs.Sessions.{all_to_map}
 
 stays : (list : Listing) (ss : List Session) (fate : Fate) → ¬ IsDue list ss fate → Becomes list ss fate fate

@@ -1,43 +1,5 @@
 -- What the code keeps, and what that stands for.
-use Rattle.std.specs.Prelude.{
-  ◌≡◌,
-  ◌≢◌,
-  ℕ,
-  ◌+◌,
-  ◌-◌,
-  ◌<◌,
-  ◌≤◌,
-  ◌^◌,
-  min,
-  List,
-  [],
-  ◌∷◌,
-  ◌++◌,
-  Result,
-  Ok,
-  Err,
-  map,
-  length,
-  All,
-  AllPairs,
-  vec_len,
-  vec_capacity,
-  Bool,
-  filter,
-  IsPermutation,
-  ◌↔◌,
-  ◌⊎◌,
-  if◌then◌else◌,
-  not,
-  Option,
-  Some,
-  None,
-  MatchOption,
-  take,
-  slice_index_or,
-  true,
-  false,
-}
+use Rattle.std.specs.Prelude.{◌≡◌, ◌≢◌, ℕ, ◌+◌, ◌-◌, ◌<◌, ◌≤◌, ◌^◌, min, List, [], ◌∷◌, ◌++◌, Result, Ok, Err, map, length, All, AllPairs, vec_len, vec_capacity, Bool, filter, IsPermutation, ◌↔◌, ◌⊎◌, if◌then◌else◌, not, Option, Some, None, MatchOption, take, slice_index_or, true, false}
 use Rattle.repl_names.specs.StandbyList.{Listing, IsListing, priority_of}
 use Rattle.repl_names.specs.declared.quorum.Candidate.{Candidate}
 use Rattle.repl_names.specs.Quorum.{Differ, InOrder, Met, candidates, goes_before, reaches}
@@ -59,30 +21,7 @@ use Rattle.repl_sync.specs.declared.holding.Holding.{Holding}
 use Rattle.repl_sync.specs.declared.reach.Reach.{Reach}
 use Rattle.repl_sync.specs.declared.parts.Parts.{Parts}
 use Rattle.repl_sync.specs.Sync.{Releases, Settles, cancelled_of}
-use Rattle.repl_sync.specs.State.{
-  Session,
-  Fate,
-  Ticket,
-  State,
-  Rests,
-  IsDue,
-  changed,
-  connected,
-  fate_of,
-  is_numbered,
-  knows,
-  name_of,
-  reports,
-  standbys,
-  starts,
-  stops,
-  tells,
-  with_fate,
-  Prepared,
-  Waiting,
-  Released,
-  Cancelled,
-}
+use Rattle.repl_sync.specs.State.{Session, Fate, Ticket, State, Rests, IsDue, changed, connected, fate_of, is_numbered, knows, name_of, reports, standbys, starts, stops, tells, with_fate, Prepared, Waiting, Released, Cancelled}
 
 abbrev pub session_of : Entry → Session
 session_of e = record {

@@ -1,29 +1,6 @@
 -- Who is waited for (PostgreSQL 17 manual, section "Synchronous Replication"): the sessions of standbys, the list in
 -- force, and the tickets of commits. All of it is plain data.
-use Rattle.std.specs.Prelude.{
-  ◌≡◌,
-  ℕ,
-  ◌<◌,
-  ◌≤◌,
-  ◌^◌,
-  max,
-  Bool,
-  true,
-  false,
-  not,
-  ◌==◌,
-  if◌then◌else◌,
-  List,
-  [],
-  ◌∷◌,
-  map,
-  filter,
-  All,
-  AllPairs,
-  Option,
-  Some,
-  None,
-}
+use Rattle.std.specs.Prelude.{◌≡◌, ℕ, ◌<◌, ◌≤◌, ◌^◌, max, Bool, true, false, not, ◌==◌, if◌then◌else◌, List, [], ◌∷◌, map, filter, All, AllPairs, Option, Some, None}
 use Rattle.std.specs.List.{list_any}
 use Rattle.repl_names.specs.StandbyList.{Listing, IsListing, priority_of}
 use Rattle.repl_names.specs.declared.quorum.Mode.{Mode}

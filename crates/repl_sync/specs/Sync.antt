@@ -1,30 +1,5 @@
 -- What each event makes of the sessions and tickets, what it replies, and which waits it releases.
-use Rattle.std.specs.Prelude.{
-  Contains,
-  ◌≤◌,
-  ◌≡◌,
-  ◌≢◌,
-  ℕ,
-  ◌+◌,
-  ◌-◌,
-  ◌<◌,
-  ◌^◌,
-  true,
-  false,
-  List,
-  [],
-  ◌∷◌,
-  ◌++◌,
-  map,
-  filter,
-  not,
-  Option,
-  Some,
-  None,
-  Result,
-  Ok,
-  Err,
-}
+use Rattle.std.specs.Prelude.{Contains, ◌≤◌, ◌≡◌, ◌≢◌, ℕ, ◌+◌, ◌-◌, ◌<◌, ◌^◌, true, false, List, [], ◌∷◌, ◌++◌, map, filter, not, Option, Some, None, Result, Ok, Err}
 use Rattle.std.specs.declared.alloc.AllocError.{AllocError}
 use Rattle.std.specs.List.{AllZip}
 use Rattle.repl_names.specs.StandbyList.{Listing}
@@ -38,30 +13,7 @@ use Rattle.repl_sync.specs.declared.certificate.Counted.{Counted}
 use Rattle.repl_sync.specs.declared.certificate.Certificate.{Certificate}
 use Rattle.repl_sync.specs.declared.certificate.Look.{Look}
 use Rattle.repl_sync.specs.declared.certificate.Look.TheVariants as look
-use Rattle.repl_sync.specs.State.{
-  Session,
-  Fate,
-  Ticket,
-  State,
-  knows,
-  changed,
-  connected,
-  starts,
-  stops,
-  reports,
-  tells,
-  is_numbered,
-  name_of,
-  standbys,
-  fate_of,
-  with_fate,
-  without,
-  cancels,
-  Prepared,
-  Waiting,
-  Released,
-  Cancelled,
-}
+use Rattle.repl_sync.specs.State.{Session, Fate, Ticket, State, knows, changed, connected, starts, stops, reports, tells, is_numbered, name_of, standbys, fate_of, with_fate, without, cancels, Prepared, Waiting, Released, Cancelled}
 
 -- what is asked of the state
 pub data Event : Type 0 where

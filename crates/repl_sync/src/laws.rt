@@ -1,10 +1,11 @@
-ghost use Rattle.std.specs.Prelude.{◌≡◌, ◌≢◌, ◌<◌, ◌≤◌, ℕ, List, [], map, length, All, Some};
+ghost use Rattle.std.specs.Prelude.{◌≡◌, ◌≢◌, ◌<◌, ◌≤◌, ℕ, List, [], map, length, All, Some, None};
 ghost use Rattle.repl_names.specs.StandbyList.{Listing, IsListing};
 ghost use Rattle.repl_names.specs.declared.quorum.Mode.{Mode};
 ghost use Rattle.repl_names.specs.Quorum.{Met, Differ};
 ghost use Rattle.repl_sync.specs.declared.certificate.Certificate.{Certificate};
+ghost use Rattle.repl_sync.specs.declared.certificate.Look.TheVariants as look;
 ghost use Rattle.repl_sync.specs.State.{Session, State, Released, fate_of, standbys, standing};
-ghost use Rattle.repl_sync.specs.Sync.{Event, Reply, SyncStep, Releases, IsCertificate, IsWaiting, IsSound, ToLook, NewTimeline, Prepare, Given, Done};
+ghost use Rattle.repl_sync.specs.Sync.{Event, Reply, SyncStep, Releases, IsCertificate, IsWaiting, IsSound, ToLook, NewTimeline, Prepare, Given, Looked, Done};
 
 /// A certificate tells of as many sessions as the list demands. Each is a candidate, has the position, and is told of by
 /// its number and name.
@@ -34,4 +35,10 @@ pub fn new_timeline_forgets()
 pub fn tickets_differ()
     ensures rises { (old new : State) (event : Event) (reply : Reply) → SyncStep old event reply new → old.last ≤ new.last }
     ensures given { (old new : State) (t : ℕ) → SyncStep old Prepare (Given t) new → (old.last < t) × (new.last ≡ t) }
+{}
+
+/// A ticket is answered once: who was told that the wait is over has handed the ticket back.
+pub fn answered_once()
+    ensures released { (old new : State) (t : ℕ) (c : Certificate) → SyncStep old (ToLook t) (Looked (look.Released c)) new → fate_of new.tickets t ≡ None }
+    ensures cancelled { (old new : State) (t : ℕ) → SyncStep old (ToLook t) (Looked look.Cancelled) new → fate_of new.tickets t ≡ None }
 {}

@@ -6,8 +6,9 @@
 //! changes nothing, and behind any other event exactly those waits are released at whose end the list is met by the
 //! sessions that stream. A ticket that was released has a certificate: the list of that moment, and those who met it.
 //! `prepare`, `connect` and `set_names` take all memory that later releases need, so that no other call takes any. The
-//! laws of steps stand on functions of their own: certificates are sound, a released ticket stays so, nobody waits
-//! without names, a new timeline leaves no report behind, and no ticket is given twice. Stands on `repl_names`.
+//! laws of steps stand on functions of their own: certificates are sound, a released ticket stays so until it is
+//! answered, once, nobody waits without names, a new timeline leaves no report behind, and no ticket is given twice.
+//! Stands on `repl_names`.
 //!
 //! ```text
 //! let mut state = SyncState::new(alloc);
@@ -40,8 +41,8 @@ mod ticket;
 pub use certificate::{Certificate, Counted, CountedList, Look};
 pub use fault::SyncFault;
 pub use laws::{
-    certificate_is_sound, new_timeline_forgets, none_waits_without_names, released_stays,
-    tickets_differ,
+    answered_once, certificate_is_sound, new_timeline_forgets, none_waits_without_names,
+    released_stays, tickets_differ,
 };
 pub use session::FeedbackValue;
 pub use state::SyncState;

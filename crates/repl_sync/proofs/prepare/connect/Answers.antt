@@ -1,26 +1,5 @@
 -- What `connect` needs and ensures.
-use Rattle.std.proofs.Common.{
-  ◌≡◌,
-  ◌≢◌,
-  ◌+◌,
-  ◌≤◌,
-  ℕ,
-  List,
-  [],
-  ◌∷◌,
-  ◌++◌,
-  length,
-  min,
-  All,
-  vec_len,
-  vec_capacity,
-  refl,
-  sym,
-  ap,
-  subst,
-  ◌∙◌,
-  arith,
-}
+use Rattle.std.proofs.Common.{◌≡◌, ◌≢◌, ◌+◌, ◌≤◌, ℕ, List, [], ◌∷◌, ◌++◌, length, min, All, vec_len, vec_capacity, refl, sym, ap, subst, ◌∙◌, arith}
 use Rattle.repl_sync.specs.declared.session.Entry.{Entry}
 use Rattle.repl_sync.specs.State.{State}
 use Rattle.repl_sync.specs.Sync.{Releases}

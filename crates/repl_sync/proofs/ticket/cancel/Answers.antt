@@ -4,18 +4,7 @@ use Rattle.repl_sync.specs.declared.holding.Progress.TheVariants as progress
 use Rattle.repl_sync.specs.declared.holding.Holding.{Holding}
 use Rattle.repl_sync.specs.State.{Ticket, Prepared}
 use Rattle.repl_sync.specs.Inside.{fate_in, with_tickets}
-use Rattle.repl_sync.proofs.Held.{
-  Found,
-  cancelled_found,
-  fate_found,
-  kept_gone,
-  kept_set,
-  no_fate,
-  no_ticket,
-  progress_again,
-  rest_found,
-  stands,
-}
+use Rattle.repl_sync.proofs.Held.{Found, cancelled_found, fate_found, kept_gone, kept_set, no_fate, no_ticket, progress_again, rest_found, stands}
 use Rattle.repl_sync.proofs.ticket.cancel.Goals as goal
 
 pub returns-in_default-clause-cancelled : goal.returns-in_default-clause-cancelled
