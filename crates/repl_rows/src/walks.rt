@@ -3,7 +3,7 @@ use crate::miss::{Answer, Miss};
 use crate::records::{ident, lay, place};
 use crate::values::number;
 use crate::words::{Call, debug, said};
-use repl_log::{WalkFault, walk};
+use repl_log::{Rest, RestStep, WalkFault, rest_on_page, walk, walk_behind_any};
 use repl_lsn::{Lsn, Tli};
 use repl_record::{BODY_LIMIT, WalkStep, Walker};
 use std::alloc::{AllocError, Global};
@@ -27,6 +27,9 @@ pub fn answer(alloc: Global, call: &Call) -> Answer {
     if let Some([size, place, byte, words @ ..]) = call.words("walked_fault") {
         return walked_fault(alloc, size, place, byte, words);
     }
+    if let Some([page, words @ ..]) = call.words("behind") {
+        return behind_of(alloc, page, words);
+    }
     Err(Miss::Call)
 }
 
@@ -49,6 +52,14 @@ fn walked_of(alloc: Global, size: &[u8], shown: &[u8], words: &[Vec<u8>]) -> Ans
     let log = log(alloc, words)?;
     match log.get(..shown as usize) {
         Some(front) => walked(alloc, front, size),
+        None => Err(Miss::Words),
+    }
+}
+
+fn behind_of(alloc: Global, page: &[u8], words: &[Vec<u8>]) -> Answer {
+    let from = number(page)?.saturating_mul(8192);
+    match log(alloc, words)?.get(from as usize..) {
+        Some(rest) => behind(alloc, rest, ORIGIN.saturating_add(from)),
         None => Err(Miss::Words),
     }
 }
@@ -218,5 +229,40 @@ fn told(alloc: Global, walker: &Walker, answer: Result<(), WalkFault>) -> Answer
     match answer {
         Ok(()) => Ok(format!(in alloc; "0x{start:x}-0x{end:x}")?.into_bytes()),
         Err(fault) => Ok(format!(in alloc; "0x{start:x}-0x{end:x} {fault}")?.into_bytes()),
+    }
+}
+
+/// What a log has of which all before this page is gone: how many bytes of a record are to come, where they end, and where
+/// the last whole record behind them starts and ends.
+fn behind(alloc: Global, log: &[u8], from: u64) -> Answer {
+    if log.len() < 24 {
+        return Err(Miss::Words);
+    }
+    let left = rest_on_page(log);
+    let (end, used) = rest(log, from, left)?;
+    let Some(records) = log.get(used..) else {
+        return Err(Miss::Call);
+    };
+    let mut walker = Walker::new(place(end.0)?, Lsn(0), ident()?);
+    if walker.position().0 >= 1 << 62 || records.len() as u64 >= 1 << 62 {
+        return Err(Miss::Words);
+    }
+    let answer = walk_behind_any(&mut walker, end, Tli(1), records);
+    let mut line = format!(in alloc; "{left} 0x{:x} ", end.0)?.into_bytes();
+    line.extend_from_slice(&told(alloc, &walker, answer)?)?;
+    Ok(line)
+}
+
+/// Where the rest of a record ends with which the page begins, and how many bytes it has; none where none goes on there.
+fn rest(log: &[u8], from: u64, left: u32) -> Result<(Lsn, usize), Miss> {
+    if from % 8192 != 0 || from >= 1 << 62 || log.len() as u64 >= 1 << 62 {
+        return Err(Miss::Words);
+    }
+    if left == 0 {
+        return Ok((Lsn(from), 0));
+    }
+    match Rest::new(Lsn(from), ident()?, left).step(Tli(1), log) {
+        RestStep::Whole { end, used } => Ok((end, used)),
+        _ => Err(Miss::Call),
     }
 }
