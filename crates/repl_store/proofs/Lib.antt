@@ -2,6 +2,12 @@ pub mod Places
 pub mod Names
 pub mod Carrying
 pub mod Standing
+pub mod Backed
+pub mod Turns
+pub mod Chaining
+pub mod Renewing
+pub mod Controls
+pub mod Pieces
 pub mod Reading
 pub mod Texts
 pub mod Asking

@@ -25,6 +25,7 @@ use Rattle.std.proofs.Common.{
 use Rattle.repl_control.specs.Control.{IsControl, FitsFields, control_bytes}
 use Rattle.repl_control.specs.declared.control.Control.{Control}
 use Rattle.repl_disk.specs.Folder.{Folder}
+use Rattle.repl_lsn.specs.Between.{AreBetween}
 use Rattle.repl_lsn.specs.History.{Path, InOrder, SaysHistory}
 use Rattle.repl_lsn.specs.Segment.{Fits, IsSegSize, history_name}
 use Rattle.repl_lsn.specs.Between.{AreBetween}

@@ -59,11 +59,16 @@ pub record Comes {A : Type 0} (result : Result A StoreFault) (old new : DiskStat
   pub no_memory : result ≡ Err fault.Memory → (s : State) × some s × Backs new head s
   pub failed : result ≡ Err fault.DiskFault → Rose old.faults new.faults
 
+-- what a store answers that does not do what it is asked for
+abbrev pub IsAnswer : StoreFault → Type 0
+IsAnswer f = (f ≡ fault.Broken) ⊎ (f ≡ fault.DiskFault) ⊎ (f ≡ fault.Memory)
+
 -- Each failure of the disk is told, and none is told without one: over a disk that lost a file it may be a lack.
 pub record IsCaused {A : Type 0} (result : Result A StoreFault) (old new : DiskState) : Type 0 where
   pub ok : OnOk result (Stood old.faults new.faults × Stood old.wants new.wants)
   pub failed : result ≡ Err fault.DiskFault → Rose old.faults new.faults ⊎ Rose old.lacks new.lacks
   pub no_memory : result ≡ Err fault.Memory → Stood old.faults new.faults
+  pub answers : IfErr result IsAnswer
 
 -- calls of the disk that only read: the files are as they were, and a crash leaves nothing new
 pub record OnlyReads (old new : DiskState) : Type 0 where

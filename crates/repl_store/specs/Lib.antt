@@ -1,5 +1,6 @@
 pub mod Durable
 pub mod Head
 pub mod Backing
+pub mod Tail
 pub mod Refusal
 pub mod Numbers

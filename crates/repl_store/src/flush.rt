@@ -1,12 +1,16 @@
 //! Making certain what was written, and the role of a store.
-ghost use Rattle.std.specs.Prelude.{◌≡◌, ◌↔◌, true, false, Err, OnOk, IfErr};
-ghost use Rattle.repl_store.specs.Backing.{Backs, Breaks, CanFlush, Comes, Either, IsCaused, State, flushed, flushed_control};
+ghost use Rattle.std.specs.Prelude.{◌≡◌, ◌≢◌, ◌↔◌, true, false, Err, OnOk, IfErr};
+ghost use Rattle.repl_counts.specs.Counts.{Rose};
+ghost use Rattle.repl_store.specs.Backing.{Backs, Before, Breaks, CanFlush, Comes, Either, IsCaused, State, flushed, flushed_control};
 ghost use Rattle.repl_store.specs.Head.{IsAt, Stands};
+ghost use Rattle.repl_store.specs.Tail.{SyncsAll};
 ghost use Rattle.repl_store.specs.declared.fault.StoreFault.TheVariants as StoreFault;
 
-use crate::fault::StoreFault;
+use crate::control::put_control;
+use crate::fault::{StoreFault, fault_of};
+use crate::head::Head;
 use crate::store::Store;
-use repl_control::Role;
+use repl_control::{Control, Role};
 use repl_disk::Disk;
 use repl_lsn::Lsn;
 
@@ -16,12 +20,15 @@ impl<D: Disk> Store<D> {
     /// memory but the disk's.
     pub fn flush(&mut self, whole: Lsn, prev: Lsn) -> Result<(), StoreFault>
         requires { CanFlush self.old.head self.old.head.control.role whole prev }
+        ensures still { flushed_control self.old.head.control self.old.head.control.role self.old.head.written whole prev ≡ self.old.head.control → self.new.disk ≡ self.old.disk }
         ensures broken { (result ≡ Err StoreFault.Broken) ↔ (self.old.broken ≡ true) }
         ensures idle { result ≡ Err StoreFault.Broken → self.new.disk ≡ self.old.disk }
         ensures breaks { Breaks result self.old.broken self.new.broken }
         ensures ok { OnOk result (Stands self.new.head self.old.head.size (flushed_control self.old.head.control self.old.head.control.role self.old.head.written whole prev) self.old.head.path self.old.head.written) }
         ensures stays { IfErr result (λ e. IsAt self.old.head self.new.head self.old.head.written) }
         ensures caused { IsCaused result (D.state self.old.disk) (D.state self.new.disk) }
+        // Memory is the disk's own.
+        ensures wants { result ≡ Err StoreFault.Memory → Rose (D.state self.old.disk).wants (D.state self.new.disk).wants }
         ensures keeps { D.keeps self.old.disk self.new.disk }
         ensures comes { (s : State) → Backs (D.state self.old.disk) self.old.head s →
             Comes result (D.state self.old.disk) (D.state self.new.disk) self.new.head
@@ -34,17 +41,110 @@ impl<D: Disk> Store<D> {
     /// The same, and gives the store this role, by one renaming.
     pub fn set_role(&mut self, role: Role, whole: Lsn, prev: Lsn) -> Result<(), StoreFault>
         requires { CanFlush self.old.head role whole prev }
+        ensures still { flushed_control self.old.head.control role self.old.head.written whole prev ≡ self.old.head.control → self.new.disk ≡ self.old.disk }
         ensures broken { (result ≡ Err StoreFault.Broken) ↔ (self.old.broken ≡ true) }
         ensures idle { result ≡ Err StoreFault.Broken → self.new.disk ≡ self.old.disk }
         ensures breaks { Breaks result self.old.broken self.new.broken }
         ensures ok { OnOk result (Stands self.new.head self.old.head.size (flushed_control self.old.head.control role self.old.head.written whole prev) self.old.head.path self.old.head.written) }
         ensures stays { IfErr result (λ e. IsAt self.old.head self.new.head self.old.head.written) }
         ensures caused { IsCaused result (D.state self.old.disk) (D.state self.new.disk) }
+        // Memory is the disk's own.
+        ensures wants { result ≡ Err StoreFault.Memory → Rose (D.state self.old.disk).wants (D.state self.new.disk).wants }
         ensures keeps { D.keeps self.old.disk self.new.disk }
         ensures comes { (s : State) → Backs (D.state self.old.disk) self.old.head s →
             Comes result (D.state self.old.disk) (D.state self.new.disk) self.new.head
             (Either s.durable (flushed s role whole prev).durable) (flushed s role whole prev) (λ t. t ≡ s) }
     {
-        unimplemented
+        if self.broken {
+            return Err(StoreFault::Broken);
+        }
+        let done = make_certain(&mut self.disk, &mut self.head, role, whole, prev);
+        self.remember(done)
+    }
+}
+
+/// Makes all written bytes certain, under a control with this role and these positions.
+fn make_certain<D: Disk>(
+    disk: &mut D,
+    head: &mut Head,
+    role: Role,
+    whole: Lsn,
+    prev: Lsn,
+) -> Result<(), StoreFault>
+    requires { CanFlush head.old role whole prev }
+    ensures still { flushed_control head.old.control role head.old.written whole prev ≡ head.old.control → disk.new ≡ disk.old }
+    ensures ok { OnOk result (Stands head.new head.old.size (flushed_control head.old.control role head.old.written whole prev) head.old.path head.old.written) }
+    ensures stays { IfErr result (λ e. IsAt head.old head.new head.old.written) }
+    ensures caused { IsCaused result (D.state disk.old) (D.state disk.new) }
+    ensures unbroken { result ≢ Err StoreFault.Broken }
+    ensures wants { result ≡ Err StoreFault.Memory → Rose (D.state disk.old).wants (D.state disk.new).wants }
+    ensures keeps { D.keeps disk.old disk.new }
+    ensures comes { (s : State) → Backs (D.state disk.old) head.old s →
+        Comes result (D.state disk.old) (D.state disk.new) head.new
+        (Either s.durable (flushed s role whole prev).durable) (flushed s role whole prev) (λ t. t ≡ s) }
+{
+    let control = Control {
+        role,
+        flushed: head.written,
+        whole,
+        prev,
+        ..head.control
+    };
+    if control == head.control {
+        return Ok(());
+    }
+    sync_tail(disk, head)?;
+    renew(disk, head, control)
+}
+
+/// Puts a control onto the disk that says that all bytes are flushed, which are synced.
+fn renew<D: Disk>(disk: &mut D, head: &mut Head, control: Control) -> Result<(), StoreFault>
+    requires synced { head.old.synced ≡ head.old.written }
+    requires flushed { control ≡ flushed_control head.old.control control.role head.old.written control.whole control.prev }
+    requires right { CanFlush head.old control.role control.whole control.prev }
+    ensures ok { OnOk result (Stands head.new head.old.size control head.old.path head.old.written) }
+    ensures stays { IfErr result (λ e. head.new ≡ head.old) }
+    ensures caused { IsCaused result (D.state disk.old) (D.state disk.new) }
+    ensures unbroken { result ≢ Err StoreFault.Broken }
+    ensures wants { result ≡ Err StoreFault.Memory → Rose (D.state disk.old).wants (D.state disk.new).wants }
+    ensures keeps { D.keeps disk.old disk.new }
+    ensures comes { (s : State) → Backs (D.state disk.old) head.old s →
+        Comes result (D.state disk.old) (D.state disk.new) head.new
+        (Either s.durable (flushed s control.role control.whole control.prev).durable)
+        (flushed s control.role control.whole control.prev) (λ t. t ≡ s) }
+{
+    match put_control(disk, &control) {
+        Ok(()) => {
+            head.control = control;
+            Ok(())
+        }
+        Err(error) => Err(fault_of(error)),
+    }
+}
+
+/// Makes the bytes certain that are not, which stand in one file.
+pub(crate) fn sync_tail<D: Disk>(disk: &mut D, head: &mut Head) -> Result<(), StoreFault>
+    ensures ok { OnOk result (SyncsAll head.old head.new) }
+    ensures stays { IfErr result (λ e. head.new ≡ head.old) }
+    ensures caused { IsCaused result (D.state disk.old) (D.state disk.new) }
+    ensures unbroken { result ≢ Err StoreFault.Broken }
+    ensures wants { result ≡ Err StoreFault.Memory → Rose (D.state disk.old).wants (D.state disk.new).wants }
+    ensures keeps { D.keeps disk.old disk.new }
+    ensures comes { (s : State) → Backs (D.state disk.old) head.old s →
+        Comes result (D.state disk.old) (D.state disk.new) head.new (Before s) s (λ t. t ≡ s) }
+{
+    if head.synced == head.written {
+        return Ok(());
+    }
+    let Some(name) = &head.unsynced else {
+        unreachable!()
+    };
+    match disk.sync(name) {
+        Ok(()) => {
+            head.synced = head.written;
+            head.unsynced = None;
+            Ok(())
+        }
+        Err(error) => Err(fault_of(error)),
     }
 }

@@ -1,5 +1,6 @@
 //! What a store has in memory.
-ghost use Rattle.std.specs.Prelude.{◌≡◌, ◌%◌};
+ghost use Rattle.std.specs.Prelude.{◌≡◌, ◌≤◌, ◌<◌, ◌+◌, ◌%◌};
+ghost use Rattle.repl_store.specs.Tail.{PutsBack};
 
 use repl_control::Control;
 use repl_lsn::{History, Lsn, SegSize};
@@ -38,5 +39,25 @@ impl Head {
         ensures { result ≡ at % self.now.size }
     {
         at.0 % u64::from(self.size.bytes())
+    }
+
+    /// How many bytes the segment of this position has from it on.
+    pub(crate) fn left_in_segment(&self, at: Lsn) -> usize
+        ensures value { result + at % self.now.size ≡ self.now.size }
+        ensures some { 0 < result }
+    {
+        (u64::from(self.size.bytes()) - self.place_in_segment(at)) as usize
+    }
+
+    /// Forgets the bytes behind this position.
+    pub(crate) fn put_back(&mut self, written: Lsn)
+        requires flushed { self.old.control.flushed ≤ written }
+        requires below { written ≤ self.old.written }
+        ensures { PutsBack self.old self.new written }
+    {
+        self.written = written;
+        if written < self.synced {
+            self.synced = written;
+        }
     }
 }
