@@ -1,6 +1,6 @@
 ghost use Rattle.std.specs.Prelude.{◌≡◌, ◌^◌, ◌↔◌, IsTrue};
 ghost use Rattle.repl_lsn.specs.Segment.{IsSegSize};
-ghost use Rattle.repl_control.specs.Control.{IsControl, IsPrev, IsRight, fresh_control, fields_of, role_number};
+ghost use Rattle.repl_control.specs.Control.{FitsFields, IsControl, IsPrev, IsRight, fresh_control, fields_of, role_number};
 ghost use Rattle.repl_control.specs.Control as field;
 
 use repl_lsn::{Lsn, SegSize, Tli, seg_of, seg_start};
@@ -72,6 +72,7 @@ impl Control {
     pub fn fresh(role: Role, sysid: u64, magic: u16, size: SegSize) -> Control
         ensures value { result ≡ fresh_control role sysid magic size }
         ensures right { IsControl size result }
+        ensures fits { FitsFields result }
     {
         let start = Lsn(u64::from(size.bytes()));
         Control {

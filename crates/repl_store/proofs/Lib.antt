@@ -13,3 +13,4 @@ pub mod Texts
 pub mod Asking
 pub mod Hearing
 pub mod Mounting
+pub mod Making

@@ -2,7 +2,7 @@
 use Rattle.std.proofs.Common.{◌≡◌, ◌≢◌, ◌⊎◌, ℕ, zero, suc, ◌+◌, ◌-◌, ◌*◌, ◌/◌, ◌%◌, ◌^◌, ◌<◌, ◌≤◌, min, List, [], ◌∷◌, ◌++◌, length, take, get_or, Option, Some, None, refl, sym, ◌∙◌, ap, subst, inl, inr, ⊎_elim, arith}
 use Rattle.std.proofs.Math.Nat.{mod-add-div', mod-lt}
 use Rattle.std.proofs.Math.Seq.{take-length}
-use Rattle.std.proofs.lemmas.List.{append-nil}
+use Rattle.std.proofs.lemmas.List.{append-nil, ext_get_or}
 use Rattle.std.proofs.lemmas.Nat.{le-div}
 use Rattle.repl_control.proofs.Spelled.{control_one}
 use Rattle.repl_control.specs.Control.{FitsFields, IsControl, SpellsControl, control_bytes}
@@ -22,7 +22,7 @@ use Rattle.repl_store.specs.Refusal.{HasControl, IsEnough, IsHeld, IsLackOf, IsR
 use Rattle.repl_store.specs.declared.fault.StoreFault.{StoreFault}
 use Rattle.repl_store.specs.declared.fault.StoreFault.TheVariants as fault
 use Rattle.repl_lsn.specs.declared.history.Part.{Part}
-use Rattle.repl_store.proofs.Hearing.{known_exists}
+use Rattle.repl_store.proofs.Hearing.{known_exists, one_known}
 
 -- ---- facts where files are told
 
@@ -218,3 +218,29 @@ mounted_backs old new head size folder d told stayed none_new mounted stands ima
         let C : ℕ → Type 0 = λ n. Carries n image head.path head.control.floor d.bytes in
         let D : List ℕ → Type 0 = λ l. Carries head.size image head.path head.control.floor l in
         subst D (sym (append-nil d.bytes)) (subst C (sym same) (subst B path (subst A control carries)))
+
+-- ---- one store
+
+-- two lists that the files carry from one position on, of one length
+carried_one : (size : ℕ) (folder : Folder) (path : Path) (floor : ℕ) (a b : List ℕ) → length a ≡ length b → Carries size folder path floor a
+    → Carries size folder path floor b → a ≡ b
+carried_one size folder path floor a b same is_a is_b =
+    ext_get_or 0 a b same (λ i lt. sym (is_a.same i lt) ∙ is_b.same i (omega (arith, lt, same)))
+
+durable_of : Control → Path → List ℕ → ℕ → Durable
+durable_of control path bytes known = record { control = control; path = path; bytes = bytes; known = known }
+
+pub durable_one : (size : ℕ) (folder : Folder) (a b : Durable) → StandsFor size folder a → StandsFor size folder b → a ≡ b
+unfolding durable_of
+durable_one size folder a b is_a is_b =
+    let control = one_control_of size folder a b is_a is_b in
+    let path = one_path_of size folder a b is_a is_b in
+    let floor = ap (λ (c : Control). c.floor) control in
+    let length_is : length a.bytes ≡ length b.bytes = omega (arith, is_a.counted, is_b.counted, floor, ap (λ (c : Control). c.flushed) control) in
+    let P : Path → Type 0 = λ p. Carries size folder p b.control.floor a.bytes in
+    let Q : ℕ → Type 0 = λ n. Carries size folder a.path n a.bytes in
+    let bytes = carried_one size folder b.path b.control.floor a.bytes b.bytes length_is (subst P path (subst Q floor is_a.carries)) is_b.carries in
+    let K : ℕ → Type 0 = λ n. IsKnown folder n a.known in
+    let known = one_known folder b.control.tli a.known b.known is_b.fits.timeline.0 (subst K (ap (λ (c : Control). c.tli) control) is_a.known) is_b.known in
+    ap (λ c. durable_of c a.path a.bytes a.known) control ∙ ap (λ p. durable_of b.control p a.bytes a.known) path
+    ∙ ap (λ l. durable_of b.control b.path l a.known) bytes ∙ ap (λ k. durable_of b.control b.path b.bytes k) known

@@ -5,6 +5,7 @@ use Rattle.repl_control.specs.declared.control.Control.{Control}
 use Rattle.repl_lsn.specs.History.{Path, IsPath}
 use Rattle.repl_lsn.specs.Segment.{IsSegSize}
 use Rattle.repl_lsn.specs.Between.{AreBetween}
+use Rattle.repl_store.specs.declared.store.StoreStatus.{StoreStatus}
 use Rattle.repl_store.specs.Durable.{Durable, segment_file}
 
 pub record Head : Type 0 where
@@ -44,6 +45,10 @@ pub record Held (D : Type 0) : Type 0 where
   -- a call of the disk failed since the store was mounted
   pub broken : Bool
 
+-- the store over another disk
+abbrev pub with_disk : {D : Type 0} → Held D → D → Held D
+with_disk held disk = record { disk = disk; head = held.head; broken = held.broken }
+
 -- the store has this control and path, and bytes up to this end, which are on the disk as far as they were
 pub record Stands (head : Head) (size : ℕ) (control : Control) (path : Path) (written : ℕ) : Type 0 where
   pub same_size : head.size ≡ size
@@ -61,3 +66,17 @@ pub record IsMounted (head : Head) (size : ℕ) (d : Durable) : Type 0 where
   pub same_control : head.control ≡ d.control
   pub same_path : head.path ≡ d.path
   pub flushed : (head.written ≡ d.control.flushed) × (head.synced ≡ d.control.flushed)
+
+-- what a store tells of itself
+abbrev pub status_of : Head → StoreStatus
+status_of head = record {
+  sysid = head.control.sysid;
+  role = head.control.role;
+  tli = head.control.tli;
+  floor = head.control.floor;
+  whole = head.control.whole;
+  flushed = head.control.flushed;
+  written = head.written;
+  ident = record { sysid = head.control.sysid; magic = head.control.magic; size = head.size };
+  prev = head.control.prev;
+}

@@ -4,3 +4,4 @@ pub mod Backing
 pub mod Tail
 pub mod Refusal
 pub mod Numbers
+pub mod Creating

@@ -1,1 +1,89 @@
-//! stub
+//! Making a store.
+ghost use Rattle.std.specs.Prelude.{◌≡◌, ◌≢◌, ◌⊎◌, ℕ, [], false, Some, None, Ok, Err, IsSome, IfOk, IfErr, OnOk, MatchResult};
+ghost use Rattle.repl_control.specs.Control.{FitsFields, IsControl, control_bytes, fresh_control};
+ghost use Rattle.repl_control.specs.declared.control.TheConstants.{VERSION_1_SIZE};
+ghost use Rattle.repl_disk.specs.Crash.{LeavesOnly};
+ghost use Rattle.repl_disk.specs.Folder.{Folder, IfTold};
+ghost use Rattle.repl_disk.specs.Replacing.{IsBeforeOrAfter};
+ghost use Rattle.repl_store.specs.Backing.{Backs, IsCaused};
+ghost use Rattle.repl_store.specs.Creating.{IsMade, IsMaking, IsUnmade, fresh};
+ghost use Rattle.repl_store.specs.Durable.{IsKnown, StandsFor, control_aside, control_name};
+ghost use Rattle.repl_store.specs.Head.{IsMounted};
+ghost use Rattle.repl_store.specs.declared.fault.StoreFault.TheVariants as StoreFault;
+
+use crate::control::{CONTROL, put_control};
+use crate::fault::{StoreFault, fault_of};
+use crate::head::Head;
+use crate::store::Store;
+use repl_control::{Control, Role};
+use repl_disk::{Disk, DiskError};
+use repl_lsn::{History, Tli};
+use repl_page::Ident;
+use std::alloc::Global;
+
+impl<D: Disk> Store<D> {
+    /// Makes a store on a disk that has none: its log begins with its second segment, at the size of a segment, on
+    /// timeline 1, and has no byte. Other files that are there stay, and are passed over but for histories. Where a control
+    /// is there it is refused, and nothing changes.
+    pub fn create(
+        alloc: Global,
+        disk: D,
+        ident: Ident,
+        role: Role,
+    ) -> Result<Store<D>, (StoreFault, D)>
+        requires { ident.size ≡ VERSION_1_SIZE }
+        ensures fresh { IfOk result (λ store. (store.broken ≡ false) × IsMounted store.head VERSION_1_SIZE (fresh role ident 1)) }
+        // There was no control, and from here on every image is the new store.
+        ensures made { IfOk result (λ store. IfTold (D.state disk).files (λ folder. (folder control_name ≡ None)
+            × ((image : Folder) → (D.state store.disk).may_leave image → (known : ℕ) × StandsFor VERSION_1_SIZE image (fresh role ident known)))) }
+        // Where all images have heard of the same timelines, the store and its files hang together.
+        ensures backs { IfOk result (λ store. (known : ℕ) → IsSome (D.state disk).files
+            → ((image : Folder) → (D.state disk).may_leave image → IsKnown image 1 known)
+            → Backs (D.state store.disk) store.head (record { durable = fresh role ident known; unflushed = [] })) }
+        ensures refused { IfErr result (λ e. IsUnmade (D.state disk).files e.0) }
+        // A crash leaves what one before might have left, or the new store.
+        ensures moments { IfTold (D.state disk).files (λ folder. MatchResult result
+            (λ store. LeavesOnly (D.state disk) (D.state store.disk) (IsMaking (D.state disk).may_leave role ident))
+            (λ e. LeavesOnly (D.state disk) (D.state e.1) (IsMaking (D.state disk).may_leave role ident))) }
+        ensures caused { MatchResult result (λ store. IsCaused (Ok store) (D.state disk) (D.state store.disk))
+            (λ e. IsCaused {A = Store D} (Err e.0) (D.state disk) (D.state e.1)) }
+        ensures keeps { MatchResult result (λ store. D.keeps disk store.disk) (λ e. D.keeps disk e.1) }
+    {
+        let mut disk = disk;
+        let control = Control::fresh(role, ident.sysid, ident.magic, ident.size);
+        match make(&mut disk, &control) {
+            Ok(()) => Ok(Store {
+                disk,
+                head: Head {
+                    size: ident.size,
+                    control,
+                    history: History::first(alloc, Tli(1)),
+                    written: control.flushed,
+                    synced: control.flushed,
+                    unsynced: None,
+                },
+                broken: false,
+            }),
+            Err(fault) => Err((fault, disk)),
+        }
+    }
+}
+
+/// Puts the first control onto a disk that has none.
+fn make<D: Disk>(disk: &mut D, control: &Control) -> Result<(), StoreFault>
+    ensures made { OnOk result (IfTold (D.state disk.old).files (λ folder. IsMade (D.state disk.old) (D.state disk.new) folder (control_bytes control.now))) }
+    ensures refused { IfErr result (λ e. IsUnmade (D.state disk.old).files e) }
+    ensures moments { IfTold (D.state disk.old).files (λ folder. LeavesOnly (D.state disk.old) (D.state disk.new)
+        (IsBeforeOrAfter (D.state disk.old).may_leave control_name control_aside (control_bytes control.now))) }
+    ensures caused { IsCaused result (D.state disk.old) (D.state disk.new) }
+    ensures keeps { D.keeps disk.old disk.new }
+{
+    match disk.size(CONTROL) {
+        Ok(_) => Err(StoreFault::Exists),
+        Err(DiskError::Missing) => match put_control(disk, control) {
+            Ok(()) => Ok(()),
+            Err(error) => Err(fault_of(error)),
+        },
+        Err(error) => Err(fault_of(error)),
+    }
+}

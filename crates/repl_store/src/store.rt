@@ -1,5 +1,8 @@
 //! A store over a disk.
 ghost use Rattle.std.specs.Prelude.{◌≡◌};
+ghost use Rattle.std.specs.Borrow.{Lends, sem};
+ghost use Rattle.repl_store.specs.contracts.store.Store.{the_row};
+ghost use Rattle.repl_store.specs.Head.{IsHead, status_of, with_disk};
 
 use crate::head::Head;
 use repl_control::Role;
@@ -47,7 +50,10 @@ pub struct StoreStatus {
 impl<D: Disk> Store<D> {
     /// What the store is, and how far it stands. After a failure of the disk that is the state from before the call that
     /// failed.
-    pub fn status(&self) -> StoreStatus {
+    pub fn status(&self) -> StoreStatus
+        ensures told { result ≡ status_of self.now.head }
+        ensures right { IsHead self.now.head }
+    {
         let control = self.head.control;
         StoreStatus {
             sysid: control.sysid,
@@ -73,8 +79,12 @@ impl<D: Disk> Store<D> {
         &self.head.history
     }
 
-    /// The disk.
-    pub fn disk_mut(&mut self) -> &mut D {
+    /// The disk. What the borrower leaves is the store's disk; the rest of the store stays. A store goes on with its files
+    /// where, at every moment, all names but `slots` and `slots.tmp` stay as they were.
+    pub fn disk_mut(&mut self) -> &mut D
+        ensures value { result.now ≡ self.old.disk }
+        ensures* writes_back { sem 𝓛 (Lends (the_row D.row D.Disk) D.row self.entry result (with_disk self.old)) }
+    {
         &mut self.disk
     }
 

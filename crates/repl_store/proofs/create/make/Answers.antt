@@ -1,0 +1,21 @@
+-- A replacement behind a look whether the control is there.
+use Rattle.std.proofs.Common.{◌≡◌, Some, ◌∙◌}
+use Rattle.repl_disk.specs.Runs.{where_told}
+use Rattle.repl_store.specs.Durable.{control_aside, control_name}
+use Rattle.repl_control.specs.Control.{control_bytes}
+use Rattle.repl_store.proofs.Making.{replaced_later}
+use Rattle.repl_store.proofs.create.make.Goals as goal
+
+pub returns-in-Ok-put_control-clause-moments : goal.returns-in-Ok-put_control-clause-moments
+returns-in-Ok-put_control-clause-moments g c =
+    let state = g.D.Disk.state in
+    where_told _ _ (λ folder told. replaced_later (state c.args.disk.now) (state c.size.new.self) (state c.put_control.new.disk) folder control_name
+    control_aside (control_bytes c.args.control.now) (g.met.D.Disk.only_now c.args.disk.now) c.size.ensures.crash c.size.ensures.ends.time
+    (c.size.ensures.files ∙ told) c.put_control.ensures.any_moment)
+
+pub returns-in-Err-put_control-clause-moments : goal.returns-in-Err-put_control-clause-moments
+returns-in-Err-put_control-clause-moments g c =
+    let state = g.D.Disk.state in
+    where_told _ _ (λ folder told. replaced_later (state c.args.disk.now) (state c.size.new.self) (state c.put_control.new.disk) folder control_name
+    control_aside (control_bytes c.args.control.now) (g.met.D.Disk.only_now c.args.disk.now) c.size.ensures.crash c.size.ensures.ends.time
+    (c.size.ensures.files ∙ told) c.put_control.ensures.any_moment)

@@ -1,0 +1,45 @@
+-- Making a store.
+use Rattle.std.specs.Prelude.{◌≡◌, ℕ, ◌⊎◌, List, [], Some, None, IsSome}
+use Rattle.repl_control.specs.Control.{fresh_control}
+use Rattle.repl_control.specs.declared.control.Role.{Role}
+use Rattle.repl_control.specs.declared.control.TheConstants.{VERSION_1_SIZE}
+use Rattle.repl_disk.specs.Folder.{Folder, IfTold, ToldFiles}
+use Rattle.repl_disk.specs.Replacing.{IsAfter, replaced}
+use Rattle.repl_disk.specs.State.{DiskState}
+use Rattle.repl_page.specs.declared.ident.Ident.{Ident}
+use Rattle.repl_store.specs.Durable.{Durable, StandsFor, control_aside, control_name}
+use Rattle.repl_store.specs.declared.fault.StoreFault.{StoreFault}
+use Rattle.repl_store.specs.declared.fault.StoreFault.TheVariants as fault
+
+-- a new store, which has heard of timelines up to this number
+abbrev pub fresh : Role → Ident → ℕ → Durable
+fresh role ident known = record {
+  control = fresh_control role ident.sysid ident.magic VERSION_1_SIZE;
+  path = record { own = 1; parents = [] };
+  bytes = [];
+  known = known;
+}
+
+-- the image is one from before, but for the control's temporary file, or a new store
+pub record IsMaking (old : Folder → Type 0) (role : Role) (ident : Ident) (image : Folder) : Type 0 where
+  pub before : Folder
+  pub was : old before
+  pub is : ((name : List ℕ) → (name ≡ control_aside → ⊥) → image name ≡ before name)
+      ⊎ ((known : ℕ) × StandsFor VERSION_1_SIZE image (fresh role ident known))
+
+-- the first control stands on the disk
+pub record IsMade (old new : DiskState) (folder : Folder) (bytes : List ℕ) : Type 0 where
+  pub none : folder control_name ≡ None
+  pub reads : new.files ≡ Some (replaced folder control_name control_aside bytes)
+  pub images : (image : Folder) → new.may_leave image → IsAfter old.may_leave control_name control_aside bytes image
+
+-- no store is made: one is there, or the disk failed
+abbrev pub IsUnmade : ToldFiles → StoreFault → Type 0
+IsUnmade told fault.Broken = ⊥
+IsUnmade told fault.Exists = IfTold told (λ folder. IsSome (folder control_name))
+IsUnmade told (fault.Missing name) = ⊥
+IsUnmade told (fault.BadControl place) = ⊥
+IsUnmade told (fault.BadHistory tli wrong) = ⊥
+IsUnmade told (fault.ShortFile name have wanted) = ⊥
+IsUnmade told fault.DiskFault = Unit {0}
+IsUnmade told fault.Memory = Unit {0}
