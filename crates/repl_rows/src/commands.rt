@@ -1,7 +1,6 @@
 //! Commands of replication.
-use crate::miss::{Answer, Miss};
-use crate::words::{Call, debug, said};
 use repl_cmd::{ParameterName, SlotName, parse_command, print_command};
+use repl_table::{Answer, Call, Miss, debug, said};
 use repl_text::is_slot_name;
 use std::alloc::Global;
 

@@ -1,10 +1,8 @@
 //! The control file of a store.
-use crate::miss::{Answer, Miss};
 use crate::segments::{size, timeline};
-use crate::values::{number, short};
-use crate::words::{Call, debug};
 use repl_control::{Control, Role, read_control, write_control};
 use repl_lsn::Lsn;
+use repl_table::{Answer, Call, Miss, debug, number, short};
 use std::alloc::Global;
 
 pub fn answer(alloc: Global, call: &Call) -> Answer {

@@ -1,13 +1,11 @@
 //! Payloads of the copy stream.
 use crate::messages::bytes_of;
-use crate::miss::{Answer, Miss};
-use crate::values::{number, short, text};
-use crate::words::{Call, debug, joined, said};
 use bytes::Bytes;
 use repl_copy::{
     CopyFault, Reply, Stream, WAL_LIMIT, decode_reply, decode_stream, encode_reply, encode_stream,
 };
 use repl_lsn::Lsn;
+use repl_table::{Answer, Call, Miss, debug, joined, number, said, short, text};
 use std::alloc::Global;
 
 pub fn answer(alloc: Global, call: &Call) -> Answer {

@@ -1,8 +1,6 @@
 //! A disk in memory, which stays from one row of the subject to the next.
-use crate::miss::{Answer, Miss};
-use crate::values::{number, text};
-use crate::words::{Call, debug, joined, said};
 use repl_disk::{Disk, DiskError, MemoryDisk, replace};
+use repl_table::{Answer, Call, Miss, debug, joined, number, said, text};
 use std::alloc::Global;
 use std::mem;
 

@@ -1,11 +1,9 @@
 //! Histories of timelines: what is read, refused and printed.
-use crate::miss::{Answer, Miss};
 use crate::segments::timeline;
-use crate::values::number;
-use crate::words::{Call, debug, joined, said};
 use repl_lsn::{
     History, Line, Lsn, Part, Parts, history_text, parse_history, parse_history_between,
 };
+use repl_table::{Answer, Call, Miss, debug, joined, number, said};
 use std::alloc::Global;
 
 pub fn answer(alloc: Global, call: &Call) -> Answer {

@@ -1,7 +1,6 @@
 //! Lists of synchronous standbys.
-use crate::miss::{Answer, Miss};
-use crate::words::{Call, debug, joined, said};
 use repl_names::{Setting, StandbyList, parse_names, print_names, priority};
+use repl_table::{Answer, Call, Miss, debug, joined, said};
 use std::alloc::Global;
 
 pub fn answer(alloc: Global, call: &Call) -> Answer {

@@ -1,12 +1,10 @@
 //! Messages in words, and how they are spelled on the wire.
-use crate::miss::{Answer, Miss};
 use crate::server_words::{back, error_fields};
-use crate::values::{short, text};
-use crate::words::{Call, debug, joined, said};
 use bytes::Bytes;
 use repl_message::{
     Back, EncodeFault, Front, Pair, Pairs, Startup, Text, encode_back, encode_front, encode_startup,
 };
+use repl_table::{Answer, Call, Miss, debug, joined, said, short, text};
 use std::alloc::Global;
 
 /// The message is spelled behind the bytes of the first word.

@@ -1,10 +1,8 @@
 //! Headers of pages.
-use crate::miss::{Answer, Miss};
 use crate::segments::{size, timeline};
-use crate::values::{number, short};
-use crate::words::{Call, debug, said};
 use repl_lsn::Lsn;
 use repl_page::{Ident, PageHeader, check_header, header_size, write_header};
+use repl_table::{Answer, Call, Miss, debug, number, said, short};
 use std::alloc::Global;
 
 pub fn answer(alloc: Global, call: &Call) -> Answer {

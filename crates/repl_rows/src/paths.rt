@@ -3,11 +3,9 @@ ghost use Rattle.std.specs.Prelude.{◌≡◌};
 ghost use Rattle.repl_lsn.specs.History.{last_switch};
 
 use crate::histories::{history, shown};
-use crate::miss::{Answer, Miss};
 use crate::segments::timeline;
-use crate::values::number;
-use crate::words::{Call, apart, debug, said};
 use repl_lsn::{History, Lsn, Tli};
+use repl_table::{Answer, Call, Miss, apart, debug, number, said};
 use std::alloc::Global;
 
 pub fn answer(alloc: Global, call: &Call) -> Answer {

@@ -1,8 +1,6 @@
 //! Positions and timelines.
-use crate::miss::{Answer, Miss};
-use crate::values::{number, short};
-use crate::words::{Call, said};
 use repl_lsn::{Lsn, Tli};
+use repl_table::{Answer, Call, Miss, number, said, short};
 use std::alloc::Global;
 
 pub fn answer(alloc: Global, call: &Call) -> Answer {

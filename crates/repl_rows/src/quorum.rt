@@ -1,10 +1,8 @@
 //! Up to where commits are released.
 use crate::lists::list;
-use crate::miss::{Answer, Miss};
-use crate::values::{number, pieces, short};
-use crate::words::{Call, debug, said};
 use repl_lsn::Lsn;
 use repl_names::{Candidate, Method, Mode, StandbyList, are_different, put_counted, released};
+use repl_table::{Answer, Call, Miss, debug, number, pieces, said, short};
 use std::alloc::Global;
 
 pub fn answer(alloc: Global, call: &Call) -> Answer {

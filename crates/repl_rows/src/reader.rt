@@ -2,9 +2,7 @@
 ghost use Rattle.std.specs.Prelude.{OnOk};
 ghost use Rattle.repl_wire.specs.Reader.{Waits};
 
-use crate::miss::{Answer, Miss};
-use crate::values::{number, text};
-use crate::words::{Call, joined, said};
+use repl_table::{Answer, Call, Miss, joined, number, said, text};
 use repl_wire::{FrameReader, Message, PIECE_LIMIT, Side, Step, WireFault, length_of};
 use std::alloc::{AllocError, Global};
 

@@ -1,12 +1,10 @@
 //! Checksums of records, and how records are laid out.
 ghost use Rattle.std.specs.Prelude.{◌≡◌, ◌%◌, ◌^◌, ◌≤◌, IfOk};
 
-use crate::miss::{Answer, Miss};
-use crate::values::{number, short};
-use crate::words::{Call, debug};
 use bytes::Bytes;
 use repl_lsn::{Lsn, SegSize, Tli};
 use repl_record::{Ident, Laid, RecordIn, RecordRefusal, crc32c, lay_out};
+use repl_table::{Answer, Call, Miss, debug, number, short};
 use std::alloc::Global;
 
 pub fn answer(alloc: Global, call: &Call) -> Answer {

@@ -1,11 +1,9 @@
 //! Segments of the log, and the names of files.
-use crate::miss::{Answer, Miss};
-use crate::values::{number, short};
-use crate::words::{Call, debug, said};
 use repl_lsn::{
     Lsn, PlaceFault, SegNo, SegSize, Tli, history_name, parse_partial_name, parse_seg_name,
     partial_name, seg_name, seg_of, seg_start,
 };
+use repl_table::{Answer, Call, Miss, debug, number, said, short};
 use std::alloc::Global;
 
 pub fn answer(alloc: Global, call: &Call) -> Answer {

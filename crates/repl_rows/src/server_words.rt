@@ -1,11 +1,9 @@
 //! Messages of a server in words.
 use crate::messages::{bytes_of, text_of};
-use crate::miss::{Answer, Miss};
-use crate::values::{short, text};
-use crate::words::{Call, joined};
 use repl_message::{
     Back, Column, Columns, ErrorField, ErrorFields, Field, Fields, Formats, TransactionStatus,
 };
+use repl_table::{Answer, Call, Miss, joined, short, text};
 use std::alloc::{AllocError, Global};
 
 /// The message of these words.

@@ -1,11 +1,9 @@
 //! Replication slots, and the disk that keeps them. Both stay from one row of the subject to the next.
 use crate::disks;
-use crate::miss::{Answer, Miss};
-use crate::values::{number, text};
-use crate::words::{Call, debug, is, joined, said};
 use repl_disk::MemoryDisk;
 use repl_lsn::Lsn;
 use repl_slots::{Slot, SlotFault, Slots, read_slots};
+use repl_table::{Answer, Call, Miss, debug, is, joined, number, said, text};
 use std::alloc::Global;
 
 /// The calls of a disk that a save makes.

@@ -1,11 +1,9 @@
 //! Links in memory, and the streams of std.
-use crate::miss::{Answer, Miss};
 use crate::sinks::ByteSink;
-use crate::values::{number, text};
-use crate::words::{Call, apart, debug, joined, said};
 use repl_io::{
     Link, LinkStep, ScriptLink, Sink, Source, StdSink, StdSource, SteadyLink, write_all,
 };
+use repl_table::{Answer, Call, Miss, apart, debug, joined, number, said, text};
 use std::alloc::{AllocError, Global};
 
 pub fn answer(alloc: Global, call: &Call) -> Answer {

@@ -1,11 +1,9 @@
 //! Histories of sessions, tickets and reports.
 use crate::lists::list;
-use crate::miss::{Answer, Miss};
-use crate::values::{number, pieces};
-use crate::words::{Call, debug, said};
 use repl_lsn::Lsn;
 use repl_names::{Mode, print_names};
 use repl_sync::{Certificate, Look, SyncFault, SyncState};
+use repl_table::{Answer, Call, Miss, debug, number, pieces, said};
 use repl_text::is_text;
 use std::alloc::Global;
 

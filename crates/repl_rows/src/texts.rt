@@ -1,8 +1,6 @@
 //! Texts of the protocol, and counts.
-use crate::miss::{Answer, Miss};
-use crate::values::number;
-use crate::words::{Call, debug, joined, said};
 use repl_counts::Count;
+use repl_table::{Answer, Call, Miss, debug, joined, number, said};
 use repl_text::{Text, is_text};
 use std::alloc::Global;
 

@@ -2,8 +2,7 @@
 ghost use Rattle.std.specs.Prelude.{◌≡◌};
 ghost use Rattle.repl_cmd.specs.Token.{command_class};
 
-use crate::miss::{Answer, Miss};
-use crate::words::Call;
+use repl_table::{Answer, Call, Miss};
 use repl_token::{Class, Lexicon, Token, next_token};
 use std::alloc::Global;
 

@@ -1,10 +1,8 @@
 //! The program's work on words and streams: how it ends, and what it writes.
-use crate::miss::{Answer, Miss};
 use crate::sinks::ByteSink;
 use crate::streams::script;
-use crate::values::{number, text};
-use crate::words::{Call, debug, joined, said};
 use repl_io::{Source, SteadyLink};
+use repl_table::{Answer, Call, Miss, debug, joined, number, said, text};
 use repl_top::{Status, run_tool, status_line, status_number};
 use std::alloc::{AllocError, Global};
 

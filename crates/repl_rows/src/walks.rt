@@ -1,11 +1,9 @@
 //! Walks over the log.
-use crate::miss::{Answer, Miss};
 use crate::records::{ident, lay, place};
-use crate::values::number;
-use crate::words::{Call, debug, said};
 use repl_log::{Rest, RestStep, WalkFault, rest_on_page, walk, walk_behind_any};
 use repl_lsn::{Lsn, Tli};
 use repl_record::{BODY_LIMIT, WalkStep, Walker};
+use repl_table::{Answer, Call, Miss, debug, number, said};
 use std::alloc::{AllocError, Global};
 
 /// Where the logs begin.

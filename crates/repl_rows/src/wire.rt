@@ -1,9 +1,7 @@
 //! Reading messages.
 use crate::messages::{front_words, startup_words};
-use crate::miss::{Answer, Miss};
 use crate::server_words::back_words;
-use crate::values::text;
-use crate::words::{Call, debug, joined, said};
+use repl_table::{Answer, Call, Miss, debug, joined, said, text};
 use repl_wire::{Message, Phase, Taken, judge_head, take};
 use std::alloc::Global;
 

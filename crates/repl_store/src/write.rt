@@ -121,7 +121,7 @@ fn sync_full<D: Disk>(disk: &mut D, head: &mut Head) -> Result<(), StoreFault>
     ensures comes { (s : State) → Backs (D.state disk.old) head.old s →
         Comes result (D.state disk.old) (D.state disk.new) head.new (Before s) s (λ t. t ≡ s) }
 {
-    if head.written.0 % u64::from(head.size.bytes()) == 0 {
+    if head.place_in_segment(head.written) == 0 {
         sync_tail(disk, head)
     } else {
         Ok(())

@@ -1,26 +1,36 @@
 use crate::miss::{Answer, Miss};
 use crate::values::{Names, text, words_of};
-use crate::words::{Call, is};
-use crate::{
-    commands, controls, copies, disks, histories, lists, messages, pages, paths, positions, quorum,
-    reader, records, segments, slots, streams, sync, texts, tokens, tools, walks, wire,
-};
-use repl_disk::MemoryDisk;
-use repl_slots::Slots;
+use crate::words::Call;
 use std::alloc::Global;
 use std::io;
 
+/// What makes the calls of a table's rows.
+pub trait Rows {
+    /// What a call of this subject answers.
+    fn answer(&mut self, alloc: Global, subject: &str, call: &Call) -> Answer;
+}
+
+/// Reads the table on standard input, and prints of each subject how many of its rows hold.
+pub fn count_rows<R: Rows + Drop>(
+    rt: &(impl Input + Print + AllocGlobal),
+    rows: R,
+) -> io::Result<()> {
+    let text = io::read_to_string(rt.alloc(), rt.reader())?;
+    let mut table = Table::new(rt.alloc(), rows);
+    for line in text.lines() {
+        table.take(rt, line.trim())?;
+    }
+    table.end(rt)
+}
+
 /// A table that is read: its names, and how many rows of the subject hold.
 #[derive(Drop)]
-pub struct Table {
+struct Table<R: Rows + Drop> {
     alloc: Global,
     names: Names,
     subject: String,
     held: u64,
-    /// The disk of the subjects `disk` and `slots`, which rows change.
-    disk: MemoryDisk,
-    /// The slots of the subject `slots`, which rows change.
-    slots: Slots,
+    rows: R,
 }
 
 /// A row, without its words' spelling.
@@ -30,20 +40,19 @@ struct Row {
     answer: Vec<u8>,
 }
 
-impl Table {
-    pub fn new(alloc: Global) -> Table {
+impl<R: Rows + Drop> Table<R> {
+    fn new(alloc: Global, rows: R) -> Table<R> {
         Table {
             alloc,
             names: Names::new(alloc),
             subject: String::new(alloc),
             held: 0,
-            disk: MemoryDisk::new(alloc, Vec::new(alloc)),
-            slots: Slots::new(alloc),
+            rows,
         }
     }
 
     /// Takes a line of the table.
-    pub fn take(&mut self, rt: &impl Print, line: &str) -> io::Result<()> {
+    fn take(&mut self, rt: &impl Print, line: &str) -> io::Result<()> {
         if line.is_empty() || line.starts_with('#') {
             return Ok(());
         }
@@ -61,7 +70,7 @@ impl Table {
     }
 
     /// Ends the subject, and prints how many of its rows hold.
-    pub fn end(&mut self, rt: &impl Print) -> io::Result<()> {
+    fn end(&mut self, rt: &impl Print) -> io::Result<()> {
         if self.subject.is_empty() {
             return Ok(());
         }
@@ -128,78 +137,6 @@ impl Table {
             return Err(Miss::Words);
         };
         let call = Call::new(text(name)?, words);
-        let subject = self.subject.as_str();
-        if is(subject, "disk") {
-            return disks::answer(self.alloc, &mut self.disk, &call);
-        }
-        if is(subject, "slots") {
-            return slots::answer(self.alloc, &mut self.disk, &mut self.slots, &call);
-        }
-        library(self.alloc, subject, &call)
+        self.rows.answer(self.alloc, self.subject.as_str(), &call)
     }
-}
-
-/// What the call answers, of the subjects that keep nothing from row to row.
-fn library(alloc: Global, subject: &str, call: &Call) -> Answer {
-    if is(subject, "texts") {
-        return texts::answer(alloc, call);
-    }
-    if is(subject, "streams") {
-        return streams::answer(alloc, call);
-    }
-    if is(subject, "positions") {
-        return positions::answer(alloc, call);
-    }
-    if is(subject, "segments") {
-        return segments::answer(alloc, call);
-    }
-    if is(subject, "histories") {
-        return histories::answer(alloc, call);
-    }
-    if is(subject, "paths") {
-        return paths::answer(alloc, call);
-    }
-    if is(subject, "tokens") {
-        return tokens::answer(alloc, call);
-    }
-    if is(subject, "lists") {
-        return lists::answer(alloc, call);
-    }
-    if is(subject, "quorum") {
-        return quorum::answer(alloc, call);
-    }
-    if is(subject, "sync") {
-        return sync::answer(alloc, call);
-    }
-    if is(subject, "messages") {
-        return messages::answer(alloc, call);
-    }
-    if is(subject, "wire") {
-        return wire::answer(alloc, call);
-    }
-    if is(subject, "reader") {
-        return reader::answer(alloc, call);
-    }
-    if is(subject, "copies") {
-        return copies::answer(alloc, call);
-    }
-    if is(subject, "commands") {
-        return commands::answer(alloc, call);
-    }
-    if is(subject, "pages") {
-        return pages::answer(alloc, call);
-    }
-    if is(subject, "records") {
-        return records::answer(alloc, call);
-    }
-    if is(subject, "walks") {
-        return walks::answer(alloc, call);
-    }
-    if is(subject, "controls") {
-        return controls::answer(alloc, call);
-    }
-    if is(subject, "tools") {
-        return tools::answer(alloc, call);
-    }
-    Err(Miss::Call)
 }
