@@ -15,3 +15,8 @@ pub mod Mounting
 pub mod Controls
 pub mod Raising
 pub mod Removing
+pub mod Switching
+pub mod Heard
+pub mod Turned
+pub mod Starting
+pub mod Left

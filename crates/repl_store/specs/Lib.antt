@@ -5,3 +5,4 @@ pub mod Tail
 pub mod Refusal
 pub mod Numbers
 pub mod Raised
+pub mod Leaving
