@@ -17,3 +17,8 @@ pub mod Making
 pub mod Raising
 pub mod Removing
 pub mod Putting
+pub mod Switching
+pub mod Heard
+pub mod Turned
+pub mod Starting
+pub mod Left

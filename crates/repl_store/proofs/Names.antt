@@ -115,7 +115,7 @@ holder_here own p ps at h = grind (arith, nat_tests)
 holder_behind : (own : ℕ) (p : Part) (ps : List Part) (at : ℕ) → p.switch ≤ at → holder own (p ∷ ps) at ≡ holder own ps at
 holder_behind own p ps at h = grind (arith, nat_tests)
 
-holder_most : (own : ℕ) (ps : List Part) (at : ℕ) → InOrder own ps → holder own ps at ≤ own
+pub holder_most : (own : ℕ) (ps : List Part) (at : ℕ) → InOrder own ps → holder own ps at ≤ own
 holder_most own [] at order = omega arith
 holder_most own (p ∷ ps) at order =
     ⊎_elim (λ (here : at < p.switch). omega (arith, holder_here own p ps at here, first_below own p ps order))

@@ -6,3 +6,4 @@ pub mod Refusal
 pub mod Numbers
 pub mod Creating
 pub mod Raised
+pub mod Leaving

@@ -28,6 +28,7 @@ mod raise;
 mod read;
 mod segments;
 mod store;
+mod switch;
 mod write;
 
 pub use fault::StoreFault;

@@ -37,7 +37,7 @@ impl<D: Disk> Store<D> {
 }
 
 /// Fills the room with the bytes of the log from this position on, file by file.
-fn read_range<D: Disk>(
+pub(crate) fn read_range<D: Disk>(
     alloc: Global,
     disk: &mut D,
     head: &Head,

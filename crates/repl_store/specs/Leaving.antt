@@ -1,0 +1,54 @@
+-- A store that leaves its timeline: the history of the new one, its first segment, and the control.
+use Rattle.std.specs.Prelude.{◌≡◌, ℕ, ◌-◌, ◌*◌, ◌/◌, ◌%◌, ◌⊎◌, List, [], ◌++◌, take, drop, Option, Some, None}
+use Rattle.repl_control.specs.declared.control.Role.{Role}
+use Rattle.repl_disk.specs.Folder.{Folder, IfTold}
+use Rattle.repl_disk.specs.State.{DiskState}
+use Rattle.repl_lsn.specs.History.{Path, SaysHistory, last_switch}
+use Rattle.repl_lsn.specs.Segment.{history_name}
+use Rattle.repl_store.specs.Backing.{State, heard, log, switched, switched_control}
+use Rattle.repl_store.specs.Durable.{segment_file}
+use Rattle.repl_store.specs.Head.{Head}
+
+abbrev pub heard_state : State → ℕ → State
+heard_state s tli = record { durable = heard s.durable tli; unflushed = s.unflushed }
+
+abbrev pub switched_state : State → Path → Role → ℕ → ℕ → State
+switched_state s child role whole prev = record { durable = switched s.durable child role whole prev; unflushed = [] }
+
+-- nothing is written behind the switch point
+abbrev pub switched_head : Head → Path → Role → ℕ → ℕ → Head
+switched_head head child role whole prev = record {
+  size = head.size;
+  control = switched_control head.control child role whole prev;
+  path = child;
+  written = last_switch child.parents;
+  synced = last_switch child.parents;
+  unsynced = None;
+}
+
+-- the file has these bytes in front
+abbrev pub HasFront : List ℕ → Option (List ℕ) → Type 0
+HasFront bytes file = (rest : List ℕ) × (file ≡ Some (bytes ++ rest))
+
+-- so it reads, and so a crash leaves it
+pub record IsFront (disk : DiskState) (name bytes : List ℕ) : Type 0 where
+  pub reads : IfTold disk.files (λ folder. HasFront bytes (folder name))
+  pub images : (image : Folder) → disk.may_leave image → HasFront bytes (image name)
+
+-- the file in which the new timeline begins
+abbrev pub first_file : Head → Path → List ℕ
+first_file head child = segment_file head.size child (last_switch child.parents / head.size)
+
+-- the log's bytes in that segment before the switch point
+abbrev pub first_bytes : Head → Path → State → List ℕ
+first_bytes head child s = take (last_switch child.parents % head.size)
+    (drop (last_switch child.parents / head.size * head.size - head.control.floor) (log s))
+
+-- that file begins with the bytes before the switch point, if there are any
+abbrev pub HasStart : DiskState → Head → Path → State → Type 0
+HasStart disk head child s = (last_switch child.parents % head.size ≡ 0) ⊎ IsFront disk (first_file head child) (first_bytes head child s)
+
+-- a crash leaves the path's history
+abbrev pub SaysIn : DiskState → Path → Type 0
+SaysIn disk path = (image : Folder) → disk.may_leave image → (text : List ℕ) × (image (history_name path.own) ≡ Some text)
+    × SaysHistory text path
