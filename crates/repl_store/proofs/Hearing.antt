@@ -14,7 +14,7 @@ record KnownBelow (folder : Folder) (own bound known : ℕ) : Type 0 where
   is : (known ≡ own) ⊎ ((known < bound) × IsSome (folder (history_name known)))
   all : (tli : ℕ) → 0 < tli → tli < bound → IsSome (folder (history_name tli)) → tli ≤ known
 
-some_or_none : (file : Option (List ℕ)) → IsSome file ⊎ (IsSome file → ⊥)
+pub some_or_none : (file : Option (List ℕ)) → IsSome file ⊎ (IsSome file → ⊥)
 some_or_none None = inr (λ h. absurd (let k = h in cc))
 some_or_none (Some bytes) = inl refl
 

@@ -22,3 +22,4 @@ pub mod Heard
 pub mod Turned
 pub mod Starting
 pub mod Left
+pub mod Freeing

@@ -1,5 +1,5 @@
 -- A store with another floor, and files below a floor that are not there.
-use Rattle.std.specs.Prelude.{◌≡◌, ℕ, ◌/◌, ◌<◌, List, Option, Some, None}
+use Rattle.std.specs.Prelude.{◌≡◌, ℕ, ◌/◌, ◌<◌, ◌⊎◌, List, Option, Some, None}
 use Rattle.repl_disk.specs.Folder.{Folder, ToldFiles}
 use Rattle.repl_lsn.specs.Segment.{Names}
 use Rattle.repl_store.specs.Backing.{State, raised, raised_control}
@@ -21,3 +21,17 @@ raised_state s floor = record { durable = raised s.durable floor; unflushed = s.
 -- the name is that of a segment before this one, of some timeline
 abbrev pub NamesBelow : ℕ → List ℕ → ℕ → Type 0
 NamesBelow size name first = (tli : ℕ) × (segment : ℕ) × Names size name tli segment × (segment < first)
+
+-- no file is there of a segment before this one
+abbrev pub IsFree : ℕ → ℕ → Folder → Type 0
+IsFree size first folder = (name : List ℕ) → NamesBelow size name first → folder name ≡ None
+
+-- some files are gone, and the others as they were
+abbrev pub IsLess : Folder → Folder → Type 0
+IsLess old new = (name : List ℕ) → (new name ≡ old name) ⊎ (new name ≡ None)
+
+-- This file is gone, if it is one of a segment before that one; others are as they were.
+abbrev pub Drops : ToldFiles → ToldFiles → ℕ → ℕ → List ℕ → Type 0
+Drops None now size first name = now ≡ None
+Drops (Some folder) now size first name = (after : Folder) × (now ≡ Some after) × IsLess folder after
+    × (NamesBelow size name first → after name ≡ None)

@@ -1,8 +1,9 @@
 //! Raising the floor: segments below it go.
 ghost use Rattle.std.specs.Prelude.{◌≡◌, ◌≢◌, ◌↔◌, ◌⊎◌, ◌/◌, ◌<◌, IsTrue, true, Err, OnOk, IfErr};
+ghost use Rattle.repl_disk.specs.Folder.{IfTold};
 ghost use Rattle.repl_store.specs.Backing.{Backs, Before, Breaks, CanRaise, Comes, Either, IsCaused, State, raised, raised_control};
 ghost use Rattle.repl_store.specs.Head.{IsAt, Stands};
-ghost use Rattle.repl_store.specs.Raised.{NamesBelow, raised_head, raised_state};
+ghost use Rattle.repl_store.specs.Raised.{Drops, IsFree, NamesBelow, raised_head, raised_state};
 ghost use Rattle.repl_store.specs.declared.fault.StoreFault.TheVariants as StoreFault;
 
 use crate::control::put_control;
@@ -26,6 +27,8 @@ impl<D: Disk> Store<D> {
             × Stands self.new.head self.old.head.size (raised_control self.old.head.control floor) self.old.head.path self.old.head.written)) }
         ensures caused { IsCaused result (D.state self.old.disk) (D.state self.new.disk) }
         ensures keeps { D.keeps self.old.disk self.new.disk }
+        // No file of a segment below the floor is left, of any timeline.
+        ensures removed { OnOk result (IfTold (D.state self.new.disk).files (IsFree self.old.head.size (floor / self.old.head.size))) }
         ensures comes { (s : State) → Backs (D.state self.old.disk) self.old.head s →
             Comes result (D.state self.old.disk) (D.state self.new.disk) self.new.head
             (Either s.durable (raised s.durable floor))
@@ -48,6 +51,7 @@ fn raise<D: Disk>(disk: &mut D, head: &mut Head, floor: Lsn) -> Result<(), Store
     ensures caused { IsCaused result (D.state disk.old) (D.state disk.new) }
     ensures unbroken { result ≢ Err StoreFault.Broken }
     ensures keeps { D.keeps disk.old disk.new }
+    ensures removed { OnOk result (IfTold (D.state disk.new).files (IsFree head.old.size (floor / head.old.size))) }
     ensures comes { (s : State) → Backs (D.state disk.old) head.old s →
         Comes result (D.state disk.old) (D.state disk.new) head.new (Either s.durable (raised s.durable floor))
         (raised_state s floor) (λ t. (t ≡ s) ⊎ (t ≡ raised_state s floor)) }
@@ -94,6 +98,7 @@ fn remove_below<D: Disk>(disk: &mut D, head: &Head) -> Result<(), StoreFault>
     ensures caused { IsCaused result (D.state disk.old) (D.state disk.new) }
     ensures unbroken { result ≢ Err StoreFault.Broken }
     ensures keeps { D.keeps disk.old disk.new }
+    ensures removed { OnOk result (IfTold (D.state disk.new).files (IsFree head.now.size (head.now.control.floor / head.now.size))) }
     ensures comes { (s : State) → Backs (D.state disk.old) head.now s →
         Comes result (D.state disk.old) (D.state disk.new) head.now (Before s) s (λ t. t ≡ s) }
 {
@@ -112,6 +117,7 @@ fn remove_if_below<D: Disk>(disk: &mut D, head: &Head, name: &str) -> Result<(),
     ensures caused { IsCaused result (D.state disk.old) (D.state disk.new) }
     ensures unbroken { result ≢ Err StoreFault.Broken }
     ensures keeps { D.keeps disk.old disk.new }
+    ensures drops { OnOk result (Drops (D.state disk.old).files (D.state disk.new).files head.now.size (head.now.control.floor / head.now.size) name.now) }
     ensures comes { (s : State) → Backs (D.state disk.old) head.now s →
         Comes result (D.state disk.old) (D.state disk.new) head.now (Before s) s (λ t. t ≡ s) }
 {

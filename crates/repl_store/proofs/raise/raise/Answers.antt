@@ -56,6 +56,7 @@ returns-in-Err g c =
       caused = search rules;
       unbroken = search rules;
       keeps = search rules;
+      removed = tt;
       comes = λ s backs.
           failed_as c.in-Err.fault (state c.args.disk.now) (state c.remove_below.new.disk) c.put_floor.new.head _ _ _ _ apart
           (ap (λ (h : Head). h.size) c.head-2.view_is)

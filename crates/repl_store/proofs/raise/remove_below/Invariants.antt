@@ -1,5 +1,6 @@
 -- So far nothing that counts changed.
-use Rattle.std.proofs.Common.{◌≡◌}
+use Rattle.std.proofs.Common.{◌≡◌, ◌/◌, map, string_bytes}
+use Rattle.repl_store.proofs.Freeing.{Gone}
 use Rattle.repl_counts.specs.Counts.{Stood}
 use Rattle.repl_store.specs.Backing.{Backs, Before, LeavesOne, State}
 use Rattle.repl_store.proofs.raise.remove_below.Given as goal
@@ -11,3 +12,5 @@ invariant-loop-name g l =
     × g.D.Disk.keeps l.fn.disk l.disk
     × ((s : State) → Backs (g.D.Disk.state l.fn.disk) l.fn.head s
     → LeavesOne (g.D.Disk.state l.fn.disk) (g.D.Disk.state l.disk) l.fn.head.size (Before s) × Backs (g.D.Disk.state l.disk) l.fn.head s)
+    × Gone (g.D.Disk.state l.fn.disk).files (g.D.Disk.state l.disk).files l.fn.head.size (l.fn.head.control.floor / l.fn.head.size)
+    (map string_bytes l.name-items) l.name-index

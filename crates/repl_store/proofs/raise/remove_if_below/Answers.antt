@@ -8,6 +8,7 @@ use Rattle.repl_disk.specs.declared.disk.DiskError.TheVariants as error
 use Rattle.repl_store.specs.Head.{Head, IsHead}
 use Rattle.repl_store.specs.Raised.{NamesBelow}
 use Rattle.repl_store.proofs.Removing.{caused_refused, not_broken, removal_done, removal_missing, removal_refused}
+use Rattle.repl_store.proofs.Freeing.{drops_removed}
 use Rattle.repl_store.proofs.raise.remove_if_below.Goals as goal
 
 pub returns-in-Err : goal.returns-in-Err
@@ -24,6 +25,7 @@ returns-in-Err g c =
       caused = caused_refused c.in-Err.error c.fault_of.result old new c.fault_of.ensures c.in-Err.ensures.ends;
       unbroken = λ same. not_broken c.in-Err.error c.fault_of.result c.fault_of.ensures cc;
       keeps = c.remove.ensures.keeps;
+      drops = tt;
       comes = λ s backs.
           removal_refused old head s (subst IsHead v c.head.invariant) backs c.args.name.now below (g.met.D.Disk.only_now c.args.disk.now)
           new
@@ -57,3 +59,8 @@ returns-in-Err-Missing-clause-comes g c = λ s backs.
     (subst N v (c.is_below.ensures.0 yes)) (g.met.D.Disk.only_now c.args.disk.now) (g.D.Disk.state c.remove.new.self)
     c.remove.ensures.ends.time (subst R is c.in-Err-Missing.ensures.removed)
     (subst C is c.in-Err-Missing.ensures.crash)
+
+pub returns-in-Ok-clause-drops : goal.returns-in-Ok-clause-drops
+returns-in-Ok-clause-drops g c =
+    drops_removed (g.D.Disk.state c.args.disk.now).files (g.D.Disk.state c.remove.new.self).files c.args.head.now.size
+    (c.args.head.now.control.floor / c.args.head.now.size) c.args.name.now c.in-Ok.ensures.removed
