@@ -26,6 +26,8 @@ pub struct Numbers {
     state: u64,
     /// How many events were made.
     events: u64,
+    /// The session that was last asked to connect, or 0.
+    connected: u64,
     /// How many tickets were asked for, so that most tickets that are drawn are there.
     prepared: u64,
 }
@@ -36,11 +38,12 @@ impl Numbers {
         Numbers {
             state: seed,
             events: 0,
+            connected: 0,
             prepared: 0,
         }
     }
 
-    /// The next number, below 31 bits.
+    /// The next number, below 2^31: the high bits of the state.
     fn next(&mut self) -> u64 {
         self.state = self
             .state
@@ -64,6 +67,12 @@ impl Numbers {
     fn end(&mut self) -> u64 {
         let other = self.position();
         other.min(self.position())
+    }
+
+    /// A position that is reported, a high one more often.
+    fn reported(&mut self) -> u64 {
+        let other = self.position();
+        other.max(self.position())
     }
 
     /// One of three names, so that some sessions have one name.
@@ -100,11 +109,14 @@ impl Numbers {
         (self.next() % 10) as usize
     }
 
-    /// The next event of a history. The first twelve mostly put a list in force and let sessions stream, then reports and
-    /// what leads to releases come more often, and from the 33rd on the tickets from 1 on are looked at, one after another.
+    /// The next event of a history. The first puts a list in force, and those up to the 14th mostly let sessions stream.
+    /// Then reports and what leads to releases come more often, and from the 33rd on the tickets from 1 on are looked at,
+    /// one after another.
     pub fn event(&mut self) -> Event {
         self.events = self.events.wrapping_add(1);
-        if self.events <= 12 {
+        if self.events == 1 {
+            Event::SetNames(self.list())
+        } else if self.events <= 14 {
             self.early_event()
         } else if self.events <= 32 {
             self.late_event()
@@ -114,32 +126,37 @@ impl Numbers {
     }
 
     fn early_event(&mut self) -> Event {
-        match self.next() % 10 {
-            0 => Event::SetNames(self.list()),
-            1..=3 => Event::Connect(self.session(), self.name()),
-            4..=6 => Event::Streaming(self.session()),
-            7..=8 => self.report(),
+        match self.next() % 12 {
+            0..=3 => self.connect(),
+            4..=6 => Event::Streaming(self.connected),
+            7 => Event::Streaming(self.session()),
+            8..=10 => self.report(),
             _ => self.event_on_tickets(),
         }
     }
 
     fn late_event(&mut self) -> Event {
         match self.next() % 40 {
-            0..=1 => Event::Connect(self.session(), self.name()),
-            2..=5 => Event::Streaming(self.session()),
-            6 => Event::StopStreaming(self.session()),
-            7 => Event::Disconnect(self.session()),
-            8..=18 => self.report(),
+            0..=1 => self.connect(),
+            2..=4 => Event::Streaming(self.session()),
+            5 => Event::StopStreaming(self.session()),
+            6 => Event::Disconnect(self.session()),
+            7..=18 => self.report(),
             19 => Event::SetNames(self.list()),
             _ => self.event_on_tickets(),
         }
     }
 
+    fn connect(&mut self) -> Event {
+        self.connected = self.session();
+        Event::Connect(self.connected, self.name())
+    }
+
     fn report(&mut self) -> Event {
         let session = self.session();
-        let written = self.position();
-        let flushed = self.position();
-        Event::Report(session, written, flushed, self.position())
+        let written = self.reported();
+        let flushed = self.reported();
+        Event::Report(session, written, flushed, self.reported())
     }
 
     /// An event on tickets, or rarely a new timeline.
