@@ -1,6 +1,7 @@
 pub mod Checksum
 pub mod Shifts
 pub mod Record
+pub mod Length
 pub mod Judging
 pub mod Log
 pub mod Laying
