@@ -42,3 +42,4 @@ pub mod WalkerRecord
 pub mod WalkerRecordJudged
 pub mod WalkerGap
 pub mod WalkerSteps
+pub mod WalkerAtOnce

@@ -7,3 +7,4 @@ pub mod Log
 pub mod Laying
 pub mod Walker
 pub mod Moves
+pub mod AtOnce

@@ -15,6 +15,7 @@
 #![tactic(auto)]
 
 mod answer;
+mod at_once;
 mod checksum;
 mod checksum_tables;
 mod laws;
