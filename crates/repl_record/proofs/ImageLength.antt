@@ -1,6 +1,6 @@
 -- How long an image is: positions behind parts of a record, and where they end.
-use Rattle.std.proofs.Common.{◌≡◌, ℕ, ◌+◌, ◌-◌, ◌*◌, ◌%◌, ◌<◌, ◌≤◌, true, false, List, [], ◌∷◌, ◌++◌, length, min, replicate, zero, suc, refl, sym, ap, ◌∙◌, subst, inl, inr, arith, add-zero, length-append}
-use Rattle.std.proofs.lemmas.Bool.{cases_Bool, cases_lt, cond-true, cond-false}
+use Rattle.std.proofs.Common.{◌≡◌, ℕ, ◌+◌, ◌-◌, ◌*◌, ◌%◌, ◌<◌, ◌≤◌, true, false, List, [], ◌∷◌, length, min, replicate, zero, suc, refl, sym, ap, ◌∙◌, subst, inl, inr, arith, add-zero, length-append}
+use Rattle.std.proofs.lemmas.Bool.{cases_Bool, cond-true, cond-false}
 use Rattle.std.proofs.lemmas.List.{length-replicate}
 use Rattle.std.specs.Int.{next_multiple_of}
 use Rattle.repl_lsn.specs.Segment.{IsSegSize}
@@ -9,7 +9,7 @@ use Rattle.repl_page.specs.Page.{page_start, header_length, in_header}
 use Rattle.repl_record.specs.declared.record.RecordIn.{RecordIn}
 use Rattle.repl_record.specs.Record.{IsImage, LastIsContent, content, start_of}
 use Rattle.repl_record.specs.Length.{CanBegin, image_end, image_length, position_behind}
-use Rattle.repl_record.proofs.Pages.{at_page, header_is, in_header_tells, not_in_header_from, not_in_header_tells, same_header_length, same_page_start, place_on_page, still_in_header}
+use Rattle.repl_record.proofs.Pages.{at_page, header_is, in_header_tells, not_in_header_from, not_in_header_tells, same_header_length, same_page_start, place_on_page}
 use Rattle.repl_record.proofs.Content.{content-header_byte, content-byte, content-nil, length-content-short}
 use Rattle.repl_record.proofs.ImageRightFields.{length-record_bytes}
 

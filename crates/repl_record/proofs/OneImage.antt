@@ -1,5 +1,5 @@
 -- An item has one image at a place, where the headers of pages are spelled.
-use Rattle.std.proofs.Common.{◌≡◌, ℕ, ◌+◌, ◌-◌, ◌%◌, ◌<◌, ◌≤◌, ◌==◌, cond, true, false, List, [], ◌∷◌, ◌++◌, length, take, drop, get_or, min, replicate, zero, suc, refl, sym, ap, ◌∙◌, inl, inr, arith, add-zero, length-append}
+use Rattle.std.proofs.Common.{◌≡◌, ℕ, ◌+◌, ◌-◌, ◌%◌, ◌<◌, ◌≤◌, ◌==◌, cond, true, List, [], ◌∷◌, ◌++◌, length, take, drop, get_or, min, replicate, suc, refl, sym, ap, ◌∙◌, inl, inr, arith, add-zero, length-append}
 use Rattle.std.proofs.lemmas.Bool.{cases_Bool, cases_lt}
 use Rattle.std.proofs.lemmas.List.{get_or-drop, get_or-take, length-replicate, length-take}
 use Rattle.repl_lsn.specs.Segment.{IsSegSize}
@@ -10,7 +10,7 @@ use Rattle.repl_record.specs.declared.record.RecordIn.{RecordIn}
 use Rattle.repl_record.specs.Record.{HeadersAreSpelled, IsImage, content, from_page, remaining, total_length}
 use Rattle.repl_record.specs.Length.{CanBegin}
 use Rattle.repl_record.proofs.Pages.{header_is, in_header_from, in_header_tells, length_of_page, page_start_is_page, same_header_length}
-use Rattle.repl_record.proofs.Content.{content-append, content-header_byte, content-byte, content-nil}
+use Rattle.repl_record.proofs.Content.{content-append, content-header_byte, content-byte}
 use Rattle.repl_record.proofs.ImageLength.{behind_record, same_image_end}
 
 -- ---- lists with one content and the same headers

@@ -1,14 +1,13 @@
 -- An image that lies whole among the bytes, on one page, is the answer, and the walker stands behind it.
-use Rattle.std.proofs.Common.{◌≡◌, ℕ, ◌+◌, ◌-◌, ◌%◌, ◌^◌, ◌<◌, ◌≤◌, false, List, [], ◌++◌, length, take, drop, get_or, replicate, All, refl, sym, ap, ◌∙◌, subst, arith}
+use Rattle.std.proofs.Common.{◌≡◌, ℕ, ◌+◌, ◌-◌, ◌%◌, ◌^◌, ◌<◌, ◌≤◌, List, [], ◌++◌, length, take, drop, get_or, replicate, All, refl, sym, ap, ◌∙◌, subst, arith}
 use Rattle.std.proofs.lemmas.Bool.{cond-false}
 use Rattle.std.proofs.lemmas.List.{get_or-drop, get_or-take, length-drop, length-take, length-take-le, nil_from_length, take-take}
 use Rattle.std.proofs.lemmas.List.Elements.{All-get_or}
 use Rattle.repl_page.specs.declared.ident.Ident.{Ident}
 use Rattle.repl_page.specs.Page.{header_length, in_header}
-use Rattle.repl_record.specs.declared.record.RecordIn.{RecordIn}
 use Rattle.repl_record.specs.declared.walker.Walker.{Walker}
-use Rattle.repl_record.specs.AtOnce.{IsSound, LiesWhole, passed}
-use Rattle.repl_record.specs.Record.{AreBytes, HeadersAgree, IsImage, LastIsContent, start_of, total_length}
+use Rattle.repl_record.specs.AtOnce.{LiesWhole, passed}
+use Rattle.repl_record.specs.Record.{AreBytes, IsImage, start_of}
 use Rattle.repl_record.specs.Judging.{IsWhole}
 use Rattle.repl_record.specs.Walker.{Stands}
 use Rattle.repl_record.proofs.Fields.{AreBytes-take}

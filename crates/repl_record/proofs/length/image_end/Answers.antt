@@ -1,5 +1,5 @@
 -- A turn takes what is left of a page, or of the record.
-use Rattle.std.proofs.Common.{◌≡◌, ◌+◌, ◌<◌, ◌≤◌, ap, ◌∙◌, arith}
+use Rattle.std.proofs.Common.{◌≡◌, ap, ◌∙◌, arith}
 use Rattle.std.specs.Int.{next_multiple_of}
 use Rattle.repl_record.proofs.ImageLength.{nothing_left, turn_kept}
 use Rattle.repl_record.proofs.length.image_end.Goals as goal
