@@ -2,6 +2,7 @@
 ghost use Rattle.std.specs.Prelude.{◌≡◌};
 
 use crate::crossing::there_and_back;
+use repl_cmd::CmdFault;
 use repl_control::ControlFault;
 use repl_disk::DiskError;
 use repl_lsn::{HistoryFault, PlaceFault};
@@ -14,19 +15,21 @@ use repl_store::StoreFault;
 use repl_sync::SyncFault;
 use std::thread::Threads;
 
-/// Why a text is no position, no history and no list of standbys.
+/// Why a text is no position, no history, no list of standbys and no command.
 pub fn hand_text_faults<R: Threads>(
     rt: &R,
     place: PlaceFault,
     history: HistoryFault,
     names: NamesFault,
-) -> (PlaceFault, HistoryFault, NamesFault)
-    ensures { result ≡ (place, history, names) }
+    command: CmdFault,
+) -> (PlaceFault, HistoryFault, NamesFault, CmdFault)
+    ensures { result ≡ (place, history, names, command) }
 {
     (
         there_and_back(rt, place),
         there_and_back(rt, history),
         there_and_back(rt, names),
+        there_and_back(rt, command),
     )
 }
 

@@ -18,7 +18,7 @@ mod walks;
 pub use crossing::there_and_back;
 pub use faults::{hand_byte_faults, hand_refusals, hand_text_faults};
 pub use lists::{hand_certificates, hand_lists, hand_slots, hand_sync};
-pub use messages::hand_messages;
+pub use messages::{hand_command, hand_messages};
 pub use positions::{hand_histories, hand_positions, hand_segments, hand_texts};
 pub use stores::{hand_controls, hand_disk, hand_folder, hand_store, hand_store_status};
 pub use walks::{hand_answers, hand_records, hand_walkers};

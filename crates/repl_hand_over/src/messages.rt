@@ -1,7 +1,8 @@
-//! Messages, the payloads in them, and commands.
+//! Messages and commands.
 ghost use Rattle.std.specs.Prelude.{◌≡◌};
 
 use crate::crossing::there_and_back;
+use repl_cmd::Command;
 use repl_message::{Back, Front, Message, Startup};
 use std::thread::Threads;
 
@@ -21,4 +22,11 @@ pub fn hand_messages<R: Threads>(
         there_and_back(rt, back),
         there_and_back(rt, message),
     )
+}
+
+/// A command.
+pub fn hand_command<R: Threads>(rt: &R, command: Command) -> Command
+    ensures { result ≡ command }
+{
+    there_and_back(rt, command)
 }
