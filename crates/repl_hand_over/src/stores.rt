@@ -32,10 +32,7 @@ pub fn hand_disk<R: Threads>(rt: &R, disk: MemoryDisk) -> MemoryDisk
 }
 
 /// A folder of the system as a disk.
-pub fn hand_folder<R: Threads>(
-    rt: &R,
-    folder: FolderDisk<HostRuntime>,
-) -> FolderDisk<HostRuntime>
+pub fn hand_folder<R: Threads>(rt: &R, folder: FolderDisk<HostRuntime>) -> FolderDisk<HostRuntime>
     ensures { result ≡ folder }
 {
     there_and_back(rt, folder)
