@@ -1,7 +1,7 @@
 -- A file that is written aside: each image is one from before, but for that file.
-use Rattle.std.proofs.Common.{◌≡◌, ◌≢◌, ◌⊎◌, ℕ, List, Option, Some, None, Ok, Err, Result, OnOk, IfErr, codes, length, refl, sym, ◌∙◌, ap, subst, inl, inr, ⊎_elim, arith}
+use Rattle.std.proofs.Common.{◌≡◌, ◌≢◌, ℕ, List, Option, Some, None, Ok, Err, Result, OnOk, IfErr, codes, length, refl, sym, ◌∙◌, ap, subst, inl, inr, ⊎_elim, arith}
 use Rattle.std.proofs.lemmas.List.{length-append}
-use Rattle.repl_disk.specs.Folder.{Folder, ToldFiles, put}
+use Rattle.repl_disk.specs.Folder.{Folder, ToldFiles}
 use Rattle.repl_disk.specs.Crash.{Syncs, Moves, Either, Follows}
 use Rattle.repl_disk.specs.Answers.{Leaves}
 use Rattle.repl_disk.specs.Replacing.{IsAside, HasAside, IsHalfAside, IsBeforeOrAfter, IsAfter, IsHalfDone, temporary}

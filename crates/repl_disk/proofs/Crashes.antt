@@ -1,9 +1,9 @@
 -- What a crash leaves of a list of files.
-use Rattle.std.proofs.Common.{◌≡◌, ℕ, reverse, Bool, true, false, cond, not, List, [], ◌∷◌, map, filter, Option, Some, None, refl, sym, ◌∙◌, ap, subst}
+use Rattle.std.proofs.Common.{◌≡◌, ℕ, Bool, true, false, cond, not, List, [], ◌∷◌, map, filter, Option, Some, None, refl, sym, ◌∙◌, ap, subst}
 use Rattle.std.proofs.Math.Path.{fun_ext}
 use Rattle.std.specs.Prelude.{bytes_eq}
 use Rattle.repl_disk.specs.Files.{folder_of, certain_folder, StandsBefore, AreOrdered}
-use Rattle.repl_disk.specs.declared.call.Done.{Done}
+use Rattle.repl_disk.specs.Calls.{Done}
 use Rattle.repl_disk.specs.Memory.{certain}
 use Rattle.repl_disk.specs.Stored.{Stored, settled, reverted, is_kept, unwritten_all}
 use Rattle.repl_disk.proofs.Folders.{certain_found, certain_is}
@@ -96,9 +96,9 @@ reverted_ordered (file ∷ files) ordered = each file.made (reverted_ordered fil
 
 -- these files and no call
 pub tied_now : (now files : List Stored) (none : List Done) → none ≡ [] → now ≡ files → AreOrdered files
-    → folder_of files ≡ certain_folder files → AreOrdered now × (certain (reverse none) (folder_of now) ≡ certain_folder now)
+    → folder_of files ≡ certain_folder files → AreOrdered now × (certain none (folder_of now) ≡ certain_folder now)
 tied_now now files none nothing same ordered tied = (
   subst (λ (l : List Stored). AreOrdered l) (sym same) ordered,
-  ap (λ (l : List Done). certain (reverse l) (folder_of now)) nothing
+  ap (λ (l : List Done). certain l (folder_of now)) nothing
       ∙ subst (λ (l : List Stored). folder_of l ≡ certain_folder l) (sym same) tied,
 )

@@ -3,7 +3,7 @@ use Rattle.std.proofs.Common.{◌≡◌, ℕ, Bool, true, false, cond, List, [],
 use Rattle.std.proofs.Math.Path.{fun_ext}
 use Rattle.std.specs.Prelude.{bytes_eq}
 use Rattle.repl_disk.specs.Files.{Changed, found, folder_of, certain_of, certain_folder, bytes_of}
-use Rattle.repl_disk.specs.Folder.{Folder, put}
+use Rattle.repl_disk.specs.Folder.{put}
 use Rattle.repl_disk.specs.Stored.{Stored}
 
 -- ---- of a list of files

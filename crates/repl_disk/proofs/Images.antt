@@ -1,7 +1,7 @@
 -- What a crash may leave, before and after a call.
-use Rattle.std.proofs.Common.{◌≡◌, Bool, true, false, ◌⊎◌, inl, inr, ⊎_elim, ℕ, zero, suc, ◌+◌, ◌≤◌, List, [], ◌∷◌, length, take, drop, Option, Some, None, Result, Ok, Err, MatchResult, string_bytes, refl, sym, ap, subst, arith}
-use Rattle.repl_disk.specs.declared.call.Done.{Done}
-use Rattle.repl_disk.specs.declared.call.Done.TheVariants as done
+use Rattle.std.proofs.Common.{◌≡◌, Bool, true, false, ◌⊎◌, inl, inr, ⊎_elim, ℕ, zero, suc, ◌+◌, ◌≤◌, List, [], ◌∷◌, length, take, drop, Option, Some, None, Result, Ok, Err, MatchResult, refl, sym, ap, subst, arith}
+use Rattle.repl_disk.specs.Calls as done
+use Rattle.repl_disk.specs.Calls.{Done}
 use Rattle.repl_disk.specs.declared.disk.DiskError.{DiskError}
 use Rattle.repl_disk.specs.declared.disk.DiskError.TheVariants as error
 use Rattle.repl_counts.specs.Counts.{RoseExactly}
@@ -12,7 +12,7 @@ use Rattle.repl_disk.specs.Files.{folder_of}
 use Rattle.repl_disk.specs.Folder.{Folder}
 use Rattle.repl_disk.specs.Images.{reads_as_image}
 use Rattle.repl_disk.specs.State.{DiskState}
-use Rattle.repl_disk.specs.Memory.{Memory, Held, Did, IsImage, WasImage, Steps, LeavesNow, before, before_all, certain}
+use Rattle.repl_disk.specs.Memory.{Memory, Held, Did, IsImage, WasImage, Steps, before, before_all, certain}
 
 -- ---- what is certain is one of the images
 
@@ -30,7 +30,7 @@ certain_image (done.Wrote name at count undo ∷ earlier) now =
       record {
         others = λ other differ. refl;
         file = torn_same at count
-            (certain earlier was (string_bytes name));
+            (certain earlier was name);
       },
     )
 certain_image (done.Synced name ∷ earlier) now = inr (certain earlier now, certain_image earlier now, refl)

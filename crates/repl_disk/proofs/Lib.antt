@@ -5,6 +5,7 @@ mod Images
 mod Listing
 mod Names
 mod Places
+mod Walks
 mod Writes
 mod Telling
 mod Aside

@@ -1,11 +1,8 @@
 -- Files where an object tells them, and a file that is written anew.
-use Rattle.std.proofs.Common.{◌≡◌, ℕ, List, [], Option, Some, None, Ok, Err, Result, refl, ◌∙◌, ap, subst, inl, inr, arith}
+use Rattle.std.proofs.Common.{◌≡◌, ℕ, List, [], Some, None, refl, ◌∙◌, ap, arith}
 use Rattle.std.specs.Option.{option_map}
 use Rattle.std.proofs.lemmas.Grind.{common_steps}
-use Rattle.repl_disk.specs.Folder.{Folder, ToldFiles, IfTold, put, content, overwritten, written}
-use Rattle.repl_disk.specs.Answers.{Does}
-use Rattle.repl_disk.specs.declared.disk.DiskError.{DiskError}
-use Rattle.repl_disk.specs.declared.disk.DiskError.TheVariants as error
+use Rattle.repl_disk.specs.Folder.{Folder, ToldFiles, put, content, overwritten, written}
 use Rattle.repl_disk.specs.Steps.{put_at, put-put}
 
 -- ---- bytes

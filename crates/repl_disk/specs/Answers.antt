@@ -1,5 +1,5 @@
 -- What the answers of a disk's calls say of its files.
-use Rattle.std.specs.Prelude.{◌≡◌, ◌≢◌, ℕ, ◌<◌, ◌⊎◌, Bool, true, false, nat_lt, List, Option, Some, None, IsSome, Result, Ok, Err}
+use Rattle.std.specs.Prelude.{◌≡◌, ℕ, ◌⊎◌, Bool, true, false, nat_lt, List, None, IsSome, Result, Ok, Err}
 use Rattle.repl_disk.specs.declared.disk.DiskError.{DiskError}
 use Rattle.repl_disk.specs.declared.disk.DiskError.TheVariants as error
 use Rattle.repl_counts.specs.Counts.{Rose, RoseExactly}
@@ -51,6 +51,12 @@ NeverMissing (Ok x) = Unit {0}
 NeverMissing (Err error.Missing) = ⊥
 NeverMissing (Err error.Failed) = Unit {0}
 NeverMissing (Err error.Memory) = Unit {0}
+
+abbrev pub NeverWants : {A : Type 0} → Result A DiskError → Type 0
+NeverWants (Ok x) = Unit {0}
+NeverWants (Err error.Missing) = Unit {0}
+NeverWants (Err error.Failed) = Unit {0}
+NeverWants (Err error.Memory) = ⊥
 
 -- The files are as the effect makes them where the call is done, as they were where the name is missing or there was no
 -- memory, and one or the other where the call failed.

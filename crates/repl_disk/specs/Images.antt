@@ -3,7 +3,7 @@
 use Rattle.std.specs.Prelude.{ℕ, zero, suc, ◌+◌, ◌≤◌, List, [], ◌∷◌, length, take, drop, refl}
 use mathlib.Core.Logic.{inl}
 use Rattle.std.proofs.Common.{arith}
-use Rattle.repl_disk.specs.declared.call.Done.{Done}
+use Rattle.repl_disk.specs.Calls.{Done}
 use Rattle.repl_disk.specs.Folder.{Folder}
 use Rattle.repl_disk.specs.Memory.{IsImage, WasImage, before_all}
 

@@ -6,6 +6,8 @@ pub mod Answers
 pub mod Replacing
 pub mod Stored
 pub mod Files
+pub mod Calls
+pub mod Past
 pub mod Memory
 pub mod Images
 pub mod Keeping

@@ -1,15 +1,15 @@
 -- A disk in memory: its files, and for each call since it was made how to take that back. Whatever a crash may leave, now
--- or at an earlier moment, is a matter of these.
-use Rattle.std.specs.Prelude.{◌≡◌, ◌≢◌, ◌⊎◌, ◌↔◌, ◌^◌, ◌<◌, min, Bool, true, Contains, Result, IsErr, IfSome, string_bytes, ℕ, ◌+◌, ◌-◌, ◌≤◌, List, [], ◌∷◌, length, take, drop, Option, Some, None}
+-- or at an earlier moment, is a matter of these. The calls stand in proofs alone: at run time it keeps its files.
+use Rattle.std.specs.Prelude.{◌≡◌, ◌≢◌, ◌⊎◌, ◌↔◌, ◌^◌, ◌<◌, min, Bool, true, Contains, Result, IsErr, IfSome, ℕ, ◌+◌, ◌-◌, ◌≤◌, List, [], ◌∷◌, length, take, drop, Option, Some, None}
 use Rattle.std.specs.Option.{option_map}
-use Rattle.repl_disk.specs.declared.call.Done.{Done}
-use Rattle.repl_disk.specs.declared.call.Done.TheVariants as done
+use Rattle.repl_disk.specs.Calls as done
+use Rattle.repl_disk.specs.Calls.{Done}
 use Rattle.repl_disk.specs.declared.disk.DiskError.{DiskError}
 use Rattle.repl_disk.specs.declared.disk.DiskError.TheVariants as error
 use Rattle.repl_disk.specs.Answers.{is_failed}
 use Rattle.repl_disk.specs.Folder.{Folder, put, moved, content}
 use Rattle.repl_disk.specs.Crash.{Tears, Syncs, Moves, Removes}
-use Rattle.repl_disk.specs.Files.{folder_of}
+use Rattle.repl_disk.specs.Files.{folder_of, found}
 use Rattle.repl_disk.specs.State.{DiskState}
 use Rattle.repl_disk.specs.Tally.{raised}
 use Rattle.repl_disk.specs.Stored.{Cut, Stored, unwritten}
@@ -23,11 +23,10 @@ file_before (Some undo) now = Some (unwritten undo (content now))
 
 -- the files before a call, from those after it
 abbrev pub before : Done → Folder → Folder
-before (done.Wrote name at count undo) now = put now (string_bytes name) (file_before undo (now (string_bytes name)))
+before (done.Wrote name at count undo) now = put now name (file_before undo (now name))
 before (done.Synced name) now = now
-before (done.Renamed from to taken) now = put (put now (string_bytes to) (option_map (λ bytes. bytes.items) taken)) (string_bytes from)
-    (now (string_bytes to))
-before (done.Removed name taken) now = put now (string_bytes name) (Some taken.items)
+before (done.Renamed from to taken) now = put (put now to taken) from (now to)
+before (done.Removed name taken) now = put now name (Some taken)
 
 -- the files before all these calls, of which the latest comes first
 abbrev pub before_all : List Done → Folder → Folder
@@ -38,10 +37,10 @@ before_all (call ∷ earlier) now = before_all earlier (before call now)
 
 -- what a call does to an image, where the files read so before it
 abbrev pub Steps : Done → Folder → Folder → Folder → Type 0
-Steps (done.Wrote name at count undo) folder old new = Tears (string_bytes name) at count old new
-Steps (done.Synced name) folder old new = Syncs (string_bytes name) (folder (string_bytes name)) old new
-Steps (done.Renamed from to taken) folder old new = Moves (string_bytes from) (string_bytes to) old new
-Steps (done.Removed name taken) folder old new = Removes (string_bytes name) old new
+Steps (done.Wrote name at count undo) folder old new = Tears name at count old new
+Steps (done.Synced name) folder old new = Syncs name (folder name) old new
+Steps (done.Renamed from to taken) folder old new = Moves from to old new
+Steps (done.Removed name taken) folder old new = Removes name old new
 
 -- What a crash may leave of files that read so now, after these calls, of which the latest comes first: the files as they
 -- read, or what the last call makes of an image from before it.
@@ -61,10 +60,9 @@ WasImage calls now moment image = (later : ℕ) × (later + moment ≤ length ca
 abbrev pub certain : List Done → Folder → Folder
 certain [] now = now
 certain (done.Wrote name at count undo ∷ earlier) now = certain earlier (before (done.Wrote name at count undo) now)
-certain (done.Synced name ∷ earlier) now = put (certain earlier now) (string_bytes name) (now (string_bytes name))
-certain (done.Renamed from to taken ∷ earlier) now = moved (certain earlier (before (done.Renamed from to taken) now)) (string_bytes from)
-    (string_bytes to)
-certain (done.Removed name taken ∷ earlier) now = put (certain earlier (before (done.Removed name taken) now)) (string_bytes name) None
+certain (done.Synced name ∷ earlier) now = put (certain earlier now) name (now name)
+certain (done.Renamed from to taken ∷ earlier) now = moved (certain earlier (before (done.Renamed from to taken) now)) from to
+certain (done.Removed name taken ∷ earlier) now = put (certain earlier (before (done.Removed name taken) now)) name None
 
 -- ---- the disk
 
@@ -100,6 +98,10 @@ pub record Memory : Type 0 where
   pub faults : ℕ
   pub wants : ℕ
   pub lacks : ℕ
+
+-- nothing is kept of what was written into the file: no write can be taken back
+abbrev pub KeepsNoWrite : List Stored → List ℕ → Type 0
+KeepsNoWrite files name = IfSome (found files name) (λ file. file.undos ≡ [])
 
 -- the files as they read
 abbrev pub reading : Memory → Folder

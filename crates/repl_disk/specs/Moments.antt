@@ -1,5 +1,5 @@
 -- How a run of calls goes on, for whoever proves what a crash at any of its moments leaves.
-use Rattle.std.proofs.Common.{inl, inr, ⊎_elim, ℕ, ◌⊎◌, arith}
+use Rattle.std.proofs.Common.{inl, inr, ⊎_elim, arith}
 use Rattle.repl_disk.specs.Crash.{Elapses, LeavesOnly}
 use Rattle.repl_disk.specs.Folder.{Folder}
 use Rattle.repl_disk.specs.State.{DiskState}

@@ -1,6 +1,6 @@
 -- Putting other bytes under a name, so that a crash leaves the old ones or the new. They are written under a second name
 -- first, the temporary one.
-use Rattle.std.specs.Prelude.{◌≡◌, ◌≢◌, ◌⊎◌, ℕ, List, ◌++◌, Option, Some, None, codes}
+use Rattle.std.specs.Prelude.{◌≡◌, ◌≢◌, ◌⊎◌, ℕ, List, ◌++◌, Some, None, codes}
 use Rattle.repl_disk.specs.Crash.{LeavesOnly}
 use Rattle.repl_disk.specs.Folder.{Folder, ToldFiles, put}
 use Rattle.repl_disk.specs.State.{DiskState}

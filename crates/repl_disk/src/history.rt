@@ -1,37 +1,37 @@
-//! The files of a disk in memory, and how each of its calls is taken back.
+//! The files of a disk in memory, and the calls that led to them.
 ghost use Rattle.std.specs.Prelude.{◌≡◌, ℕ, ◌+◌, ◌^◌, ◌<◌, ◌≤◌, List, [], length, map, IfOk, IsSome, OnOk, MatchResult, None, Some, string_bytes, true, false};
 ghost use Rattle.repl_disk.specs.declared.disk.DiskError.TheVariants as error;
 ghost use Rattle.repl_disk.specs.Files.{folder_of};
 ghost use Rattle.repl_disk.specs.Folder.{AreNames, ReadsAt, moved, put, written};
+ghost use Rattle.repl_disk.specs.Answers.{NeverWants};
 ghost use Rattle.repl_disk.specs.Crash.{Tears, Syncs, Moves, Removes};
-ghost use Rattle.repl_disk.specs.Memory.{Did, DidNot, certain};
+ghost use Rattle.repl_disk.specs.Memory.{Did, DidNot, KeepsNoWrite, certain};
 
-use crate::call::Done;
 use crate::disk::DiskError;
 use crate::memory_file::File;
 use crate::memory_files;
+use crate::past::{Note, Past};
 use std::alloc::Global;
 use std::marker::Model;
 
-/// The files, sorted by their names, and the calls since the disk was made or crashed.
+/// The files, sorted by their names, and the calls since the disk was made or crashed. Only the files take memory.
 #[derive(Drop)]
 pub(crate) struct History {
     alloc: Global,
     files: Vec<File>,
-    /// The latest call comes last.
-    done: Vec<Done>,
+    past: Past,
 }
 
 impl Model for History {
-    ghost use Rattle.std.specs.Prelude.{◌≡◌, reverse};
+    ghost use Rattle.std.specs.Prelude.{◌≡◌};
     ghost use Rattle.repl_disk.specs.Files.{AreOrdered, folder_of, certain_folder};
     ghost use Rattle.repl_disk.specs.Memory.{Held, certain};
 
     ghost Value = { Held };
 
-    ghost view = { λ h. record { files = h.files.items; calls = reverse h.done.items } };
+    ghost view = { λ h. record { files = h.files.items; calls = h.past.calls } };
 
-    ghost invariant = { λ h. AreOrdered h.files.items × (certain (reverse h.done.items) (folder_of h.files.items) ≡ certain_folder h.files.items) };
+    ghost invariant = { λ h. AreOrdered h.files.items × (certain h.past.calls (folder_of h.files.items) ≡ certain_folder h.files.items) };
 }
 
 impl History {
@@ -42,7 +42,7 @@ impl History {
         History {
             alloc,
             files: Vec::new(alloc),
-            done: Vec::new(alloc),
+            past: Past::new(),
         }
     }
 
@@ -78,31 +78,32 @@ impl History {
             (λ _. Did self.old self.new (λ folder. written folder name.now at bytes.now) (Tears name.now at (length bytes.now)))
             (λ e. (e ≡ error.Memory) × (self.new ≡ self.old)) }
     {
-        let call_name = String::from_str(self.alloc, name)?;
-        self.done.reserve(1)?;
-        let undo = memory_files::write(self.alloc, &mut self.files, name, at, bytes)?;
-        self.done.push_reserved(Done::Wrote {
-            name: call_name,
-            at: at as u64,
-            count: bytes.len(),
-            undo,
+        let past = self.past.then(&Note::Write {
+            files: &self.files,
+            name,
+            at,
+            bytes,
         });
+        memory_files::write(self.alloc, &mut self.files, name, at, bytes)?;
+        self.past = past;
         Ok(())
     }
 
-    /// Makes certain what was written into the file, and its name.
+    /// Makes certain what was written into the file, and its name, and lets go of how its writes are taken back. Takes no
+    /// memory.
     pub(crate) fn sync(&mut self, name: &str) -> Result<(), DiskError>
         ensures there { OnOk result (IsSome (folder_of self.old.files name.now)) }
         ensures done { MatchResult result
             (λ _. Did self.old self.new (λ folder. folder) (Syncs name.now (folder_of self.old.files name.now)))
             (λ e. DidNot self.old self.new name.now e) }
+        ensures lets_go { OnOk result (KeepsNoWrite self.new.files name.now) }
+        ensures never_wants { NeverWants result }
     {
-        let call_name = String::from_str(self.alloc, name)?;
-        self.done.reserve(1)?;
+        let past = self.past.then(&Note::Sync { name });
         if !memory_files::settle(&mut self.files, name) {
             return Err(DiskError::Missing);
         }
-        self.done.push_reserved(Done::Synced { name: call_name });
+        self.past = past;
         Ok(())
     }
 
@@ -114,38 +115,37 @@ impl History {
             (λ e. DidNot self.old self.new from.now e) }
     {
         let name = String::from_str(self.alloc, to)?;
-        let call_to = String::from_str(self.alloc, to)?;
-        self.done.reserve(1)?;
+        let past = self.past.then(&Note::Rename {
+            files: &self.files,
+            from,
+            to,
+        });
         let Some(mut file) = memory_files::take(&mut self.files, from) else {
             return Err(DiskError::Missing);
         };
-        let call_from = file.rename(name);
+        file.rename(name);
         // This finds room, since a file was taken out.
-        let taken = memory_files::put(&mut self.files, file)?;
-        self.done.push_reserved(Done::Renamed {
-            from: call_from,
-            to: call_to,
-            taken,
-        });
+        memory_files::put(&mut self.files, file)?;
+        self.past = past;
         Ok(())
     }
 
-    /// Removes the file.
+    /// Removes the file. Takes no memory.
     pub(crate) fn remove(&mut self, name: &str) -> Result<(), DiskError>
         ensures there { OnOk result (IsSome (folder_of self.old.files name.now)) }
         ensures done { MatchResult result
             (λ _. Did self.old self.new (λ folder. put folder name.now None) (Removes name.now))
             (λ e. DidNot self.old self.new name.now e) }
+        ensures never_wants { NeverWants result }
     {
-        self.done.reserve(1)?;
-        let Some(file) = memory_files::take(&mut self.files, name) else {
+        let past = self.past.then(&Note::Remove {
+            files: &self.files,
+            name,
+        });
+        let Some(_file) = memory_files::take(&mut self.files, name) else {
             return Err(DiskError::Missing);
         };
-        let (call_name, taken) = file.into_parts();
-        self.done.push_reserved(Done::Removed {
-            name: call_name,
-            taken,
-        });
+        self.past = past;
         Ok(())
     }
 
@@ -171,7 +171,7 @@ impl History {
         History {
             alloc: self.alloc,
             files,
-            done: Vec::new(self.alloc),
+            past: Past::new(),
         }
     }
 }

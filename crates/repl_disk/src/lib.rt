@@ -14,16 +14,17 @@
 #![tactic(auto)]
 
 mod bytes;
-mod call;
 mod disk;
 mod folder;
 mod history;
 mod memory;
 mod memory_file;
 mod memory_files;
+mod past;
 mod replacing;
 mod system;
 mod tally;
+mod undo;
 
 pub use disk::{Disk, DiskError};
 pub use folder::FolderDisk;

@@ -1,9 +1,9 @@
 //! A disk in memory.
-ghost use Rattle.std.specs.Prelude.{◌≡◌, ℕ, ◌≤◌, ◌↔◌, ◌+◌, [], Contains, List, Some, None, true, false, length, map, string_bytes, IfOk, refl};
+ghost use Rattle.std.specs.Prelude.{◌≡◌, ℕ, ◌≤◌, ◌↔◌, ◌+◌, [], Contains, List, Some, None, true, false, length, map, string_bytes, IfOk, OnOk, refl};
 ghost use Rattle.repl_disk.specs.Folder.{Stayed, ReadsAt, AreNames};
 ghost use Rattle.repl_disk.specs.Crash.{Tears, Syncs, Moves, Removes, NoneNew};
-ghost use Rattle.repl_disk.specs.Answers.{Wrote, Moved, Removed, OnlyWhereThere, NeverMissing, Leaves, LeavesAll, Ends, EndsRead};
-ghost use Rattle.repl_disk.specs.Memory.{Counts, Crashed, IsDue, KeepsOn, LeavesNow, begun, certain_files, reading, state_of};
+ghost use Rattle.repl_disk.specs.Answers.{Wrote, Moved, Removed, OnlyWhereThere, NeverMissing, NeverWants, Leaves, LeavesAll, Ends, EndsRead};
+ghost use Rattle.repl_disk.specs.Memory.{Counts, Crashed, IsDue, KeepsNoWrite, KeepsOn, LeavesNow, begun, certain_files, reading, state_of};
 ghost use Rattle.repl_disk.specs.Images.{reads_as_image, image_counts, image_only};
 ghost use Rattle.repl_disk.specs.Keeping.{keeps_itself, keeps_on};
 
@@ -15,10 +15,11 @@ use std::marker::Model;
 
 /// A disk in memory, which crashes and fails as it is told.
 ///
-/// Each call that does something is kept until the next crash, with what takes it back: the bytes that a write wrote
-/// over, and the whole file that a `rename` or a `remove` did away with, which is not copied. So a write at the end of a
-/// file keeps its name and some numbers, and not its bytes. A disk that was just made, or has just crashed, keeps its
-/// files alone. A call that fails is counted and does nothing else.
+/// It keeps its files, and of each write how it is taken back until a `sync` of its file or a crash: the bytes that it
+/// wrote over and two numbers. So a write at the end of a file keeps no bytes twice, a file that was just synced keeps its
+/// bytes alone, and what a `rename` or a `remove` does away with is gone. The calls themselves, by which the clauses say
+/// what a crash may leave now and at each earlier moment, stand in the contracts alone, and take no memory. A call that
+/// fails is counted and does nothing else.
 #[derive(Drop)]
 pub struct MemoryDisk {
     history: History,
@@ -189,6 +190,8 @@ impl Disk for MemoryDisk {
         ensures files { Stayed (Some (reading self.old)) (Some (reading self.new)) }
         ensures crash { Leaves result (Syncs name.now (reading self.old name.now)) (LeavesNow self.old) (LeavesNow self.new) }
         ensures all { LeavesAll result (Syncs name.now (reading self.old name.now)) (LeavesNow self.old) (LeavesNow self.new) }
+        ensures lets_go { OnOk result (KeepsNoWrite self.new.files name.now) }
+        ensures never_wants { NeverWants result }
         ensures ends { Ends result (state_of self.old) (state_of self.new) }
         ensures keeps { KeepsOn self.old self.new }
     {
@@ -221,6 +224,7 @@ impl Disk for MemoryDisk {
         ensures there { OnlyWhereThere (Some (reading self.old)) name.now result }
         ensures crash { Leaves result (Removes name.now) (LeavesNow self.old) (LeavesNow self.new) }
         ensures all { LeavesAll result (Removes name.now) (LeavesNow self.old) (LeavesNow self.new) }
+        ensures never_wants { NeverWants result }
         ensures ends { Ends result (state_of self.old) (state_of self.new) }
         ensures keeps { KeepsOn self.old self.new }
     {

@@ -1,9 +1,9 @@
 //! A file of a disk in memory.
 ghost use Rattle.std.specs.Prelude.{◌≡◌, ℕ, ◌+◌, ◌-◌, ◌^◌, ◌<◌, ◌≤◌, ◌++◌, min, take, drop, OnOk, OnErr, IfOk, length, string_bytes};
-ghost use Rattle.repl_disk.specs.Stored.{fresh, rewritten, settled, reverted, renamed, undo_of};
+ghost use Rattle.repl_disk.specs.Stored.{fresh, rewritten, settled, reverted, renamed};
 
 use crate::bytes::overwrite;
-use crate::call::Undo;
+use crate::undo::Undo;
 use std::alloc::{AllocError, Global};
 use std::marker::Model;
 
@@ -84,32 +84,26 @@ impl File {
         count
     }
 
-    /// Writes the bytes from `at` on, and answers how to take that back.
-    pub(crate) fn write(
-        &mut self,
-        alloc: Global,
-        at: usize,
-        bytes: &[u8],
-    ) -> Result<Undo, AllocError>
+    /// Writes the bytes from `at` on, and keeps how to take that back.
+    pub(crate) fn write(&mut self, alloc: Global, at: usize, bytes: &[u8]) -> Result<(), AllocError>
         requires { at + length bytes.now < 2 ^ 64 }
-        ensures undo { IfOk result (λ undo. undo ≡ undo_of self.old.bytes at (length bytes.now)) }
         ensures ok { OnOk result (self.new ≡ rewritten self.old at bytes.now) }
         ensures err { OnErr result (self.new ≡ self.old) }
     {
         let undo = Undo::of(alloc, &self.bytes, at, bytes.len())?;
-        let kept = undo.again()?;
         self.undos.reserve(1)?;
         overwrite(&mut self.bytes, at, bytes)?;
-        self.undos.push_reserved(kept);
-        Ok(undo)
+        self.undos.push_reserved(undo);
+        Ok(())
     }
 
-    /// Makes certain what was written.
+    /// Makes certain what was written, and lets go of how it is taken back. Takes no memory.
     pub(crate) fn settle(&mut self)
         ensures { self.new ≡ settled self.old }
     {
         self.made = false;
         self.undos.clear();
+        self.undos.shrink_to_fit();
     }
 
     /// Takes the writes since the last sync back. Takes no memory.
@@ -120,20 +114,13 @@ impl File {
         while let Some(undo) = self.undos.pop() {
             undo.revert(&mut self.bytes);
         }
+        self.undos.shrink_to_fit();
     }
 
-    /// Gives it another name, and answers the one that it had.
-    pub(crate) fn rename(&mut self, name: String) -> String
-        ensures name { string_bytes result ≡ self.old.name }
-        ensures file { self.new ≡ renamed self.old (string_bytes name) }
+    /// Gives it another name.
+    pub(crate) fn rename(&mut self, name: String)
+        ensures { self.new ≡ renamed self.old (string_bytes name) }
     {
-        std::mem::replace(&mut self.name, name)
-    }
-
-    /// Its name and its bytes.
-    pub(crate) fn into_parts(self) -> (String, Vec<u8>)
-        ensures { (string_bytes result.0 ≡ self.name) × (result.1.items ≡ self.bytes) }
-    {
-        (self.name, self.bytes)
+        self.name = name;
     }
 }

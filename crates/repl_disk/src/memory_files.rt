@@ -1,10 +1,9 @@
 //! The files of a disk in memory, sorted by their names.
-ghost use Rattle.std.specs.Prelude.{◌≡◌, ◌≤◌, ◌<◌, ◌+◌, ◌^◌, length, map, filter, is_some, false, string_bytes, IfOk, OnErr, IsOk, IsSome, MatchOption, Some, None, vec_len, vec_capacity};
+ghost use Rattle.std.specs.Prelude.{◌≡◌, ◌≤◌, ◌<◌, ◌+◌, ◌^◌, length, map, filter, is_some, false, string_bytes, IfOk, OnOk, OnErr, IsOk, IsSome, MatchOption, Some, None, vec_len, vec_capacity};
 ghost use Rattle.repl_disk.specs.Stored.{is_kept, reverted, settled};
-ghost use Rattle.repl_disk.specs.Files.{AreOrdered, Changed, bytes_of, file_after, folder_of, found, place_of, undo_after};
+ghost use Rattle.repl_disk.specs.Files.{AreOrdered, Changed, file_after, folder_of, found, place_of};
 ghost use Rattle.std.specs.Option.{option_map};
 
-use crate::call::Undo;
 use crate::memory_file::File;
 use std::alloc::{AllocError, Global};
 use std::cmp::Ordering;
@@ -34,25 +33,27 @@ pub(crate) fn find<'a>(files: &'a [File], name: &str) -> Option<&'a File>
     }
 }
 
-/// Writes the bytes into the file with that name, or makes it. Answers how to take a write back into one that was there.
+/// Writes the bytes into the file with that name, or makes it.
 pub(crate) fn write(
     alloc: Global,
     files: &mut Vec<File>,
     name: &str,
     at: usize,
     bytes: &[u8],
-) -> Result<Option<Undo>, AllocError>
+) -> Result<(), AllocError>
     requires ordered { AreOrdered files.old.items }
     requires end { at + length bytes.now < 2 ^ 64 }
-    ensures undo { IfOk result (λ undo. undo ≡ undo_after (found files.old.items name.now) at bytes.now) }
-    ensures ok { IfOk result (λ _. Changed files.old.items files.new.items name.now (Some (file_after (found files.old.items name.now) name.now at bytes.now))) }
+    ensures ok { OnOk result (Changed files.old.items files.new.items name.now (Some (file_after (found files.old.items name.now) name.now at bytes.now))) }
     ensures err { OnErr result (files.new.items ≡ files.old.items) }
 {
     match place_of(files, name) {
-        Ok(place) => Ok(Some(files[place].write(alloc, at, bytes)?)),
+        Ok(place) => {
+            files[place].write(alloc, at, bytes)?;
+            Ok(())
+        }
         Err(place) => {
             files.insert(place, File::made(alloc, name, at, bytes)?)?;
-            Ok(None)
+            Ok(())
         }
     }
 }
@@ -71,21 +72,20 @@ pub(crate) fn take(files: &mut Vec<File>, name: &str) -> Option<File>
     }
 }
 
-/// Puts the file among the others, and answers the bytes of the one that had its name.
-pub(crate) fn put(files: &mut Vec<File>, file: File) -> Result<Option<Vec<u8>>, AllocError>
+/// Puts the file among the others, in place of the one that had its name.
+pub(crate) fn put(files: &mut Vec<File>, file: File) -> Result<(), AllocError>
     requires { AreOrdered files.old.items }
-    ensures taken { IfOk result (λ taken. option_map (λ bytes. bytes.items) taken ≡ bytes_of (found files.old.items file.name)) }
-    ensures ok { IfOk result (λ _. Changed files.old.items files.new.items file.name (Some file)) }
+    ensures ok { OnOk result (Changed files.old.items files.new.items file.name (Some file)) }
     ensures succeeds { vec_len files.old < vec_capacity files.old → IsOk result }
 {
     match place_of(files, file.name()) {
         Ok(place) => {
-            let (_, taken) = std::mem::replace(&mut files[place], file).into_parts();
-            Ok(Some(taken))
+            files[place] = file;
+            Ok(())
         }
         Err(place) => {
             files.insert(place, file)?;
-            Ok(None)
+            Ok(())
         }
     }
 }

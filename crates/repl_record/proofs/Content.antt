@@ -52,7 +52,7 @@ content-header size position (byte ∷ bytes) is within =
     content-header_byte size position byte bytes inside ∙ content-header size (position + 1) bytes is (omega (arith, place, limit))
 
 -- of a part of the rest of a page all is
-content-page : (size position : ℕ) (bytes : List ℕ) → IsSegSize size → header_length size position ≤ position % 8192
+pub content-page : (size position : ℕ) (bytes : List ℕ) → IsSegSize size → header_length size position ≤ position % 8192
     → position % 8192 + length bytes ≤ 8192 → content size position bytes ≡ bytes
 content-page size position [] is behind within = content-nil size position
 content-page size position (byte ∷ []) is behind within =

@@ -22,6 +22,9 @@ pub mod ImageMadeFields
 pub mod ImageMadeGap
 pub mod ImageMadeHeaders
 pub mod ImageMade
+-- how long an image is, and that an item has one at a place
+pub mod ImageLength
+pub mod OneImage
 -- the log has one answer, and where records end in it
 pub mod LogAnswers
 pub mod LogEnds
@@ -39,3 +42,4 @@ pub mod WalkerRecord
 pub mod WalkerRecordJudged
 pub mod WalkerGap
 pub mod WalkerSteps
+pub mod WalkerAtOnce

@@ -99,7 +99,7 @@ not_in_header_from size position behind = le-ltb (position % 8192) (header_lengt
 pub in_header_tells : (size position : ℕ) → in_header size position ≡ true → position % 8192 < header_length size position
 in_header_tells size position is = ltb-true (position % 8192) (header_length size position) is
 
-not_in_header_tells : (size position : ℕ) → in_header size position ≡ false → header_length size position ≤ position % 8192
+pub not_in_header_tells : (size position : ℕ) → in_header size position ≡ false → header_length size position ≤ position % 8192
 not_in_header_tells size position is = ltb-false (position % 8192) (header_length size position) is
 
 -- the byte before a page is none of a header

@@ -1,8 +1,10 @@
 pub mod Checksum
 pub mod Shifts
 pub mod Record
+pub mod Length
 pub mod Judging
 pub mod Log
 pub mod Laying
 pub mod Walker
 pub mod Moves
+pub mod AtOnce

@@ -2,10 +2,12 @@ ghost use Rattle.std.specs.Prelude.{◌≡◌, ℕ, ◌+◌, ◌-◌, ◌%◌, �
 ghost use Rattle.byteorder.specs.Endian.{little_bytes};
 ghost use Rattle.repl_lsn.specs.Segment.{IsSegSize};
 ghost use Rattle.repl_record.specs.Record.{AreBytes, IsRecord, IsImage, HeadersAreSpelled, front_bytes, start_of, total_length};
+ghost use Rattle.repl_record.specs.Length.{image_end};
 ghost use Rattle.repl_record.specs.Checksum.{checksum};
 ghost use Rattle.repl_record.specs.Laying.{AreFields, IsLaid, content_of, due_header};
 
 use crate::checksum::crc32c;
+use crate::length::start_behind;
 use crate::record::{BODY_LIMIT, HEAD_LENGTH, Laid, RecordIn, RecordRefusal};
 use byteorder::{ByteOrder, LittleEndian};
 use bytes::Bytes;
@@ -47,6 +49,8 @@ pub fn lay_out(
     ensures spelled { IfOk result (λ laid. HeadersAreSpelled ident.now (λ _. tli) (total_length item.now) at laid.bytes) }
     ensures start { IfOk result (λ laid. laid.start ≡ start_of ident.now.size at) }
     ensures end { IfOk result (λ laid. laid.end ≡ at + length laid.bytes) }
+    // Where they end depends on the length of the item's body, the place and the size of segments alone.
+    ensures length { IfOk result (λ laid. laid.end ≡ image_end ident.now.size at (length item.now.body)) }
     // A body is refused exactly where it is too long.
     ensures too_long { (result ≡ Err (RecordRefusal.TooLong (length item.now.body))) ↔ (BODY_LIMIT < length item.now.body) }
     ensures only { IfErr result (λ refusal. refusal ≡ RecordRefusal.Memory ⊎ refusal ≡ RecordRefusal.TooLong (length item.now.body)) }
@@ -75,7 +79,7 @@ pub fn lay_out(
     written_agrees();
     Ok(Laid {
         bytes: Bytes::from_vec(out)?,
-        start: start_behind(at, ident),
+        start: start_behind(at, ident.size),
         end,
     })
 }
@@ -110,20 +114,6 @@ fn room_for(total: usize) -> usize
     let page_size = PAGE_SIZE as usize;
     let pages = total / (page_size - HEADER_LIMIT) + 2;
     total + pages * HEADER_LIMIT + ROUNDING
-}
-
-/// Where the record begins that is laid from here on.
-fn start_behind(at: Lsn, ident: &Ident) -> Lsn
-    requires { at ≤ 2 ^ 62 }
-    ensures { result ≡ start_of ident.now.size at }
-{
-    let offset = at.0 % u64::from(PAGE_SIZE);
-    let header = u64::from(header_size(at, ident.size));
-    if offset < header {
-        Lsn(at.0 - offset + header)
-    } else {
-        at
-    }
 }
 
 /// Fills `head` with what stands before the record's body.

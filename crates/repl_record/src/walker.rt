@@ -122,6 +122,9 @@ impl Walker {
                 why: refusal.why,
             };
         }
+        if let Some(taken) = self.image_at_once(bytes) {
+            return self.pass_image(taken);
+        }
         let mut used = 0;
         while used < bytes.len() {
             match self.advance(tli, &bytes[used..]) {

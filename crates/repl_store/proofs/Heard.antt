@@ -1,39 +1,5 @@
 -- The history of another timeline is put onto the disk: a crash leaves what the store kept, or that with the number heard.
-use Rattle.std.proofs.Common.{
-  ◌≡◌,
-  ◌≢◌,
-  ◌⊎◌,
-  ℕ,
-  ◌+◌,
-  ◌-◌,
-  ◌^◌,
-  ◌<◌,
-  ◌≤◌,
-  max,
-  List,
-  [],
-  ◌++◌,
-  codes,
-  length,
-  take,
-  Option,
-  Some,
-  None,
-  IsSome,
-  Result,
-  Ok,
-  Err,
-  refl,
-  sym,
-  ap,
-  ◌∙◌,
-  subst,
-  inl,
-  inr,
-  ⊎_elim,
-  arith,
-  length-append,
-}
+use Rattle.std.proofs.Common.{◌≡◌, ◌≢◌, ◌⊎◌, ℕ, ◌+◌, ◌-◌, ◌^◌, ◌<◌, ◌≤◌, max, List, ◌++◌, codes, length, take, Option, Some, None, IsSome, Ok, Err, refl, sym, ap, ◌∙◌, subst, inl, inr, ⊎_elim, arith, length-append}
 use Rattle.std.proofs.lemmas.Bool.{cases_eq, cases_lt}
 use Rattle.std.proofs.lemmas.List.{take_at}
 use Rattle.std.specs.Option.{option_map}
@@ -50,11 +16,11 @@ use Rattle.repl_disk.specs.Replacing.{IsAfter, IsBeforeOrAfter, IsHalfAside, IsU
 use Rattle.repl_disk.specs.Runs.{told_so}
 use Rattle.repl_disk.specs.State.{DiskState}
 use Rattle.repl_disk.specs.Steps.{put_other}
-use Rattle.repl_lsn.specs.History.{Path, SaysHistory}
+use Rattle.repl_lsn.specs.History.{SaysHistory}
 use Rattle.repl_lsn.specs.Segment.{eight, history_name}
 use Rattle.repl_lsn.proofs.Numbers.{eight_value, length_eight}
 use Rattle.repl_store.specs.Backing.{Backs, Comes, Either, Keeps, LeavesOne, State, fault_of, heard, log}
-use Rattle.repl_store.specs.Durable.{Carries, Durable, HasPath, IsKnown, StandsFor, control_name, segment_file}
+use Rattle.repl_store.specs.Durable.{Carries, Durable, IsKnown, StandsFor, control_name, segment_file}
 use Rattle.repl_store.specs.Head.{Head, IsHead}
 use Rattle.repl_store.specs.Leaving.{heard_state}
 use Rattle.repl_store.specs.declared.fault.StoreFault.{StoreFault}

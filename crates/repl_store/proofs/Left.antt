@@ -1,5 +1,5 @@
 -- Going over to a child: what its parts come to, one after another.
-use Rattle.std.proofs.Common.{◌≡◌, ◌⊎◌, ℕ, ◌≤◌, max, List, [], Result, Ok, Err, refl, sym, ap, ◌∙◌, subst, inl, inr, ⊎_elim, arith}
+use Rattle.std.proofs.Common.{◌≡◌, ◌⊎◌, ℕ, max, [], Result, Ok, Err, refl, ap, ◌∙◌, inl, inr, ⊎_elim, arith}
 use Rattle.repl_control.specs.declared.control.Role.{Role}
 use Rattle.repl_counts.specs.Counts.{Stood}
 use Rattle.repl_disk.specs.State.{DiskState}

@@ -1,24 +1,27 @@
 -- What a mount reads is what the files stand for.
-use Rattle.std.proofs.Common.{◌≡◌, ◌≢◌, ◌⊎◌, ℕ, zero, suc, ◌+◌, ◌-◌, ◌*◌, ◌/◌, ◌%◌, ◌^◌, ◌<◌, ◌≤◌, min, List, [], ◌∷◌, ◌++◌, length, take, get_or, Option, Some, None, refl, sym, ◌∙◌, ap, subst, inl, inr, ⊎_elim, arith}
+use Rattle.std.proofs.Common.{◌≡◌, ◌≢◌, ℕ, zero, suc, ◌+◌, ◌-◌, ◌*◌, ◌/◌, ◌%◌, ◌<◌, ◌≤◌, List, [], ◌∷◌, ◌++◌, length, take, get_or, Option, Some, None, refl, sym, ◌∙◌, ap, subst, inr, ⊎_elim, arith}
 use Rattle.std.proofs.Math.Nat.{mod-add-div', mod-lt}
 use Rattle.std.proofs.Math.Seq.{take-length}
 use Rattle.std.proofs.lemmas.List.{append-nil, ext_get_or}
 use Rattle.std.proofs.lemmas.Nat.{le-div}
 use Rattle.repl_control.proofs.Spelled.{control_one}
-use Rattle.repl_control.specs.Control.{FitsFields, IsControl, SpellsControl, control_bytes}
+use Rattle.repl_control.specs.Control.{control_bytes}
 use Rattle.repl_control.specs.declared.control.Control.{Control}
 use Rattle.repl_disk.specs.Crash.{NoneNew}
 use Rattle.repl_disk.specs.Folder.{Folder, IfTold, Stayed, ToldFiles, content}
 use Rattle.repl_disk.specs.Runs.{told_so}
 use Rattle.repl_disk.specs.State.{DiskState}
 use Rattle.repl_lsn.proofs.Reading.{one_reading}
+use Rattle.repl_lsn.specs.Between.{IsFaultBetween}
 use Rattle.repl_lsn.specs.History.{Path, SaysHistory}
+use Rattle.repl_lsn.specs.declared.fault.HistoryFault.{HistoryFault}
+use Rattle.repl_lsn.specs.declared.fault.HistoryFault.TheVariants as history
 use Rattle.repl_lsn.specs.Segment.{history_name}
 use Rattle.repl_store.proofs.Carrying.{carries_take}
 use Rattle.repl_store.specs.Backing.{Backs}
 use Rattle.repl_store.specs.Head.{Head, IsMounted}
-use Rattle.repl_store.specs.Durable.{Carries, Durable, HasPath, IsKnown, StandsFor, control_name, file_at, segment_file}
-use Rattle.repl_store.specs.Refusal.{HasControl, IsEnough, IsHeld, IsLackOf, IsRefusal, needed}
+use Rattle.repl_store.specs.Durable.{Carries, Durable, HasPath, IsKnown, StandsFor, file_at}
+use Rattle.repl_store.specs.Refusal.{HasControl, IsEnough, IsHeld, IsLackOf, IsRefusal, bad_history}
 use Rattle.repl_store.specs.declared.fault.StoreFault.{StoreFault}
 use Rattle.repl_store.specs.declared.fault.StoreFault.TheVariants as fault
 use Rattle.repl_lsn.specs.declared.history.Part.{Part}
@@ -179,6 +182,18 @@ lack_refuses size folder c path (fault.ShortFile name have wanted) has path_is l
 }
 lack_refuses size folder c path fault.DiskFault has path_is lack = tt
 lack_refuses size folder c path fault.Memory has path_is lack = tt
+
+-- what is wrong with the text of the history is why the store is refused; that memory was wanting says nothing of it
+pub history_refuses : (size : ℕ) (folder : Folder) (c : Control) (text : List ℕ) (wrong : HistoryFault) → HasControl size folder c → c.tli ≢ 1
+    → folder (history_name c.tli) ≡ Some text → IsFaultBetween c.tli text size c.whole wrong
+    → IsRefusal size folder (bad_history c.tli wrong)
+history_refuses size folder c text history.Memory has later read is = tt
+history_refuses size folder c text (history.TooLong have) has later read is = (c, text, has, refl, later, read, (λ same. absurd cc), is)
+history_refuses size folder c text (history.NotNumber line) has later read is = (c, text, has, refl, later, read, (λ same. absurd cc), is)
+history_refuses size folder c text (history.NotSwitch line) has later read is = (c, text, has, refl, later, read, (λ same. absurd cc), is)
+history_refuses size folder c text (history.NotIncreasing line) has later read is = (c, text, has, refl, later, read, (λ same. absurd cc), is)
+history_refuses size folder c text (history.NotBelowOwn line) has later read is = (c, text, has, refl, later, read, (λ same. absurd cc), is)
+history_refuses size folder c text (history.SwitchFalls line) has later read is = (c, text, has, refl, later, read, (λ same. absurd cc), is)
 
 -- ---- a mounted store
 

@@ -1,33 +1,5 @@
 -- Another control in the place of the old one, whatever it says: a crash leaves the old state or the new one.
-use Rattle.std.proofs.Common.{
-  ◌≡◌,
-  ◌≢◌,
-  ◌⊎◌,
-  ℕ,
-  ◌+◌,
-  ◌-◌,
-  ◌^◌,
-  ◌≤◌,
-  List,
-  ◌++◌,
-  length,
-  take,
-  Some,
-  None,
-  Result,
-  Ok,
-  Err,
-  refl,
-  sym,
-  ap,
-  ◌∙◌,
-  subst,
-  inl,
-  inr,
-  ⊎_elim,
-  arith,
-  length-append,
-}
+use Rattle.std.proofs.Common.{◌≡◌, ◌≢◌, ℕ, ◌+◌, ◌-◌, ◌^◌, ◌≤◌, List, length, take, Some, None, Ok, Err, refl, sym, ap, ◌∙◌, subst, inl, inr, ⊎_elim, arith, length-append}
 use Rattle.std.proofs.lemmas.List.{length-take}
 use Rattle.std.specs.Option.{option_map}
 use Rattle.repl_counts.specs.Counts.{RoseExactly}
@@ -40,7 +12,7 @@ use Rattle.repl_disk.specs.Moments.{weakened}
 use Rattle.repl_disk.specs.Replacing.{IsAfter, IsBeforeOrAfter, IsHalfAside, IsUntouched, replaced}
 use Rattle.repl_disk.specs.Runs.{told_so}
 use Rattle.repl_disk.specs.State.{DiskState}
-use Rattle.repl_disk.specs.Steps.{put_other, put_at}
+use Rattle.repl_disk.specs.Steps.{put_other}
 use Rattle.repl_lsn.specs.History.{Path}
 use Rattle.repl_lsn.specs.Segment.{history_name}
 use Rattle.repl_store.specs.Backing.{Backs, Comes, Either, Keeps, LeavesOne, State, fault_of, log}

@@ -1,44 +1,10 @@
 -- A raised floor, and files below it that go: what the files stand for meanwhile.
-use Rattle.std.proofs.Common.{
-  ◌≡◌,
-  ◌≢◌,
-  ◌⊎◌,
-  ℕ,
-  ◌+◌,
-  ◌-◌,
-  ◌*◌,
-  ◌/◌,
-  ◌%◌,
-  ◌^◌,
-  ◌<◌,
-  ◌≤◌,
-  List,
-  ◌++◌,
-  length,
-  take,
-  drop,
-  Some,
-  None,
-  Result,
-  Ok,
-  Err,
-  refl,
-  sym,
-  ap,
-  ◌∙◌,
-  subst,
-  inl,
-  inr,
-  ⊎_elim,
-  arith,
-  length-append,
-  length-drop,
-}
+use Rattle.std.proofs.Common.{◌≡◌, ◌⊎◌, ℕ, ◌+◌, ◌-◌, ◌≤◌, List, ◌++◌, length, take, drop, Some, Result, Ok, Err, refl, sym, ap, ◌∙◌, subst, inr, arith, length-drop}
 use Rattle.std.proofs.lemmas.List.{drop-append-le, drop-take}
 use Rattle.std.proofs.lemmas.Nat.{div-add-mod'}
-use Rattle.repl_control.specs.Control.{IsControl, control_bytes}
+use Rattle.repl_control.specs.Control.{control_bytes}
 use Rattle.repl_control.specs.declared.control.Control.{Control}
-use Rattle.repl_counts.specs.Counts.{Rose, RoseExactly, Stood}
+use Rattle.repl_counts.specs.Counts.{RoseExactly, Stood}
 use Rattle.repl_disk.specs.declared.disk.DiskError.{DiskError}
 use Rattle.repl_disk.specs.declared.disk.DiskError.TheVariants as error
 use Rattle.repl_disk.specs.Answers.{NeverMissing, is_fault}
@@ -51,10 +17,10 @@ use Rattle.repl_lsn.specs.Between.{AreBetween}
 use Rattle.repl_store.specs.Backing.{Backs, Before, CanRaise, Comes, Either, Keeps, LeavesOne, State, fault_of, log, raised, raised_control}
 use Rattle.repl_store.specs.Durable.{Carries, Durable, StandsFor, control_aside, control_name}
 use Rattle.repl_store.specs.Head.{Head, IsHead}
-use Rattle.repl_store.specs.Raised.{NamesBelow, raised_head, raised_state}
+use Rattle.repl_store.specs.Raised.{raised_head, raised_state}
 use Rattle.repl_store.specs.declared.fault.StoreFault.{StoreFault}
 use Rattle.repl_store.specs.declared.fault.StoreFault.TheVariants as fault
-use Rattle.repl_store.proofs.Backed.{head_carries, log_end}
+use Rattle.repl_store.proofs.Backed.{head_carries}
 use Rattle.repl_store.proofs.Carrying.{carries_drop}
 use Rattle.repl_store.proofs.Chaining.{comes_after, comes_as}
 use Rattle.repl_store.proofs.Putting.{

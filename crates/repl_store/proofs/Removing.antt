@@ -1,52 +1,18 @@
 -- Files of segments below the floor go: nothing that counts changes.
-use Rattle.std.proofs.Common.{
-  ◌≡◌,
-  ◌≢◌,
-  ◌⊎◌,
-  ℕ,
-  ◌+◌,
-  ◌-◌,
-  ◌*◌,
-  ◌/◌,
-  ◌%◌,
-  ◌^◌,
-  ◌<◌,
-  ◌≤◌,
-  List,
-  [],
-  ◌++◌,
-  length,
-  take,
-  Some,
-  None,
-  Result,
-  Ok,
-  Err,
-  refl,
-  sym,
-  ap,
-  ◌∙◌,
-  subst,
-  inl,
-  inr,
-  ⊎_elim,
-  arith,
-  length-append,
-}
+use Rattle.std.proofs.Common.{◌≡◌, ◌≢◌, ℕ, ◌+◌, ◌-◌, ◌/◌, ◌^◌, ◌≤◌, List, [], length, take, None, Ok, Err, refl, ap, subst, inl, inr, arith}
 use Rattle.std.proofs.Math.Nat.{div-mul-le_self}
 use Rattle.std.proofs.lemmas.Nat.{le-div}
-use Rattle.repl_counts.specs.Counts.{Rose, RoseExactly, Stood}
+use Rattle.repl_counts.specs.Counts.{RoseExactly}
 use Rattle.repl_disk.specs.declared.disk.DiskError.{DiskError}
 use Rattle.repl_disk.specs.declared.disk.DiskError.TheVariants as error
 use Rattle.repl_disk.specs.Answers.{Does, Ends, Leaves, is_fault}
-use Rattle.repl_disk.specs.Crash.{Elapses, LeavesOnly, NoneNew, Removes}
-use Rattle.repl_disk.specs.Folder.{Folder, IfTold, Stayed, content, put}
+use Rattle.repl_disk.specs.Crash.{Elapses, NoneNew, Removes}
+use Rattle.repl_disk.specs.Folder.{Folder, IfTold, content, put}
 use Rattle.repl_disk.specs.Moments.{goes_on, started}
 use Rattle.repl_disk.specs.Runs.{Run, begun, ran, told_so}
 use Rattle.repl_disk.specs.State.{DiskState}
 use Rattle.repl_disk.specs.Steps.{keeps_remove}
 use Rattle.repl_lsn.specs.History.{Path}
-use Rattle.repl_lsn.specs.Segment.{Fits}
 use Rattle.repl_store.specs.Backing.{Backs, Before, Comes, IsCaused, Keeps, LeavesOne, State, fault_of, log}
 use Rattle.repl_store.specs.Durable.{Carries, Durable, StandsFor, segment_file}
 use Rattle.repl_store.specs.Head.{Head, IsHead}
@@ -54,7 +20,7 @@ use Rattle.repl_store.specs.Raised.{NamesBelow}
 use Rattle.repl_store.specs.declared.fault.StoreFault.{StoreFault}
 use Rattle.repl_store.specs.declared.fault.StoreFault.TheVariants as fault
 use Rattle.repl_store.proofs.Backed.{backs_still, head_carries, own_carries}
-use Rattle.repl_store.proofs.Carrying.{carries_elsewhere, carries_again}
+use Rattle.repl_store.proofs.Carrying.{carries_again}
 use Rattle.repl_store.proofs.Putting.{bytes_short, log_short, synced_short}
 use Rattle.repl_store.proofs.Names.{HasNames, fits_at, same_file}
 use Rattle.repl_store.proofs.Standing.{OnlyAt, names_of_head, stands_at_segment}

@@ -1,41 +1,13 @@
 -- The first segment of a child is begun with bytes that were read from the log.
-use Rattle.std.proofs.Common.{
-  ◌≡◌,
-  ◌⊎◌,
-  ℕ,
-  ◌+◌,
-  ◌-◌,
-  ◌*◌,
-  ◌/◌,
-  ◌%◌,
-  ◌≤◌,
-  List,
-  length,
-  take,
-  drop,
-  Result,
-  Ok,
-  Err,
-  OnOk,
-  IfErr,
-  refl,
-  sym,
-  ap,
-  ◌∙◌,
-  subst,
-  inl,
-  inr,
-  arith,
-}
+use Rattle.std.proofs.Common.{◌≡◌, ◌⊎◌, ℕ, ◌-◌, ◌*◌, ◌/◌, ◌%◌, List, length, take, drop, Result, Ok, Err, OnOk, IfErr, ap, ◌∙◌, subst, inl, inr, arith}
 use Rattle.std.proofs.lemmas.Nat.{div-add-mod'}
 use Rattle.repl_counts.specs.Counts.{DidNotFall, Rose, Stood}
 use Rattle.repl_disk.specs.State.{DiskState}
 use Rattle.repl_lsn.specs.History.{Path, last_switch}
-use Rattle.repl_store.specs.Backing.{IsCaused, Reads, State, log}
+use Rattle.repl_store.specs.Backing.{IsCaused, State, log}
 use Rattle.repl_store.specs.Head.{Head}
-use Rattle.repl_store.specs.Leaving.{HasStart, IsFront, SaysIn, first_bytes, first_file}
+use Rattle.repl_store.specs.Leaving.{HasStart, IsFront, first_bytes, first_file}
 use Rattle.repl_store.specs.declared.fault.StoreFault.{StoreFault}
-use Rattle.repl_store.specs.declared.fault.StoreFault.TheVariants as fault
 
 pub where_ok : (result : Result (Unit {0}) StoreFault) (A B : Type 0) → (A → B) → OnOk result A → OnOk result B
 where_ok (Ok x) A B leads h = leads h

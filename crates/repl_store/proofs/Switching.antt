@@ -1,51 +1,11 @@
 -- A store that goes over to a child of its path: the first segment of the new timeline is none of the old ones, and before
 -- the switch point both paths stand in the same files.
-use Rattle.std.proofs.Common.{
-  ◌≡◌,
-  ◌≢◌,
-  ◌⊎◌,
-  ℕ,
-  ◌+◌,
-  ◌-◌,
-  ◌*◌,
-  ◌/◌,
-  ◌%◌,
-  ◌^◌,
-  ◌<◌,
-  ◌≤◌,
-  List,
-  [],
-  ◌∷◌,
-  ◌++◌,
-  length,
-  map,
-  take,
-  drop,
-  Option,
-  Some,
-  None,
-  Result,
-  Ok,
-  Err,
-  append_assoc,
-  refl,
-  sym,
-  ap,
-  ◌∙◌,
-  subst,
-  inl,
-  inr,
-  ⊎_elim,
-  arith,
-  length-append,
-}
-use Rattle.std.proofs.Math.Nat.{div-mul-le_self}
+use Rattle.std.proofs.Common.{◌≡◌, ◌≢◌, ℕ, ◌+◌, ◌-◌, ◌*◌, ◌/◌, ◌%◌, ◌^◌, ◌<◌, ◌≤◌, List, [], ◌∷◌, ◌++◌, map, take, Some, Ok, Err, append_assoc, refl, sym, ap, ◌∙◌, arith}
 use Rattle.std.proofs.lemmas.List.{take_at}
 use Rattle.std.proofs.lemmas.Nat.{div-add-mod'}
 use Rattle.std.specs.Str.Parse.{digits_value}
 use Rattle.repl_counts.specs.Counts.{RoseExactly}
 use Rattle.repl_disk.specs.declared.disk.DiskError.{DiskError}
-use Rattle.repl_disk.specs.declared.disk.DiskError.TheVariants as error
 use Rattle.repl_disk.specs.Answers.{NeverMissing, is_fault}
 use Rattle.repl_disk.specs.Crash.{LeavesOnly}
 use Rattle.repl_disk.specs.Folder.{Folder, IfTold, content}
@@ -58,17 +18,15 @@ use Rattle.repl_lsn.specs.History.{InOrder, IsPath, Path, last_switch}
 use Rattle.repl_lsn.specs.Path.{Step, step, steps}
 use Rattle.repl_lsn.specs.Segment.{Fits, eight, in_four_gib, history_name}
 use Rattle.repl_lsn.specs.declared.history.Part.{Part}
-use Rattle.repl_lsn.proofs.Holders.{child_holder, own_holder}
+use Rattle.repl_lsn.proofs.Holders.{own_holder}
 use Rattle.repl_lsn.proofs.Numbers.{eight_value, length_eight}
 use Rattle.repl_store.specs.Backing.{Backs, Before, Comes, Keeps, LeavesOne, State, fault_of, log}
 use Rattle.repl_store.specs.Durable.{Carries, Durable, StandsFor, segment_file, segment_timeline}
 use Rattle.repl_store.specs.Head.{Head, IsHead}
 use Rattle.repl_store.specs.Leaving.{SaysIn, first_file}
 use Rattle.repl_store.specs.declared.fault.StoreFault.{StoreFault}
-use Rattle.repl_store.specs.declared.fault.StoreFault.TheVariants as fault
 use Rattle.repl_store.proofs.Backed.{head_carries, own_carries}
 use Rattle.repl_store.proofs.Carrying.{carries_again}
-use Rattle.repl_store.proofs.Putting.{bytes_short, log_short, synced_short}
 use Rattle.repl_store.proofs.Names.{HasNames, fits_at, holder_most, history_differs, length_file, timeline_small}
 use Rattle.repl_store.proofs.Standing.{OnlyAt, names_of_head, stands_at_segment}
 use Rattle.repl_store.proofs.Turns.{done_comes, never_missing, refused_comes}

@@ -1,45 +1,5 @@
 -- The control of a child of the path: before the switch point both paths have the same bytes.
-use Rattle.std.proofs.Common.{
-  ◌≡◌,
-  ◌≢◌,
-  ◌⊎◌,
-  ℕ,
-  ◌+◌,
-  ◌-◌,
-  ◌*◌,
-  ◌/◌,
-  ◌%◌,
-  ◌^◌,
-  ◌<◌,
-  ◌≤◌,
-  max,
-  List,
-  [],
-  ◌∷◌,
-  ◌++◌,
-  length,
-  take,
-  drop,
-  get_or,
-  Option,
-  Some,
-  None,
-  IsSome,
-  Result,
-  Ok,
-  Err,
-  refl,
-  sym,
-  ap,
-  ◌∙◌,
-  subst,
-  inl,
-  inr,
-  ⊎_elim,
-  arith,
-  length-append,
-  length-drop,
-}
+use Rattle.std.proofs.Common.{◌≡◌, ◌≢◌, ◌⊎◌, ℕ, ◌+◌, ◌-◌, ◌*◌, ◌/◌, ◌%◌, ◌^◌, ◌<◌, ◌≤◌, max, List, [], ◌++◌, length, take, drop, get_or, Some, Ok, Err, refl, sym, ap, ◌∙◌, subst, inl, inr, ⊎_elim, arith, length-append, length-drop}
 use Rattle.std.proofs.lemmas.Bool.{cases_lt}
 use Rattle.std.proofs.lemmas.List.{append-nil, get_or-drop, get_or-take, get_or_append_left, length-take, take_all}
 use Rattle.std.proofs.lemmas.Nat.{div-add-mod', le-div}
@@ -57,18 +17,18 @@ use Rattle.repl_disk.specs.Replacing.{IsAfter, IsBeforeOrAfter, IsUntouched, rep
 use Rattle.repl_disk.specs.Runs.{told_so}
 use Rattle.repl_disk.specs.State.{DiskState}
 use Rattle.repl_lsn.specs.History.{IsPath, Path, SaysHistory, last_switch}
-use Rattle.repl_lsn.specs.Path.{IsChild, Step}
+use Rattle.repl_lsn.specs.Path.{IsChild}
 use Rattle.repl_lsn.specs.Segment.{history_name, segment_name}
 use Rattle.repl_lsn.proofs.Holders.{child_holder}
 use Rattle.repl_store.specs.Backing.{Backs, CanSwitch, Comes, Either, Keeps, State, fault_of, log, switched, switched_control}
-use Rattle.repl_store.specs.Durable.{Carries, Durable, IsKnown, StandsFor, control_aside, control_name, file_at, segment_file}
+use Rattle.repl_store.specs.Durable.{Carries, IsKnown, StandsFor, control_aside, control_name, file_at, segment_file}
 use Rattle.repl_store.specs.Head.{Head, IsHead}
 use Rattle.repl_store.specs.Leaving.{HasFront, HasStart, IsFront, SaysIn, first_bytes, first_file, switched_head, switched_state}
 use Rattle.repl_store.specs.declared.fault.StoreFault.{StoreFault}
-use Rattle.repl_store.proofs.Backed.{head_carries, log_end}
+use Rattle.repl_store.proofs.Backed.{head_carries}
 use Rattle.repl_store.proofs.Carrying.{carries_front}
 use Rattle.repl_store.proofs.Putting.{ButControl, bytes_short, carries_past, control_put, control_refused, same_histories}
-use Rattle.repl_store.proofs.Names.{HasNames, file_differs, history_differs}
+use Rattle.repl_store.proofs.Names.{file_differs}
 use Rattle.repl_store.proofs.Standing.{known_by, names_of_head}
 use Rattle.repl_store.proofs.Switching.{child_above, child_named, first_fits}
 

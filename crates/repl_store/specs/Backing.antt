@@ -1,5 +1,5 @@
 -- How a store and the files of its disk hang together, and what its calls make of both.
-use Rattle.std.specs.Prelude.{◌≡◌, ℕ, ◌+◌, ◌-◌, ◌≤◌, ◌⊎◌, ◌↔◌, Bool, true, max, take, drop, length, List, [], ◌∷◌, ◌++◌, Some, None, Result, Ok, Err, OnOk, IfErr}
+use Rattle.std.specs.Prelude.{◌≡◌, ℕ, ◌+◌, ◌-◌, ◌≤◌, ◌⊎◌, ◌↔◌, Bool, true, max, take, drop, length, List, [], ◌∷◌, ◌++◌, Some, None, Result, Err, OnOk, IfErr}
 use Rattle.repl_control.specs.Control.{IsControl}
 use Rattle.repl_control.specs.declared.control.Control.{Control}
 use Rattle.repl_control.specs.declared.control.Role.{Role}
@@ -10,7 +10,7 @@ use Rattle.repl_disk.specs.State.{DiskState}
 use Rattle.repl_disk.specs.declared.disk.DiskError.{DiskError}
 use Rattle.repl_disk.specs.declared.disk.DiskError.TheVariants as error
 use Rattle.repl_lsn.specs.History.{Path, canonical, last_switch}
-use Rattle.repl_lsn.specs.Path.{Step, steps}
+use Rattle.repl_lsn.specs.Path.{steps}
 use Rattle.repl_lsn.specs.declared.history.TheConstants.{HISTORY_LIMIT}
 use Rattle.repl_lsn.specs.Between.{AreBetween}
 use Rattle.repl_store.specs.Durable.{Carries, Durable, StandsFor}

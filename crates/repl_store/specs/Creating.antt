@@ -1,5 +1,5 @@
 -- Making a store.
-use Rattle.std.specs.Prelude.{◌≡◌, ℕ, ◌⊎◌, List, [], Some, None, IsSome, Result, Ok, Err, OnOk, IfErr}
+use Rattle.std.specs.Prelude.{◌≡◌, ℕ, ◌⊎◌, List, [], Some, None, IsSome, Result, Err, OnOk, IfErr}
 use Rattle.repl_counts.specs.Counts.{Rose, Stood}
 use Rattle.repl_control.specs.Control.{fresh_control}
 use Rattle.repl_control.specs.declared.control.Role.{Role}
@@ -45,8 +45,8 @@ IsUnmade told (fault.ShortFile name have wanted) = ⊥
 IsUnmade told fault.DiskFault = Unit {0}
 IsUnmade told fault.Memory = Unit {0}
 
--- Each failure of the disk is told, and none is told without one: over a disk that does not tell its files it may be a lack.
+-- Each failure of the disk is told, and none is told without one, or, where the disk does not tell its files, without a lack.
 pub record IsMadeOf {A : Type 0} (result : Result A StoreFault) (old new : DiskState) : Type 0 where
   pub ok : OnOk result (Stood old.faults new.faults × Stood old.wants new.wants)
-  pub failed : result ≡ Err fault.DiskFault → Rose old.faults new.faults ⊎ Rose old.lacks new.lacks
+  pub failed : result ≡ Err fault.DiskFault → Rose old.faults new.faults ⊎ ((old.files ≡ None) × Rose old.lacks new.lacks)
   pub others : IfErr result (λ e. (e ≡ fault.DiskFault) ⊎ Stood old.faults new.faults)

@@ -1,5 +1,5 @@
 -- What a store has in memory, beside its disk.
-use Rattle.std.specs.Prelude.{◌≡◌, ℕ, ◌+◌, ◌*◌, ◌/◌, ◌^◌, ◌<◌, ◌≤◌, ◌⊎◌, Bool, List, Option, Some, length}
+use Rattle.std.specs.Prelude.{◌≡◌, ℕ, ◌+◌, ◌*◌, ◌/◌, ◌^◌, ◌≤◌, ◌⊎◌, Bool, List, Option, Some}
 use Rattle.repl_control.specs.Control.{IsControl, FitsFields}
 use Rattle.repl_control.specs.declared.control.Control.{Control}
 use Rattle.repl_lsn.specs.History.{Path, IsPath}

@@ -1,5 +1,5 @@
 -- A store with another floor, and files below a floor that are not there.
-use Rattle.std.specs.Prelude.{◌≡◌, ℕ, ◌/◌, ◌<◌, ◌⊎◌, List, Option, Some, None}
+use Rattle.std.specs.Prelude.{◌≡◌, ℕ, ◌<◌, ◌⊎◌, List, Some, None}
 use Rattle.repl_disk.specs.Folder.{Folder, ToldFiles}
 use Rattle.repl_lsn.specs.Segment.{Names}
 use Rattle.repl_store.specs.Backing.{State, raised, raised_control}

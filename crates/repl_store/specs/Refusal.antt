@@ -1,10 +1,12 @@
 -- Why files stand for no store: the first that is wrong, in the order control, history, segments.
-use Rattle.std.specs.Prelude.{◌≡◌, ◌≢◌, ℕ, ◌+◌, ◌-◌, ◌*◌, ◌/◌, ◌<◌, ◌≤◌, ◌⊎◌, min, List, length, Option, Some, None}
+use Rattle.std.specs.Prelude.{◌≡◌, ◌≢◌, ℕ, ◌-◌, ◌*◌, ◌/◌, ◌<◌, ◌≤◌, ◌⊎◌, min, List, length, Some, None}
 use Rattle.repl_control.specs.Control.{IsControlFault, SpellsControl}
 use Rattle.repl_control.specs.declared.control.Control.{Control}
 use Rattle.repl_disk.specs.Folder.{Folder}
 use Rattle.repl_lsn.specs.Between.{IsFaultBetween}
 use Rattle.repl_lsn.specs.History.{IsHistoryFault, Path}
+use Rattle.repl_lsn.specs.declared.fault.HistoryFault.{HistoryFault}
+use Rattle.repl_lsn.specs.declared.fault.HistoryFault.TheVariants as history
 use Rattle.repl_lsn.specs.Segment.{history_name}
 use Rattle.repl_store.specs.Durable.{HasPath, control_name, segment_file}
 use Rattle.repl_store.specs.declared.fault.StoreFault.{StoreFault}
@@ -63,10 +65,20 @@ IsRefusal size folder fault.Exists = ⊥
 IsRefusal size folder (fault.Missing name) = IsMissing size folder name
 IsRefusal size folder (fault.BadControl place) = (bytes : List ℕ) × (folder control_name ≡ Some bytes) × IsControlFault size bytes place
 IsRefusal size folder (fault.BadHistory tli wrong) = (control : Control) × (text : List ℕ) × HasControl size folder control
-    × (control.tli ≡ tli) × (tli ≢ 1) × (folder (history_name tli) ≡ Some text) × IsFaultBetween tli text size control.whole wrong
+    × (control.tli ≡ tli) × (tli ≢ 1) × (folder (history_name tli) ≡ Some text) × (wrong ≢ history.Memory) × IsFaultBetween tli text size control.whole wrong
 IsRefusal size folder (fault.ShortFile name have wanted) = IsShort size folder name have wanted
 IsRefusal size folder fault.DiskFault = Unit {0}
 IsRefusal size folder fault.Memory = Unit {0}
+
+-- how it is refused that the history of this timeline is wrong so
+abbrev pub bad_history : ℕ → HistoryFault → StoreFault
+bad_history tli history.Memory = fault.Memory
+bad_history tli (history.TooLong have) = fault.BadHistory tli (history.TooLong have)
+bad_history tli (history.NotNumber line) = fault.BadHistory tli (history.NotNumber line)
+bad_history tli (history.NotSwitch line) = fault.BadHistory tli (history.NotSwitch line)
+bad_history tli (history.NotIncreasing line) = fault.BadHistory tli (history.NotIncreasing line)
+bad_history tli (history.NotBelowOwn line) = fault.BadHistory tli (history.NotBelowOwn line)
+bad_history tli (history.SwitchFalls line) = fault.BadHistory tli (history.SwitchFalls line)
 
 -- the file is not there, or the files have no part in it
 abbrev pub IsMissingOr : Folder → List ℕ → StoreFault → Type 0
@@ -85,7 +97,7 @@ IsUnread folder file own fault.Broken = ⊥
 IsUnread folder file own fault.Exists = ⊥
 IsUnread folder file own (fault.Missing name) = (folder file ≡ None) × (name ≡ file)
 IsUnread folder file own (fault.BadControl place) = ⊥
-IsUnread folder file own (fault.BadHistory tli wrong) = (tli ≡ own) × ((text : List ℕ) × (folder file ≡ Some text) × IsHistoryFault own text wrong)
+IsUnread folder file own (fault.BadHistory tli wrong) = (tli ≡ own) × (wrong ≢ history.Memory) × ((text : List ℕ) × (folder file ≡ Some text) × IsHistoryFault own text wrong)
 IsUnread folder file own (fault.ShortFile name have wanted) = ⊥
 IsUnread folder file own fault.DiskFault = Unit {0}
 IsUnread folder file own fault.Memory = Unit {0}

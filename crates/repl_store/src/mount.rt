@@ -7,7 +7,7 @@ ghost use Rattle.repl_lsn.specs.Between.{AreBetween};
 ghost use Rattle.repl_store.specs.Backing.{Asks, Backs, OnlyReads};
 ghost use Rattle.repl_store.specs.Durable.{Durable, HasPath, StandsFor, control_name};
 ghost use Rattle.repl_store.specs.Head.{IsMounted};
-ghost use Rattle.repl_store.specs.Refusal.{HasControl, IsEnough, IsHeld, IsLackOf, IsRefusal, IsSegmentLack, IsUnread};
+ghost use Rattle.repl_store.specs.Refusal.{HasControl, IsEnough, IsHeld, IsLackOf, IsRefusal, IsSegmentLack, IsUnread, bad_history};
 ghost use Rattle.repl_text.specs.Text.{IsText};
 ghost use Rattle.repl_store.specs.declared.fault.StoreFault.TheVariants as StoreFault;
 
@@ -134,8 +134,17 @@ fn read_own_history<D: Disk>(
     let least = Lsn(u64::from(size.bytes()));
     match parse_history_between(alloc, tli, &text, least, control.whole) {
         Ok(history) => Ok(history),
-        Err(HistoryFault::Memory) => Err(StoreFault::Memory),
-        Err(fault) => Err(StoreFault::BadHistory { tli, fault }),
+        Err(fault) => Err(bad_history(tli, fault)),
+    }
+}
+
+/// How it is refused that the history of this timeline is wrong so.
+fn bad_history(tli: Tli, fault: HistoryFault) -> StoreFault
+    ensures { result ≡ bad_history tli fault }
+{
+    match fault {
+        HistoryFault::Memory => StoreFault::Memory,
+        fault => StoreFault::BadHistory { tli, fault },
     }
 }
 

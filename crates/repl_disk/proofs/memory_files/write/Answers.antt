@@ -1,8 +1,8 @@
 -- The file of that name is written to, or made, and the others are as they were.
 use Rattle.std.proofs.Common.{◌≡◌, ◌∙◌, ℕ, ◌<◌, ◌≤◌, List, length, get_or, set, sym, ap, subst, rules, Option, Some}
 use Rattle.std.specs.List.{insert}
-use Rattle.repl_disk.specs.Files.{AreOrdered, found, file_after, undo_after, Changed}
-use Rattle.repl_disk.specs.Stored.{Cut, Stored, rewritten, fresh}
+use Rattle.repl_disk.specs.Files.{AreOrdered, found, file_after, Changed}
+use Rattle.repl_disk.specs.Stored.{Stored, rewritten, fresh}
 use Rattle.repl_disk.proofs.memory_files.write.Goals as goal
 use Rattle.repl_disk.proofs.Places.{IsAt, WouldStand, at_from, stands_from, at_within, stands_within, name_at, found_at, found_none, set_changed, insert_changed}
 
@@ -36,27 +36,12 @@ changed files name place file new at bytes here ordered read is =
     same = ap (λ (f : Stored). Some f) is ∙ sym
         (ap (λ (o : Option Stored). Some (file_after o name at bytes)) (there files name place file here read))
 
-pub returns-in_ok-write-in-Ok-clause-undo : goal.returns-in_ok-write-in-Ok-clause-undo
-returns-in_ok-write-in-Ok-clause-undo c =
-    let here : IsAt c.args.files.now.items c.args.name.now c.in-Ok.place = at_from c.deref.result.now c.args.files.now.items c.args.name.now
-    c.in-Ok.place c.in-Ok.ensures c.deref.ensures.value in
-    ap (λ (u : Cut). Some u) c.in_ok-write-in-Ok.ensures.undo ∙ sym
-    (ap (λ (o : Option Stored). undo_after o c.args.at c.args.bytes.now)
-    (there c.args.files.now.items c.args.name.now c.in-Ok.place c.index_mut.result.now here c.index_mut.ensures.value))
-
 pub returns-in_ok-write-in-Ok-clause-ok : goal.returns-in_ok-write-in-Ok-clause-ok
 returns-in_ok-write-in-Ok-clause-ok c =
     let here : IsAt c.args.files.now.items c.args.name.now c.in-Ok.place = at_from c.deref.result.now c.args.files.now.items c.args.name.now
     c.in-Ok.place c.in-Ok.ensures c.deref.ensures.value in
     changed c.args.files.now.items c.args.name.now c.in-Ok.place c.index_mut.result.now c.write.new.self c.args.at c.args.bytes.now here
     c.requires.ordered c.index_mut.ensures.value c.in_ok-write-in-Ok.ensures.ok
-
-pub returns-in_ok-insert-in-Err-clause-undo : goal.returns-in_ok-insert-in-Err-clause-undo
-returns-in_ok-insert-in-Err-clause-undo c =
-    let here : WouldStand c.args.files.now.items c.args.name.now c.in-Err.place =
-    stands_from c.deref.result.now c.args.files.now.items c.args.name.now c.in-Err.place c.in-Err.ensures c.deref.ensures.value in
-    sym (ap (λ (o : Option Stored). undo_after o c.args.at c.args.bytes.now)
-    (found_none c.args.files.now.items c.args.name.now c.in-Err.place c.requires.ordered here))
 
 made : (files : List Stored) (name : List ℕ) (place : ℕ) (new : Stored) (at : ℕ) (bytes : List ℕ) → WouldStand files name place
     → AreOrdered files → new ≡ fresh name at bytes

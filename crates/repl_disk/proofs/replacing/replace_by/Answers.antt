@@ -1,5 +1,5 @@
 -- What a replacement leaves of each image, from what is written aside and the rename.
-use Rattle.std.proofs.Common.{◌≡◌, Some, ◌∙◌, ap}
+use Rattle.std.proofs.Common.{Some, ◌∙◌, ap}
 use Rattle.std.specs.Option.{option_map}
 use Rattle.repl_disk.specs.Folder.{put}
 use Rattle.repl_disk.specs.Moments.{weakened, goes_on}

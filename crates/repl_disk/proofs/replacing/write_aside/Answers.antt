@@ -1,9 +1,9 @@
 -- What a file written aside leaves of each image, call by call.
-use Rattle.std.proofs.Common.{◌≡◌, List, ℕ, Option, Some, None, Ok, ◌∙◌, ap, refl, sym}
+use Rattle.std.proofs.Common.{Some, None, ◌∙◌, ap}
 use Rattle.std.specs.Option.{option_map}
-use Rattle.repl_disk.specs.Folder.{Folder, put, written}
+use Rattle.repl_disk.specs.Folder.{put, written}
 use Rattle.repl_disk.specs.Crash.{Removes, Either, Tears, Syncs}
-use Rattle.repl_disk.specs.Runs.{begun_within, ran, ran_within, stays, told_so, where_told}
+use Rattle.repl_disk.specs.Runs.{begun_within, ran_within, stays, told_so, where_told}
 use Rattle.repl_disk.specs.Steps.{keeps_either, keeps_remove, keeps_sync, keeps_tear, put_at}
 use Rattle.repl_disk.specs.Replacing.{IsAside}
 use Rattle.repl_disk.proofs.Telling.{written_anew, composed}

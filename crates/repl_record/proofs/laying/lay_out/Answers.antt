@@ -1,8 +1,9 @@
 -- The record's bytes are put in two pieces, and zeros behind them.
 use Rattle.std.proofs.Common.{◌≡◌, ℕ, ◌+◌, ◌%◌, ◌<◌, List, [], ◌++◌, length, replicate, sym, ap, ◌∙◌, arith, length-append}
 use Rattle.repl_record.specs.declared.laying.Place.{Place}
-use Rattle.repl_record.specs.Record.{content}
+use Rattle.repl_record.specs.Record.{IsImage, content}
 use Rattle.repl_record.proofs.Content.{content-nil}
+use Rattle.repl_record.proofs.ImageLength.{same_image_end}
 use Rattle.repl_record.proofs.LayingRecord.{IsFinished, IsImage-finished, spelled_finished, laid_bytes}
 use Rattle.repl_record.proofs.laying.lay_out.Goals as goal
 
@@ -68,6 +69,18 @@ pub returns-clause-image : goal.returns-clause-image
 unfolding place_of
 returns-clause-image c = IsImage-finished (place_of c) c.args.prev c.args.item.now c.put-2.new.out.items c.in_ok-from_vec.field-0
     c.written_agrees.ensures (finished c)
+
+pub returns-clause-length : goal.returns-clause-length
+unfolding place_of
+returns-clause-length c =
+    let item = c.args.item.now in
+    let log = c.in_ok-from_vec.field-0 in
+    let laid : log ≡ c.round_up.new.out.items = c.in_ok-from_vec.ensures.ok in
+    let image : IsImage c.args.ident.now (λ _. c.args.tli) c.args.at c.args.prev item log = IsImage-finished (place_of c) c.args.prev item
+    c.put-2.new.out.items log c.written_agrees.ensures (finished c) in
+    c.position_behind-end.ensures
+    ∙ ap (λ (t : List ℕ). c.args.at + length t) (sym laid)
+    ∙ same_image_end c.args.ident.now (λ _. c.args.tli) c.args.at c.args.prev item log c.read_fields.ensures.headers.size image
 
 pub returns-clause-spelled : goal.returns-clause-spelled
 unfolding place_of

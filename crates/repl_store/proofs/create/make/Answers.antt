@@ -1,5 +1,5 @@
 -- A replacement behind a look whether the control is there.
-use Rattle.std.proofs.Common.{◌≡◌, Some, ◌∙◌}
+use Rattle.std.proofs.Common.{◌∙◌}
 use Rattle.repl_disk.specs.Runs.{where_told}
 use Rattle.repl_store.specs.Durable.{control_aside, control_name}
 use Rattle.repl_control.specs.Control.{control_bytes}

@@ -1,5 +1,5 @@
 -- Name by name.
-use Rattle.std.proofs.Common.{◌≡◌, ◌+◌, ◌∷◌, ◌++◌, [], ℕ, List, map, string_bytes, take, length, get_or, ◌<◌, ◌≤◌, String, Global, sym, ◌∙◌, ap, subst, arith, rules}
+use Rattle.std.proofs.Common.{◌≡◌, ◌+◌, ◌∷◌, ◌++◌, [], ℕ, List, map, string_bytes, take, length, get_or, ◌<◌, Global, sym, ◌∙◌, ap, subst, arith}
 use Rattle.std.proofs.lemmas.List.{length-map, take_all, take_more}
 use Rattle.repl_store.specs.Numbers.{IsGreatest}
 use Rattle.repl_store.proofs.Hearing.{get_or-map_of, greatest_more, greatest_none}

@@ -1,6 +1,5 @@
 -- The names are those of the files that are there.
 use Rattle.std.proofs.Common.{◌≡◌, List, String, Global, map, string_bytes, vec_items, subst, rules}
-use Rattle.repl_disk.specs.Folder.{AreNames}
 use Rattle.repl_store.specs.Durable.{IsKnown}
 use Rattle.repl_store.specs.Numbers.{IsGreatest}
 use Rattle.repl_store.proofs.Hearing.{known_of_names}

@@ -1,5 +1,5 @@
 -- The segments so far have their files, and nothing changed.
-use Rattle.std.proofs.Common.{◌≡◌, ℕ, ◌+◌, ◌-◌, ◌*◌, ◌/◌, ◌<◌, ◌≤◌, Ok}
+use Rattle.std.proofs.Common.{ℕ, ◌+◌, ◌-◌, ◌*◌, ◌/◌, ◌<◌, ◌≤◌, Ok}
 use Rattle.repl_disk.specs.Folder.{IfTold}
 use Rattle.repl_store.specs.Backing.{Asks}
 use Rattle.repl_store.specs.Refusal.{IsEnough}

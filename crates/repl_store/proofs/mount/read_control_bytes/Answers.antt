@@ -1,6 +1,5 @@
 -- The whole control is read.
-use Rattle.std.proofs.Common.{◌≡◌, ℕ, List, length, take, Some, rules, arith, sym, ◌∙◌}
-use Rattle.repl_disk.specs.Folder.{Folder, IfTold}
+use Rattle.std.proofs.Common.{arith}
 use Rattle.repl_store.specs.Durable.{control_name}
 use Rattle.repl_store.proofs.Mounting.{front_is_all, told_along, told_both}
 use Rattle.repl_store.proofs.mount.read_control_bytes.Goals as goal

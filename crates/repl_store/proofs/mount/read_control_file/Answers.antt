@@ -1,9 +1,8 @@
 -- The control is read from its bytes.
 use Rattle.std.proofs.Common.{◌≡◌, ℕ, Err, IfErr, Result, rules, sym, subst}
-use Rattle.repl_disk.specs.Folder.{Folder, IfTold}
+use Rattle.repl_disk.specs.Folder.{IfTold}
 use Rattle.repl_store.specs.Refusal.{HasControl, IsRefusal}
 use Rattle.repl_store.specs.declared.fault.StoreFault.{StoreFault}
-use Rattle.repl_store.specs.declared.fault.StoreFault.TheVariants as StoreFault
 use Rattle.repl_store.proofs.Mounting.{told_map}
 use Rattle.repl_store.proofs.mount.read_control_file.Goals as goal
 

@@ -1,5 +1,5 @@
 -- What was read stands for a store.
-use Rattle.std.proofs.Common.{◌≡◌, ◌+◌, ◌<◌, ◌≤◌, ℕ, Option, Err, IfErr, Result, None, List, inl, refl, rules, sym, ap, ◌∙◌, subst, arith}
+use Rattle.std.proofs.Common.{◌≡◌, ◌<◌, ℕ, Err, IfErr, Result, None, inl, refl, rules, sym, ap, ◌∙◌, subst, arith}
 use Rattle.repl_disk.specs.Folder.{Folder, IfTold}
 use Rattle.repl_control.specs.declared.control.Control.{Control}
 use Rattle.repl_control.specs.declared.control.TheConstants.{VERSION_1_SIZE}

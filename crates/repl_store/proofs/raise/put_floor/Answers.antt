@@ -1,5 +1,5 @@
 -- A control with another floor, or the old one.
-use Rattle.std.proofs.Common.{◌≡◌, Err, ap, subst, sym, ◌∙◌}
+use Rattle.std.proofs.Common.{Err, ap, subst}
 use Rattle.repl_store.specs.Backing.{raised_control}
 use Rattle.repl_store.specs.Head.{Head, IsHead}
 use Rattle.repl_store.specs.Raised.{raised_head}

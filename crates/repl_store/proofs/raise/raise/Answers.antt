@@ -1,6 +1,6 @@
 -- A control with another floor, and then files that go.
-use Rattle.std.proofs.Common.{rules, ◌≡◌, ◌⊎◌, Err, refl, ap, subst, sym, ◌∙◌, inl, inr}
-use Rattle.repl_store.specs.Backing.{Before, Comes, Either, State, raised}
+use Rattle.std.proofs.Common.{rules, ◌≡◌, ◌⊎◌, Err, refl, ap, subst, ◌∙◌, inl}
+use Rattle.repl_store.specs.Backing.{Comes, Either, raised}
 use Rattle.repl_store.specs.Head.{Head}
 use Rattle.repl_store.specs.Raised.{raised_head, raised_state}
 use Rattle.repl_store.specs.declared.fault.StoreFault.{StoreFault}

@@ -1,9 +1,8 @@
 -- Name by name, files below the floor go.
-use Rattle.std.proofs.Common.{rules, ◌≡◌, ◌/◌, ◌≤◌, ℕ, List, [], map, get_or, string_bytes, String, Global, arith, length, Result, Ok, Err, refl, ap, subst, sym, ◌∙◌}
-use Rattle.repl_counts.specs.Counts.{Rose}
-use Rattle.repl_store.specs.Backing.{Backs, Before, Comes, LeavesOne, State}
+use Rattle.std.proofs.Common.{rules, ◌≡◌, ◌/◌, ◌≤◌, ℕ, List, [], map, get_or, string_bytes, String, Global, arith, length, Result, Err, refl, ap, subst, sym, ◌∙◌}
+use Rattle.repl_store.specs.Backing.{Before, Comes}
 use Rattle.repl_store.specs.declared.fault.StoreFault.{StoreFault}
-use Rattle.repl_store.proofs.Chaining.{comes_after, refused_on}
+use Rattle.repl_store.proofs.Chaining.{comes_after}
 use Rattle.repl_disk.specs.Moments.{joined, weakened}
 use Rattle.repl_store.proofs.Turns.{done_comes}
 use Rattle.std.proofs.lemmas.List.{get_or-map, length-map}

@@ -1,5 +1,5 @@
 -- So far nothing that counts changed.
-use Rattle.std.proofs.Common.{◌≡◌, ◌/◌, map, string_bytes}
+use Rattle.std.proofs.Common.{◌/◌, map, string_bytes}
 use Rattle.repl_store.proofs.Freeing.{Gone}
 use Rattle.repl_counts.specs.Counts.{Stood}
 use Rattle.repl_store.specs.Backing.{Backs, Before, LeavesOne, State}

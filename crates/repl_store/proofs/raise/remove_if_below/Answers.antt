@@ -1,5 +1,5 @@
 -- A file of a segment below the floor goes, and nothing that counts changes.
-use Rattle.std.proofs.Common.{rules, ◌≡◌, ◌/◌, true, IsTrue, Err, None, ap, subst, sym, ◌∙◌}
+use Rattle.std.proofs.Common.{rules, ◌≡◌, ◌/◌, true, Err, None, subst}
 use Rattle.repl_disk.specs.Answers.{Does, Leaves}
 use Rattle.repl_disk.specs.Crash.{Removes}
 use Rattle.repl_disk.specs.Folder.{IfTold, put}

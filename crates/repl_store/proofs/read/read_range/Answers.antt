@@ -1,10 +1,10 @@
 -- The log is read piece by piece.
-use Rattle.std.proofs.Common.{rules, ◌≡◌, ◌<◌, ◌≤◌, ◌+◌, ◌-◌, ℕ, List, length, take, drop, Result, Ok, Err, arith, sym, ◌∙◌, subst, length-drop}
+use Rattle.std.proofs.Common.{rules, ◌≡◌, ◌≤◌, ◌-◌, ℕ, length, take, drop, Result, Ok, Err, arith, sym, ◌∙◌, subst, length-drop}
 use Rattle.std.proofs.lemmas.List.{length-take}
-use borrow.Rule.Slice.PartMut.{put_mid, mid_of, same_len_mid}
-use Rattle.repl_store.specs.Backing.{Backs, Reads, State}
+use borrow.Rule.Slice.PartMut.{put_mid, same_len_mid}
+use Rattle.repl_store.specs.Backing.{Reads}
 use Rattle.repl_store.specs.declared.fault.StoreFault.{StoreFault}
-use Rattle.repl_store.proofs.Reading.{Filled, filled_err, filled_more}
+use Rattle.repl_store.proofs.Reading.{filled_err, filled_more}
 use Rattle.repl_store.proofs.read.read_range.Goals as goal
 
 pub returns-in_err-read_piece-clause-reads : goal.returns-in_err-read_piece-clause-reads

@@ -1,5 +1,5 @@
 -- What was filled is the log's, and nothing else changed.
-use Rattle.std.proofs.Common.{◌≡◌, ◌≤◌, ◌+◌, ◌-◌, length}
+use Rattle.std.proofs.Common.{◌≡◌, ◌≤◌, ◌-◌, length}
 use Rattle.repl_counts.specs.Counts.{Stood}
 use Rattle.repl_store.specs.Backing.{Backs, State}
 use Rattle.repl_store.proofs.Reading.{Filled}

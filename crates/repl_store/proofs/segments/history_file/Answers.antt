@@ -1,5 +1,5 @@
 -- The name of a history is a text.
-use Rattle.std.proofs.Common.{◌≡◌, ◌<◌, ◌≤◌, ◌^◌, ℕ, refl, lit<, lit≤, arith}
+use Rattle.std.proofs.Common.{◌^◌, refl, lit≤}
 use Rattle.repl_lsn.specs.Segment.{LogFile, history_name}
 use Rattle.repl_store.proofs.Texts.{named_text}
 use Rattle.repl_store.proofs.segments.history_file.Goals as goal

@@ -1,5 +1,5 @@
 -- The name of a segment's file is a text.
-use Rattle.std.proofs.Common.{◌≡◌, ◌<◌, ◌≤◌, ◌^◌, ℕ, refl, lit<, lit≤, arith}
+use Rattle.std.proofs.Common.{arith}
 use Rattle.repl_lsn.specs.Segment.{LogFile, segment_name}
 use Rattle.repl_store.proofs.Texts.{named_text}
 use Rattle.repl_store.proofs.segments.segment_file.Goals as goal

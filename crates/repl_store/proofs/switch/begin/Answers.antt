@@ -1,9 +1,9 @@
 -- The bytes before the switch point are read, and put into the child's first segment.
-use Rattle.std.proofs.Common.{rules, ◌≡◌, ◌-◌, ◌%◌, ℕ, List, length, Result, Ok, Err, refl, ap, subst, sym, ◌∙◌}
+use Rattle.std.proofs.Common.{rules, ◌≡◌, ◌-◌, ◌%◌, ℕ, length, Result, Ok, Err, refl, ap, subst, sym, ◌∙◌}
 use Rattle.std.proofs.lemmas.List.{take_at}
 use Rattle.repl_lsn.specs.History.{last_switch}
-use Rattle.repl_store.specs.Backing.{Backs, Before, Comes, Reads, State}
-use Rattle.repl_store.specs.Leaving.{HasStart, IsFront, first_file}
+use Rattle.repl_store.specs.Backing.{Before, Comes}
+use Rattle.repl_store.specs.Leaving.{first_file}
 use Rattle.repl_store.specs.declared.fault.StoreFault.{StoreFault}
 use Rattle.repl_store.specs.declared.fault.StoreFault.TheVariants as fault
 use Rattle.repl_store.proofs.Chaining.{comes_after, wanted_comes}

@@ -1,8 +1,8 @@
 -- The child's history, or the one that was there.
-use Rattle.std.proofs.Common.{rules, ◌≡◌, ◌++◌, ◌∙◌, ℕ, List, codes, Some, Err, ap, sym, subst}
+use Rattle.std.proofs.Common.{rules, ◌≡◌, ◌++◌, ℕ, List, codes, Err, ap, subst}
 use Rattle.repl_disk.specs.Crash.{LeavesOnly}
 use Rattle.repl_disk.specs.Folder.{Became, Folder, IfTold}
-use Rattle.repl_disk.specs.Replacing.{IsAfter, IsBeforeOrAfter, IsUntouched, replaced}
+use Rattle.repl_disk.specs.Replacing.{IsAfter, IsBeforeOrAfter, replaced}
 use Rattle.repl_lsn.specs.Segment.{history_name}
 use Rattle.repl_store.proofs.Heard.{hear_done, hear_refused}
 use Rattle.repl_store.proofs.switch.hear.Goals as goal

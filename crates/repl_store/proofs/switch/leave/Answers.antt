@@ -1,39 +1,12 @@
 -- The history, the first segment and the control, one after another.
-use Rattle.std.proofs.Common.{
-  rules,
-  ◌≡◌,
-  ◌≢◌,
-  ◌⊎◌,
-  ◌+◌,
-  ◌*◌,
-  ◌/◌,
-  ◌<◌,
-  ◌^◌,
-  ◌≤◌,
-  max,
-  ℕ,
-  List,
-  Result,
-  Ok,
-  Err,
-  refl,
-  ap,
-  subst,
-  sym,
-  ◌∙◌,
-  inl,
-  inr,
-  ⊎_elim,
-  arith,
-}
-use Rattle.repl_lsn.specs.History.{IsPath, Path}
-use Rattle.repl_store.specs.Backing.{Backs, Before, Comes, Either, State, heard, switched}
-use Rattle.repl_store.specs.Durable.{Durable}
+use Rattle.std.proofs.Common.{rules, ◌≡◌, ◌*◌, ◌/◌, ◌≤◌, ℕ, Err, refl, ap, subst, sym, inl, arith}
+use Rattle.repl_lsn.specs.History.{Path}
+use Rattle.repl_store.specs.Backing.{Before, Comes, Either, switched}
 use Rattle.repl_store.specs.Head.{Head, IsHead}
 use Rattle.repl_store.specs.Leaving.{HasStart, SaysIn, heard_state, switched_state}
 use Rattle.repl_store.specs.declared.fault.StoreFault.{StoreFault}
 use Rattle.repl_store.specs.declared.fault.StoreFault.TheVariants as fault
-use Rattle.repl_store.proofs.Chaining.{comes_after, comes_as, moments_more, refused_on, wanted_comes}
+use Rattle.repl_store.proofs.Chaining.{moments_more, wanted_comes}
 use Rattle.repl_store.proofs.Pieces.{idle}
 use Rattle.repl_store.proofs.Switching.{child_above}
 use Rattle.repl_store.proofs.Turned.{start_low}

@@ -1,9 +1,8 @@
 -- The file is none of the store's path.
-use Rattle.std.proofs.Common.{rules, ◌≡◌, ◌∙◌, ℕ, List, Some, Err, sym, subst}
+use Rattle.std.proofs.Common.{◌≡◌, ℕ, List, Some, subst}
 use Rattle.repl_disk.specs.Crash.{LeavesOnly}
 use Rattle.repl_disk.specs.Folder.{Folder, IfTold}
 use Rattle.repl_disk.specs.Replacing.{IsAside}
-use Rattle.repl_store.specs.Head.{Head, IsHead}
 use Rattle.repl_store.proofs.Switching.{beside_done, beside_refused, beside_said}
 use Rattle.repl_store.proofs.switch.put_first.Goals as goal
 

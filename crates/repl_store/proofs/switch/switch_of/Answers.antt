@@ -1,5 +1,5 @@
 -- The last part stands behind all others.
-use Rattle.std.proofs.Common.{rules, ◌≡◌, ◌<◌, length, ap, sym, ◌∙◌}
+use Rattle.std.proofs.Common.{◌<◌, length, ap, sym, ◌∙◌}
 use Rattle.repl_lsn.proofs.Order.{last_is}
 use Rattle.repl_lsn.specs.History.{last_switch}
 use Rattle.repl_store.proofs.switch.switch_of.Goals as goal

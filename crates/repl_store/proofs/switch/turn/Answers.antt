@@ -1,8 +1,6 @@
 -- The child's control, or the old one.
-use Rattle.std.proofs.Common.{rules, ◌≡◌, ◌<◌, ◌^◌, None, Err, ap, subst, sym, ◌∙◌, refl}
-use Rattle.repl_lsn.specs.History.{IsPath}
-use Rattle.repl_store.specs.Head.{Head, IsHead}
-use Rattle.repl_store.specs.Leaving.{switched_head}
+use Rattle.std.proofs.Common.{None, Err, ap, subst}
+use Rattle.repl_store.specs.Head.{IsHead}
 use Rattle.repl_store.proofs.Turned.{turn_done, turn_refused}
 use Rattle.repl_store.proofs.switch.turn.Goals as goal
 

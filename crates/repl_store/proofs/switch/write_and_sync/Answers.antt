@@ -1,5 +1,5 @@
 -- Only that file changes.
-use Rattle.std.proofs.Common.{rules, ◌≡◌, ◌∙◌, refl, List, length, Err}
+use Rattle.std.proofs.Common.{length}
 use Rattle.repl_disk.specs.Crash.{LeavesOnly, Syncs, Tears}
 use Rattle.repl_disk.specs.Folder.{Folder, written}
 use Rattle.repl_disk.specs.Replacing.{IsAside}

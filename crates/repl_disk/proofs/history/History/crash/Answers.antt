@@ -12,10 +12,10 @@ use Rattle.std.proofs.Common.{filter}
 pub invariant_of-result : goal.invariant_of-result
 invariant_of-result c =
     elim c.if-keep.branch [
-      | then-keep w ↦ tied_now c.if-keep.files.items (map settled c.self.inside.files.items) c.new.result.items c.new.ensures.items
+      | then-keep w ↦ tied_now c.if-keep.files.items (map settled c.self.inside.files.items) c.new.result.calls c.new.ensures
           (ap (λ v. v.items) w.files-is ∙ w.settle_all.ensures) (settled_ordered c.self.inside.files.items c.self.invariant.0)
           (settled_tied c.self.inside.files.items)
-      | else-keep w ↦ tied_now c.if-keep.files.items (left c.self.inside.files.items) c.new.result.items c.new.ensures.items
+      | else-keep w ↦ tied_now c.if-keep.files.items (left c.self.inside.files.items) c.new.result.calls c.new.ensures
           (ap (λ v. v.items) w.files-is ∙ w.revert_all.ensures) (reverted_ordered c.self.inside.files.items c.self.invariant.0)
           (reverted_tied (filter is_kept c.self.inside.files.items))
     ]

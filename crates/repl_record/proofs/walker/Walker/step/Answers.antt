@@ -1,4 +1,4 @@
--- The moves of a step: a fault, the end of a record, or one move more; and what they answer.
+-- A record whole at once; and the moves of a step: a fault, the end of a record, or one move more; and what they answer.
 use Rattle.std.proofs.Common.{◌≡◌, ℕ, ◌+◌, ◌-◌, ◌^◌, ◌≤◌, List, [], ◌++◌, length, take, drop, length-append, sym, ◌∙◌, subst, arith}
 use Rattle.std.proofs.lemmas.Bool.{iff_false}
 use Rattle.std.proofs.lemmas.List.{length-drop, length-take, take_all, take_rest}
@@ -10,6 +10,7 @@ use Rattle.repl_record.specs.Record.{start_of}
 use Rattle.repl_record.specs.Judging.{Answers, IsBeginning, IsFirstFault, IsWhole}
 use Rattle.repl_record.specs.Walker.{AreOn, GoesOn, Stands, position}
 use Rattle.repl_record.specs.Moves.{Reached, IsAtEnd}
+use Rattle.repl_record.proofs.WalkerAtOnce.{stands_at_once, whole_at_once}
 use Rattle.repl_record.proofs.WalkerSteps.{Walked, begins_next, fault_in_rest, part_of_rest, passes_from, rest_on, walked_on, whole_from}
 use Rattle.repl_record.proofs.walker.Walker.step.Goals as goal
 
@@ -18,6 +19,27 @@ pages_on : (old w : Walker) (timeline : ℕ → ℕ) (tli used : ℕ) (bytes : L
     → AreOn timeline tli (position old) (length bytes) → AreOn timeline tli (position w) (length (drop used bytes))
 pages_on old w timeline tli used bytes walked on = subst (λ (p : ℕ). AreOn timeline tli p (length (drop used bytes))) (sym walked.behind)
     (rest_on timeline tli (position old) used bytes walked.within on)
+
+pub returns-in-Some-image_at_once-clause-answers : goal.returns-in-Some-image_at_once-clause-answers
+returns-in-Some-image_at_once-clause-answers c timeline from prev log stands on =
+    let old : Walker = c.args.self.now in
+    let bytes = c.args.bytes.now in
+    let image = c.in-Some-image_at_once.ensures in
+    let Told : WalkStep → Type 0 = λ answer. Answers old.ident timeline from prev (log ++ bytes) answer in
+    subst Told (sym c.pass_image.ensures.told) (whole_at_once old timeline from prev log bytes c.in-Some-image_at_once.taken image.0 image.1
+    (λ i. omega (arith, c.type_inv.bytes i)) stands)
+
+pub returns-in-Some-image_at_once-clause-goes_on : goal.returns-in-Some-image_at_once-clause-goes_on
+returns-in-Some-image_at_once-clause-goes_on c timeline from prev log stands on =
+    let old : Walker = c.args.self.now in
+    let bytes = c.args.bytes.now in
+    let n = c.in-Some-image_at_once.taken in
+    let image = c.in-Some-image_at_once.ensures in
+    let low : old.at + n ≤ 2 ^ 63 = omega (arith, c.requires, image.1.within) in
+    let stood = stands_at_once old timeline from prev log bytes n image.0 image.1 low stands in
+    let Stood : Walker → Type 0 = λ now. Stands now timeline (old.at + n) old.at [] in
+    let Told : WalkStep → Type 0 = λ answer. GoesOn c.pass_image.new.self timeline from prev log bytes answer in
+    subst Told (sym c.pass_image.ensures.told) (stood.0, subst Stood (sym c.pass_image.ensures.passed) stood.1)
 
 pub returns-in-Err-clause-answers : goal.returns-in-Err-clause-answers
 returns-in-Err-clause-answers c timeline from prev log stands on =

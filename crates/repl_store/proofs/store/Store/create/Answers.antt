@@ -1,14 +1,12 @@
 -- A new store, from its control.
-use Rattle.std.proofs.Common.{◌≡◌, ◌<◌, ◌^◌, ℕ, List, Some, None, refl, ◌∙◌, sym, ap, subst, rules, arith}
+use Rattle.std.proofs.Common.{◌≡◌, ℕ, Some, ◌∙◌, ap, subst, rules}
 use Rattle.repl_control.specs.Control.{FitsFields, IsControl, fresh_control, control_bytes}
 use Rattle.repl_control.specs.declared.control.Control.{Control}
 use Rattle.repl_control.specs.declared.control.TheConstants.{VERSION_1_SIZE}
 use Rattle.repl_disk.specs.Crash.{LeavesOnly}
-use Rattle.repl_disk.specs.Folder.{Folder, IfTold}
 use Rattle.repl_disk.specs.Replacing.{IsBeforeOrAfter}
-use Rattle.repl_store.specs.Creating.{IsMade, fresh}
-use Rattle.repl_store.specs.Durable.{StandsFor, control_aside, control_name}
-use Rattle.repl_store.specs.Head.{Head, IsMounted}
+use Rattle.repl_store.specs.Creating.{IsMade}
+use Rattle.repl_store.specs.Durable.{control_aside, control_name}
 use Rattle.repl_store.proofs.Making.{fresh_stands, made_backs, making}
 use Rattle.repl_store.proofs.Mounting.{told_map}
 use Rattle.repl_store.proofs.store.Store.create.Goals as goal

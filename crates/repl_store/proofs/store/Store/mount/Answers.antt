@@ -1,5 +1,4 @@
 -- A mounted store and its files hang together.
-use Rattle.std.proofs.Common.{◌≡◌, rules}
 use Rattle.repl_store.proofs.Mounting.{mounted_backs}
 use Rattle.repl_store.proofs.store.Store.mount.Goals as goal
 

@@ -1,6 +1,5 @@
 -- The parts' answer is the store's.
-use Rattle.std.proofs.Common.{rules, ◌≡◌, ◌⊎◌, Result, Ok, Err, IfErr, refl, sym, ap, ◌∙◌, subst, inl, inr}
-use Rattle.repl_disk.specs.State.{DiskState}
+use Rattle.std.proofs.Common.{◌≡◌, ◌⊎◌, Result, sym, subst}
 use Rattle.repl_store.specs.Backing.{Backs, Comes, Either, State, raised}
 use Rattle.repl_store.specs.Head.{Head, Held}
 use Rattle.repl_store.specs.Raised.{raised_state}

@@ -1,7 +1,6 @@
 -- A read leaves the store and its files as they were.
-use Rattle.std.proofs.Common.{◌≡◌, Result, Ok, Err, refl, sym, ◌∙◌, subst, rules}
-use Rattle.repl_disk.specs.State.{DiskState}
-use Rattle.repl_store.specs.Backing.{Backs, Before, Comes, Reads, State}
+use Rattle.std.proofs.Common.{◌≡◌, Result, sym, subst}
+use Rattle.repl_store.specs.Backing.{Backs, Before, Comes}
 use Rattle.repl_store.specs.Head.{Head, Held}
 use Rattle.repl_store.specs.declared.fault.StoreFault.{StoreFault}
 use Rattle.repl_store.proofs.Reading.{read_comes}

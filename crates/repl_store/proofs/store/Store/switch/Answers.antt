@@ -1,7 +1,6 @@
 -- The parts' answer is the store's.
-use Rattle.std.proofs.Common.{rules, ◌≡◌, ◌⊎◌, Result, Ok, Err, IfErr, refl, sym, ap, ◌∙◌, subst, inl, inr}
-use Rattle.repl_disk.specs.State.{DiskState}
-use Rattle.repl_store.specs.Backing.{Backs, Comes, State}
+use Rattle.std.proofs.Common.{Result, sym, subst}
+use Rattle.repl_store.specs.Backing.{Backs, Comes}
 use Rattle.repl_store.specs.Head.{Head, Held}
 use Rattle.repl_store.specs.Leaving.{switched_state}
 use Rattle.repl_store.specs.declared.fault.StoreFault.{StoreFault}
