@@ -34,4 +34,5 @@ mod write;
 pub use fault::StoreFault;
 pub use laws::{one_durable, one_known};
 pub use repl_control::{Control, Role};
+pub use segments::{history_file, segment_file};
 pub use store::{Store, StoreStatus};

@@ -1,0 +1,4 @@
+pub mod Lines
+pub mod Tending
+pub mod Damages
+pub mod Printing
