@@ -32,6 +32,6 @@ mod switch;
 mod write;
 
 pub use fault::StoreFault;
-pub use laws::{one_durable, one_known};
+pub use laws::{one_durable, one_known, one_refusal_of_files, stands_unrefused};
 pub use repl_control::{Control, Role};
 pub use store::{Store, StoreStatus};
