@@ -27,8 +27,7 @@ names_line words line text e read =
     let a = l.arguments_are in
     let one : l.arguments ≡ a.0 ∷ [] = a.2 ∙ ap (λ r. a.0 ∷ r) a.4 in
     let word = e ∙ place_of_argument IsWordOf the_table names_form words line read 0 (line.first + 1) (omega arith) (omega arith)
-        ∙ ap (λ w. get_or w 0 []) one in
-    (
+    ∙ ap (λ w. get_or w 0 []) one in (
       l.lead,
       line_without_tail IsWordOf the_table names_form words l l.rest_is
           ∙ ap (λ a. l.lead ++ codes "names" ∷ a) (one ∙ ap (λ w. w ∷ []) (sym word)),
@@ -42,7 +41,7 @@ bit_line words line bit e read =
     let a = l.arguments_are in
     let one : l.arguments ≡ a.0 ∷ [] = a.2 ∙ ap (λ r. a.0 ∷ r) a.4 in
     let word = e ∙ place_of_argument IsWordOf the_table bit_form words line read 0 (line.first + 1) (omega arith) (omega arith)
-        ∙ ap (λ w. get_or w 0 []) one in
+    ∙ ap (λ w. get_or w 0 []) one in
     (l, one ∙ ap (λ w. w ∷ []) (sym word), subst IsBit (sym word) a.3)
 
 -- the value of an option, and its kind

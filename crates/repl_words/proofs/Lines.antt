@@ -1,5 +1,5 @@
 -- Lines of a table, read word by word.
-use Rattle.std.proofs.Common.{◌≡◌, ℕ, suc, ◌+◌, ◌<◌, ◌≤◌, List, [], ◌∷◌, ◌++◌, length, get_or, take, drop, ◌⊎◌, inl, inr, ⊎_elim, Option, Some, None, refl, sym, ap, subst, ◌∙◌, arith, Contains, All, ◌≢◌, append_assoc}
+use Rattle.std.proofs.Common.{◌≡◌, ℕ, ◌+◌, ◌<◌, ◌≤◌, List, [], ◌∷◌, ◌++◌, length, get_or, take, drop, ◌⊎◌, inl, inr, ⊎_elim, Option, Some, None, refl, sym, ap, subst, ◌∙◌, arith, Contains, All, ◌≢◌, append_assoc}
 use Rattle.std.proofs.lemmas.List.{drop_more, drop_all, take-append-drop, length-take-le}
 use Rattle.std.proofs.lemmas.List.Elements.{All-contains}
 use Rattle.repl_text.specs.Language.{StopsAt}
@@ -7,7 +7,7 @@ use Rattle.repl_words.specs.declared.line.Line.{Line}
 use Rattle.repl_words.specs.Words.{AreOf}
 use Rattle.repl_words.specs.Forms.{PlainOption, PlainTail, no_tail, tail_maybe, tail_options, PlainForm, PlainTable}
 use Rattle.repl_words.specs.Lines.{IsLead, IsTail, IsLineOf, IsLine, IsRead}
-use Rattle.repl_words.specs.Rests.{GoesOn, Behind, IsBehindName, IsCommandOf, IsCommand, IsLed}
+use Rattle.repl_words.specs.Rests.{GoesOn, Behind, IsBehindName, IsCommandOf, IsCommand}
 use Rattle.repl_words.proofs.Stops.{stops_within, stops_within_nothing, goes_on_none, goes_on_at, stops_there, stops_at_place}
 use Rattle.repl_words.proofs.Names.{AreApart, some_in}
 
@@ -58,6 +58,13 @@ behind_parts is (kind ∷ kinds) T arguments rest a t = subst (λ l. Behind is (
     (a.3, behind_parts is kinds T a.1 rest a.4 t)
 
 -- ---- leads
+
+-- the lead's name and value, and then what `T` says
+abbrev pub IsLed : {K : Type 0} → (K → List ℕ → Type 0) → Option (PlainOption K) → (List (List ℕ) → Type 0) → List (List ℕ) → Type 0
+IsLed is None T words = ⊥
+IsLed is (Some lead) T [] = ⊥
+IsLed is (Some lead) T (_ ∷ []) = ⊥
+IsLed is (Some lead) T (name ∷ value ∷ words) = (lead.name ≡ name) × is lead.kind value × T words
 
 pub no_lead : {K : Type 0} (is : K → List ℕ → Type 0) (lead : Option (PlainOption K)) → IsLead is lead []
 no_lead is None = refl

@@ -8,9 +8,9 @@ use Rattle.repl_words.specs.Words.{AreOf}
 use Rattle.repl_words.specs.Forms.{PlainOption, PlainForm, PlainTable, are_distinct, option_name}
 use Rattle.repl_words.specs.Options.{HasValue, AreOptions}
 use Rattle.repl_words.specs.Lines.{IsLineOf, IsLine, IsReadOf, IsRead, IsUsage}
-use Rattle.repl_words.specs.Rests.{IsCommandOf, IsLed}
+use Rattle.repl_words.specs.Rests.{IsCommandOf}
 use Rattle.repl_words.proofs.Names.{AreApart, contains_at_place, one_of_name}
-use Rattle.repl_words.proofs.Lines.{line_cases}
+use Rattle.repl_words.proofs.Lines.{IsLed, line_cases}
 use Rattle.repl_words.proofs.OptionWords.{value_of_option}
 
 -- ---- one form and one usage

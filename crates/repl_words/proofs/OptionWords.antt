@@ -1,10 +1,10 @@
 -- Names and values of options, read pair by pair.
-use Rattle.std.proofs.Common.{◌≡◌, ℕ, suc, ◌+◌, ◌<◌, ◌≤◌, true, List, [], ◌∷◌, ◌++◌, length, map, get_or, take, drop, ◌⊎◌, inl, inr, ⊎_elim, refl, sym, ap, subst, ◌∙◌, arith, Contains, All, ◌≢◌, append_assoc}
+use Rattle.std.proofs.Common.{◌≡◌, ℕ, ◌+◌, ◌<◌, ◌≤◌, true, List, [], ◌∷◌, ◌++◌, length, map, get_or, take, drop, inl, inr, ⊎_elim, refl, sym, ap, subst, ◌∙◌, arith, Contains, All, ◌≢◌, append_assoc}
 use Rattle.std.proofs.lemmas.List.{take_more, drop_more, length-drop}
 use Rattle.std.proofs.lemmas.List.Elements.{All-contains}
 use Rattle.repl_text.specs.Language.{StopsAt}
 use Rattle.repl_words.specs.Forms.{PlainOption, option_name, are_distinct}
-use Rattle.repl_words.specs.Options.{HasValue, HasName, IsOptionOf, AreOptionsBehind, AreOptions}
+use Rattle.repl_words.specs.Options.{HasValue, HasName, IsOptionOf, AreOptionsBehind}
 use Rattle.repl_words.specs.Rests.{GoesOn}
 use Rattle.repl_words.proofs.Stops.{goes_on_at, stops_there, stops_at_place}
 use Rattle.repl_words.proofs.Names.{one_of_name}

@@ -1,5 +1,5 @@
 -- Words of the program and their texts.
-use Rattle.std.proofs.Common.{◌≡◌, ℕ, ◌<◌, ◌≤◌, ◌-◌, List, [], length, get_or, take, drop, map, refl, sym, ap, ◌∙◌, arith, String, string_bytes}
+use Rattle.std.proofs.Common.{◌≡◌, ℕ, ◌<◌, ◌-◌, List, [], length, get_or, take, drop, sym, ap, ◌∙◌, String, string_bytes}
 use Rattle.std.specs.declared.alloc.Global.{Global}
 use Rattle.std.proofs.lemmas.List.{length-map, get_or-map, drop-map, take-map, take_rest}
 use Rattle.repl_words.specs.Words.{texts}

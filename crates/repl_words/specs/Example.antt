@@ -1,5 +1,5 @@
 -- The example's table, and what each of its lines asks for.
-use Rattle.std.specs.Prelude.{◌≡◌, ◌⊎◌, ℕ, ◌+◌, List, [], ◌∷◌, ◌++◌, length, get_or, codes, Option, Some, IfSome, IfNone, refl}
+use Rattle.std.specs.Prelude.{◌≡◌, ◌⊎◌, ℕ, List, [], ◌∷◌, ◌++◌, codes, Some, IfSome, IfNone, refl}
 use Rattle.std.proofs.Common.{inr}
 use Rattle.repl_words.specs.declared.example.Word.{Word}
 use Rattle.repl_words.specs.declared.example.Word.TheVariants as kind
@@ -50,4 +50,4 @@ IsTask words (task.Names text) = (lead : List (List ℕ)) × (words ≡ lead ++ 
 IsTask words (task.Bit bit) = (line : IsLineOf IsWordOf the_table bit_form words) × (line.arguments ≡ bit.now ∷ []) × IsBit bit.now
 IsTask words (task.Run first) =
     (line : IsLineOf IsWordOf the_table run_form words) × IfSome first (λ value. HasValue line.rest (codes "--first") value.now × IsBit value.now)
-        × IfNone first (¬ HasName line.rest (codes "--first"))
+    × IfNone first (¬ HasName line.rest (codes "--first"))

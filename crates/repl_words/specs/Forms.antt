@@ -81,4 +81,4 @@ are_options_distinct (tail_options options) = are_distinct (map option_name opti
 abbrev pub is_table : {K C : Type 0} → PlainTable K C → Bool
 is_table table =
     (nat_lt 0 (length table.forms) && are_distinct (lead_names table.lead ++ map form_name table.forms))
-        && list_all (λ form. are_options_distinct form.tail) table.forms
+    && list_all (λ form. are_options_distinct form.tail) table.forms

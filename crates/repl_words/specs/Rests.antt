@@ -1,7 +1,7 @@
 -- What is left of a line behind its first words: the languages between the parts of the reading.
-use Rattle.std.specs.Prelude.{◌≡◌, ℕ, ◌+◌, List, [], ◌∷◌, drop, Contains, Option, Some, None}
+use Rattle.std.specs.Prelude.{◌≡◌, ℕ, ◌+◌, List, [], ◌∷◌, drop, Contains}
 use Rattle.repl_text.specs.Language.{StopsAt}
-use Rattle.repl_words.specs.Forms.{PlainOption, PlainForm}
+use Rattle.repl_words.specs.Forms.{PlainForm}
 use Rattle.repl_words.specs.Lines.{IsTail}
 
 -- Behind the place the language L is `rest`: where the rest leaves that, the list leaves L, and where it is in that, the list is in L.
@@ -27,10 +27,3 @@ IsCommandOf is form (word ∷ words) = (form.name ≡ word) × IsBehindName is f
 -- of one of the forms
 abbrev pub IsCommand : {K C : Type 0} → (K → List ℕ → Type 0) → List (PlainForm K C) → List (List ℕ) → Type 0
 IsCommand {K} {C} is forms words = (form : PlainForm K C) × Contains forms form × IsCommandOf is form words
-
--- the lead's name and value, and then what `T` says
-abbrev pub IsLed : {K : Type 0} → (K → List ℕ → Type 0) → Option (PlainOption K) → (List (List ℕ) → Type 0) → List (List ℕ) → Type 0
-IsLed is None T words = ⊥
-IsLed is (Some lead) T [] = ⊥
-IsLed is (Some lead) T (_ ∷ []) = ⊥
-IsLed is (Some lead) T (name ∷ value ∷ words) = (lead.name ≡ name) × is lead.kind value × T words

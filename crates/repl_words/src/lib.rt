@@ -47,7 +47,8 @@ mod words;
 
 pub use kind::Kind;
 pub use laws::{
-    arguments_are_of_their_kinds, commands_tell_forms, one_form, one_usage, options_have_one_value, tail_is_behind,
+    arguments_are_of_their_kinds, commands_tell_forms, one_form, one_usage, options_have_one_value,
+    tail_is_behind,
 };
 pub use line::{Line, read_line};
 pub use options::option_value;

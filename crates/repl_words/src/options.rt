@@ -31,7 +31,10 @@ fn has_name(words: &[String], name: &str) -> bool
 }
 
 /// The option of this name.
-fn find_option<'o, 'a, K>(options: &'o [OptionForm<'a, K>], name: &str) -> Option<&'o OptionForm<'a, K>>
+fn find_option<'o, 'a, K>(
+    options: &'o [OptionForm<'a, K>],
+    name: &str,
+) -> Option<&'o OptionForm<'a, K>>
     ensures one { IfSome result (λ option. Contains (map plain_option options.now) (plain_option option.now)) }
     ensures named { IfSome result (λ option. option.now.name.now ≡ name.now) }
     ensures none { IfNone result (All (λ option. option_name option ≢ name.now) (map plain_option options.now)) }
@@ -45,7 +48,10 @@ fn find_option<'o, 'a, K>(options: &'o [OptionForm<'a, K>], name: &str) -> Optio
 }
 
 /// Reads names and values of these options, each at most once. A fault is the place, from 0, at which no options go on.
-pub(crate) fn read_options<K: Kind>(options: &[OptionForm<K>], words: &[String]) -> Result<(), usize>
+pub(crate) fn read_options<K: Kind>(
+    options: &[OptionForm<K>],
+    words: &[String],
+) -> Result<(), usize>
     requires { IsTrue (are_distinct (map option_name (map plain_option options.now))) }
     ensures read { OnOk result (AreOptions K.is (map plain_option options.now) (texts words.now)) }
     ensures wrong { IfErr result (λ place. StopsAt (AreOptions K.is (map plain_option options.now)) (texts words.now) place) }

@@ -24,8 +24,7 @@ pub returns-in-Run-clause-read : goal.returns-in-Run-clause-read
 returns-in-Run-clause-read c =
     let words = texts c.args.words.now in
     let read = of_command words c.in-Ok.line command.Run c.in-Run.is c.in-Ok.ensures.read in
-    let rest = read.is_line.rest in
-    (
+    let rest = read.is_line.rest in (
       read.is_line,
       if_some_more c.option_value.result (λ v. HasValue rest (codes "--first") v.now × IsBit v.now)
           (λ v h. first_value words c.in-Ok.line v.now read h) c.option_value.ensures.some,

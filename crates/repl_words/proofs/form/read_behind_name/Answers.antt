@@ -1,9 +1,9 @@
 -- The words stop at an argument, or go on by it; behind the last they are the tail's.
-use Rattle.std.proofs.Common.{◌≡◌, ◌<◌, ◌≤◌, ℕ, ◌+◌, [], get_or, drop, length, sym, subst, ◌∙◌, arith}
+use Rattle.std.proofs.Common.{◌≡◌, [], get_or, drop, length, sym, subst, arith}
 use Rattle.std.proofs.lemmas.Bool.{both_ways}
 use Rattle.repl_text.specs.Language.{StopsAt}
 use Rattle.repl_words.specs.Words.{texts}
-use Rattle.repl_words.specs.Forms.{plain_form, plain_tail}
+use Rattle.repl_words.specs.Forms.{plain_form}
 use Rattle.repl_words.specs.Lines.{IsTail}
 use Rattle.repl_words.specs.Rests.{GoesOn, Behind, IsBehindName}
 use Rattle.repl_words.proofs.WordLists.{texts_tail, texts_long}

@@ -1,5 +1,5 @@
 -- A lead's name stands first or not, and then its value does.
-use Rattle.std.proofs.Common.{◌≡◌, ◌<◌, Some, sym, ap, subst, ◌∙◌, arith, take}
+use Rattle.std.proofs.Common.{◌≡◌, Some, sym, ap, subst, ◌∙◌, arith, take}
 use Rattle.std.proofs.lemmas.Bool.{both_ways}
 use Rattle.repl_words.specs.Words.{texts}
 use Rattle.repl_words.specs.Forms.{plain, plain_lead, plain_option}

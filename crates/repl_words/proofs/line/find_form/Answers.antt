@@ -1,5 +1,5 @@
 -- One form more without the name.
-use Rattle.std.proofs.Common.{◌≡◌, ◌≢◌, rules, arith}
+use Rattle.std.proofs.Common.{◌≢◌, rules, arith}
 use Rattle.repl_words.specs.Forms.{PlainForm, form_name, plain_form}
 use Rattle.repl_words.proofs.Names.{none_more, none_in_all}
 use Rattle.repl_words.proofs.line.find_form.Goals as goal

@@ -1,5 +1,5 @@
 -- The words stop at the lead, at the command, or behind its name, or are a line.
-use Rattle.std.proofs.Common.{◌≡◌, ◌≢◌, ◌<◌, ℕ, ◌+◌, [], get_or, drop, length, All, refl, sym, subst, ◌∙◌, arith}
+use Rattle.std.proofs.Common.{◌≢◌, ◌+◌, All, refl, subst, ◌∙◌, arith}
 use Rattle.repl_text.specs.Language.{StopsAt}
 use Rattle.repl_words.specs.Words.{texts}
 use Rattle.repl_words.specs.Forms.{PlainForm, plain, plain_form}

@@ -1,5 +1,5 @@
 -- One option more without the name.
-use Rattle.std.proofs.Common.{◌≡◌, ◌≢◌, rules, arith}
+use Rattle.std.proofs.Common.{◌≢◌, rules, arith}
 use Rattle.repl_words.specs.Forms.{PlainOption, option_name, plain_option}
 use Rattle.repl_words.proofs.Names.{none_more, none_in_all}
 use Rattle.repl_words.proofs.options.find_option.Goals as goal

@@ -1,5 +1,5 @@
 -- The first pair has the name, or those behind it have what all have.
-use Rattle.std.proofs.Common.{◌≡◌, ◌≢◌, ◌<◌, ℕ, ◌+◌, List, [], get_or, drop, length, ◌≤◌, sym, subst, ◌∙◌, arith, rules}
+use Rattle.std.proofs.Common.{◌≡◌, ◌≢◌, ◌<◌, ◌+◌, drop, length, ◌≤◌, sym, subst, ◌∙◌, arith, rules}
 use Rattle.repl_words.specs.Words.{texts}
 use Rattle.repl_words.specs.Options.{HasValue}
 use Rattle.repl_words.proofs.WordLists.{text_is, texts_long}

@@ -1,9 +1,9 @@
 -- The words stop at a name that is gone or none, or at a value that is none, or go on by a pair.
-use Rattle.std.proofs.Common.{◌≡◌, ◌≢◌, ◌<◌, ℕ, ◌+◌, ◌-◌, [], map, get_or, take, length, All, sym, subst, ◌∙◌, arith}
+use Rattle.std.proofs.Common.{◌≡◌, ◌≢◌, ◌+◌, [], map, get_or, take, All, sym, subst, ◌∙◌, arith}
 use Rattle.std.proofs.lemmas.Bool.{both_ways}
 use Rattle.repl_words.specs.Words.{texts}
-use Rattle.repl_words.specs.Forms.{PlainOption, option_name, plain_option}
-use Rattle.repl_words.specs.Options.{HasName, AreOptions, AreOptionsBehind}
+use Rattle.repl_words.specs.Forms.{PlainOption, plain_option}
+use Rattle.repl_words.specs.Options.{AreOptions, AreOptionsBehind}
 use Rattle.repl_words.specs.Rests.{GoesOn}
 use Rattle.repl_words.proofs.WordLists.{text_is, texts_front, texts_long}
 use Rattle.repl_words.proofs.OptionWords.{name_is_gone, name_is_none, stops_at_name, stops_at_value, pair, has_moved}
