@@ -134,13 +134,13 @@ module _ {X : Type 0} (Is : X → Type 0) (text : X → List ℕ) (IsThere : Typ
   refused_ends folder fault.Broken end w told is wrong asks bad = absurd wrong
   refused_ends folder fault.Exists end w told is wrong asks bad = absurd wrong
   refused_ends folder (fault.Missing name) end w told is wrong asks bad =
-      damage_ends name 0 damage.Missing end w is (bad name 0 damage.Missing (fault.Missing name, wrong, refl, refl, refl))
+      damage_ends name 0 damage.Missing end w is (bad name 0 damage.Missing (fault.Missing name, wrong, (refl, refl, refl)))
   refused_ends folder (fault.BadControl place) end w told is wrong asks bad =
-      damaged_ends control_name place damage.Control end w is (bad control_name place damage.Control (fault.BadControl place, wrong, refl, refl, refl))
+      damaged_ends control_name place damage.Control end w is (bad control_name place damage.Control (fault.BadControl place, wrong, (refl, refl, refl)))
   refused_ends folder (fault.BadHistory tli found) end w told is wrong asks bad =
-      damaged_ends _ _ (damage.History found) end w is (bad _ _ (damage.History found) (fault.BadHistory tli found, wrong, refl, refl, refl))
+      damaged_ends _ _ (damage.History found) end w is (bad _ _ (damage.History found) (fault.BadHistory tli found, wrong, (refl, refl, refl)))
   refused_ends folder (fault.ShortFile name have wanted) end w told is wrong asks bad =
-      damage_ends name have damage.Short end w is (bad name have damage.Short (fault.ShortFile name have wanted, wrong, refl, refl, refl))
+      damage_ends name have damage.Short end w is (bad name have damage.Short (fault.ShortFile name have wanted, wrong, (refl, refl, refl)))
   refused_ends folder fault.DiskFault end w told is wrong asks bad =
       disk_ends end w is (⊎_elim (λ rose. rose) (λ lack. absurd (let same : (Some folder) ≡ None = sym told ∙ lack.0 in cc)) (asks.failed refl))
   refused_ends folder fault.Memory end w told is wrong asks bad = memory_ends end w is

@@ -1,15 +1,11 @@
 -- How a refusal and a flaw are told. There may be no memory for the name of the file.
-use Rattle.std.specs.Prelude.{◌≡◌, ℕ, ◌%◌, ◌/◌, ◌⊎◌, List}
-use Rattle.repl_check.specs.declared.check.CheckFault.{CheckFault}
-use Rattle.repl_check.specs.declared.check.CheckFault.TheVariants as check
-use Rattle.repl_control.specs.declared.control.TheConstants.{VERSION_1_SIZE}
-use Rattle.repl_lsn.specs.History.{Path}
+use Rattle.std.specs.Prelude.{◌≡◌, ℕ, ◌⊎◌, List}
 use Rattle.repl_lsn.specs.Segment.{history_name}
 use Rattle.repl_status.specs.declared.damage.DamageReason.{DamageReason}
 use Rattle.repl_status.specs.declared.damage.DamageReason.TheVariants as damage
 use Rattle.repl_store.specs.declared.fault.StoreFault.{StoreFault}
 use Rattle.repl_store.specs.declared.fault.StoreFault.TheVariants as fault
-use Rattle.repl_store.specs.Durable.{control_name, segment_file}
+use Rattle.repl_store.specs.Durable.{control_name}
 use Rattle.repl_tend.specs.declared.tended.Tended.{Tended}
 use Rattle.repl_tend.specs.declared.tended.Tended.TheVariants as tended
 use Rattle.repl_tend.specs.Tending.{line_of}
@@ -28,13 +24,3 @@ IsToldOf (fault.BadHistory tli wrong) end = IsDamagedOr (history_name tli) (line
 IsToldOf (fault.ShortFile name have wanted) end = end ≡ tended.Damaged name have damage.Short
 IsToldOf fault.DiskFault end = end ≡ tended.DiskFault
 IsToldOf fault.Memory end = end ≡ tended.Memory
-
--- where a check of the log of a store on this path answered so
-abbrev pub IsToldAt : Path → CheckFault → Tended → Type 0
-IsToldAt path check.Whole end = IsDamagedOr control_name 32 damage.Control end
-IsToldAt path check.Last end = IsDamagedOr control_name 48 damage.Control end
-IsToldAt path (check.Bad at reason) end =
-    IsDamagedOr (segment_file VERSION_1_SIZE path (at / VERSION_1_SIZE)) (at % VERSION_1_SIZE) (damage.Bad reason) end
-IsToldAt path check.Broken end = end ≡ tended.DiskFault
-IsToldAt path check.DiskFault end = end ≡ tended.DiskFault
-IsToldAt path check.Memory end = end ≡ tended.Memory

@@ -13,10 +13,14 @@ abbrev pub role_word : Role → List ℕ
 role_word role.Primary = codes "primary"
 role_word role.Standby = codes "standby"
 
+-- a word, a space, and what stands behind it
+abbrev pub spaced : List ℕ → List ℕ → List ℕ
+spaced word rest = word ++ 32 ∷ rest
+
 -- the system's identifier, the role, the timeline, the floor, the whole end and the flushed end
 abbrev pub status_line : StoreStatus → List ℕ
-status_line status = decimal status.sysid ++ 32 ∷ role_word status.role ++ 32 ∷ decimal status.tli ++ 32 ∷ position_text status.floor ++ 32
-    ∷ position_text status.whole ++ 32 ∷ position_text status.flushed ++ 10 ∷ []
+status_line status = spaced (decimal status.sysid) (spaced (role_word status.role) (spaced (decimal status.tli)
+    (spaced (position_text status.floor) (spaced (position_text status.whole) (position_text status.flushed ++ 10 ∷ [])))))
 
 abbrev pub check_lines : StoreStatus → List ℕ
 check_lines status = ok_line ++ status_line status

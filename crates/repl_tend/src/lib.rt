@@ -11,14 +11,12 @@
 //! ```
 #![tactic(auto)]
 
-mod check;
 mod damage;
-mod init;
 mod lines;
-mod status;
+mod making;
+mod telling;
 mod tended;
 
-pub use check::check;
-pub use init::init;
-pub use status::status;
+pub use making::init;
+pub use telling::status;
 pub use tended::Tended;
