@@ -1,12 +1,12 @@
 -- What a check has taken of the log of a store, piece by piece, and what the reads make of the disk.
-use Rattle.std.proofs.Common.{◌≡◌, ℕ, ◌+◌, ◌-◌, ◌*◌, ◌/◌, ◌%◌, ◌^◌, ◌<◌, ◌≤◌, ◌⊎◌, List, [], ◌++◌, length, min, take, drop, Bool, true, false, Result, Ok, Err, refl, sym, ap, ◌∙◌, subst, inl, inr, arith, append_assoc, append-nil, length-append}
-use Rattle.std.proofs.Math.Nat.{div-add-mod', mul-add-mod_self_right, mul_assoc, mul_comm}
+use Rattle.std.proofs.Common.{◌≡◌, ℕ, ◌+◌, ◌-◌, ◌*◌, ◌/◌, ◌%◌, ◌^◌, ◌<◌, ◌≤◌, ◌⊎◌, List, [], ◌++◌, length, min, take, drop, Bool, true, false, Result, Ok, Err, OnOk, refl, sym, ap, ◌∙◌, subst, inl, inr, arith, append_assoc, append-nil, length-append}
+use Rattle.std.proofs.Math.Nat.{div-add-mod', mul_assoc, mul_comm}
 use Rattle.std.proofs.Math.Seq.{take-add}
 use Rattle.std.proofs.lemmas.Bool.{both_ways, cases_lt}
-use Rattle.std.proofs.lemmas.List.{length-take, length-take-le, take_at}
+use Rattle.std.proofs.lemmas.List.{take_at}
 use Rattle.std.proofs.lemmas.Nat.{pow-add, pow_below}
 use Rattle.std.specs.Result.{IsErrAnd}
-use Rattle.repl_counts.specs.Counts.{DidNotFall, Rose, Stood}
+use Rattle.repl_counts.specs.Counts.{Rose, Stood}
 use Rattle.repl_disk.specs.Folder.{Folder}
 use Rattle.repl_disk.specs.Moments.{joined, started}
 use Rattle.repl_disk.specs.State.{DiskState}
@@ -15,7 +15,6 @@ use Rattle.repl_lsn.specs.Segment.{IsSegSize}
 use Rattle.repl_page.specs.Page.{IsPage}
 use Rattle.repl_record.specs.Walker.{AreOn}
 use Rattle.repl_store.specs.Backing.{Backs, Before, Breaks, Comes, IsCaused, LeavesOne, State, log}
-use Rattle.repl_store.specs.Durable.{Durable}
 use Rattle.repl_store.specs.Head.{Head, IsHead}
 use Rattle.repl_store.specs.declared.fault.StoreFault.{StoreFault}
 use Rattle.repl_store.specs.declared.fault.StoreFault.TheVariants as fault
@@ -24,7 +23,7 @@ use Rattle.repl_check.specs.declared.flaw.Flaw.{Flaw}
 use Rattle.repl_check.specs.declared.flaw.Flaw.TheVariants as flaw
 use Rattle.repl_check.specs.declared.log_check.LogCheck.{LogCheck}
 use Rattle.repl_check.specs.Found.{GoesThrough, HasRead, log_identity, told}
-use Rattle.repl_check.specs.Machine.{HasJudged, HasTaken, check_identity, check_position}
+use Rattle.repl_check.specs.Machine.{HasJudged, check_identity, check_position}
 
 -- ---- the floor
 
@@ -288,3 +287,8 @@ err_told answer a b is same = one_told a b (sym is ∙ check_err answer (told b)
   where
     check_err : (e f : CheckFault) → (let err : CheckFault → Result (Unit {0}) CheckFault = λ e. Err e in err e ≡ err f) → e ≡ f
     check_err e f alike = cc
+
+-- what is so of each answer is so where the log was read
+pub when_read : (result : Result (Unit {0}) StoreFault) (P : Type 0) → P → OnOk result P
+when_read (Ok x) P is = is
+when_read (Err e) P is = tt

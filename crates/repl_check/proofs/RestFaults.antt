@@ -1,5 +1,5 @@
 -- The rest of a record has one fault at most.
-use Rattle.std.proofs.Common.{rules, ◌≡◌, ℕ, ◌+◌, ◌-◌, ◌<◌, ◌≤◌, List, ◌++◌, length, take, drop, refl, sym, ap, ◌∙◌, subst, inl, inr, arith, length-append}
+use Rattle.std.proofs.Common.{rules, ◌≡◌, ℕ, ◌+◌, ◌-◌, ◌<◌, ◌≤◌, List, length, take, drop, refl, sym, ap, ◌∙◌, subst, inl, inr, arith, length-append}
 use Rattle.std.proofs.lemmas.Bool.{cases_lt, cases_order}
 use Rattle.std.proofs.lemmas.List.{length-take-le, take-append-drop, take_at}
 use Rattle.repl_lsn.specs.Segment.{IsSegSize}
@@ -10,7 +10,7 @@ use Rattle.repl_page.specs.Header.{Agrees, IsPageFault}
 use Rattle.repl_page.specs.Page.{header_length}
 use Rattle.repl_record.specs.declared.answer.WalkReason.{WalkReason}
 use Rattle.repl_record.specs.declared.answer.WalkReason.TheVariants as why
-use Rattle.repl_record.specs.Record.{LastIsContent, content}
+use Rattle.repl_record.specs.Record.{content}
 use Rattle.repl_record.proofs.Content.{length-content-take}
 use Rattle.repl_record.proofs.Headers.{no_fault}
 use Rattle.repl_record.proofs.Pages.{header_is, header_is_whole}

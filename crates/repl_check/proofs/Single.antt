@@ -1,6 +1,6 @@
 -- Of records behind a record that is not known there is one end and one fault, and the start of the last is one where a
 -- record ends.
-use Rattle.std.proofs.Common.{◌≡◌, ◌≢◌, ℕ, ◌+◌, ◌-◌, ◌%◌, ◌<◌, ◌≤◌, ◌⊎◌, List, length, take, drop, refl, sym, ap, ◌∙◌, subst, inl, inr, arith}
+use Rattle.std.proofs.Common.{◌≡◌, ◌≢◌, ℕ, ◌%◌, ◌<◌, ◌⊎◌, List, take, sym, ap, ◌∙◌, subst, inl, inr, arith}
 use Rattle.std.proofs.lemmas.Bool.{cases_eq, cases_lt, cases_order}
 use Rattle.std.proofs.lemmas.List.{length-take-le, take-take}
 use Rattle.repl_lsn.specs.Segment.{IsSegSize}
@@ -16,7 +16,7 @@ use Rattle.repl_record.proofs.ImageRightFronts.{image_over}
 use Rattle.repl_record.proofs.LogAnswers.{same_answer}
 use Rattle.repl_record.proofs.LogChains.{first_record, same_last}
 use Rattle.repl_record.proofs.LogEnds.{from_le}
-use Rattle.repl_log.specs.Faults.{HasFault, IsFaultBehind}
+use Rattle.repl_log.specs.Faults.{IsFaultBehind}
 use Rattle.repl_log.proofs.BehindAny.{fault_behind, first_fault, one_prev, same_length, told_prev, wrong_no_prefix}
 use Rattle.repl_log.proofs.Faults.{fault_greatest, fault_refutes, same_fault}
 use Rattle.repl_check.specs.Fits.{IsBefore, IsOrigin}

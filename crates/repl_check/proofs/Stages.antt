@@ -1,5 +1,5 @@
 -- What a check has found of a log, and what it has found of more of it.
-use Rattle.std.proofs.Common.{◌≡◌, ◌≢◌, ℕ, ◌+◌, ◌-◌, ◌%◌, ◌<◌, ◌≤◌, ◌==◌, ◌⊎◌, Bool, List, [], ◌++◌, length, take, drop, min, nat_lt, if◌then◌else◌, refl, sym, ap, ◌∙◌, subst, inl, inr, arith, append_assoc, length-append, length-drop, true, false}
+use Rattle.std.proofs.Common.{◌≡◌, ℕ, ◌+◌, ◌-◌, ◌%◌, ◌<◌, ◌≤◌, ◌==◌, ◌⊎◌, Bool, List, [], ◌++◌, length, take, drop, min, nat_lt, if◌then◌else◌, refl, sym, ap, ◌∙◌, subst, inl, inr, arith, append_assoc, length-append, length-drop, true, false}
 use Rattle.std.proofs.lemmas.Bool.{le-ltb, lt-ltb}
 use Rattle.std.proofs.lemmas.List.{drop_all, length-take, take-append-drop, take-append-le}
 use Rattle.repl_lsn.specs.Segment.{IsSegSize}
@@ -9,8 +9,7 @@ use Rattle.repl_page.specs.Page.{IsPage, header_length}
 use Rattle.repl_record.specs.declared.answer.WalkReason.{WalkReason}
 use Rattle.repl_record.specs.declared.walker.Walker.{Walker}
 use Rattle.repl_record.specs.Log.{IsPrefixOfRecords, IsWholeEnd, RecordEnd, origin}
-use Rattle.repl_record.specs.Record.{content}
-use Rattle.repl_record.specs.Walker.{AreOn, Stands, identity, last_end, last_start, position}
+use Rattle.repl_record.specs.Walker.{Stands, identity, last_end, last_start, position}
 use Rattle.repl_record.proofs.Content.{content-nil}
 use Rattle.repl_record.proofs.Fields.{field-append}
 use Rattle.repl_record.proofs.LogEnds.{from_le}
@@ -19,14 +18,14 @@ use Rattle.repl_log.specs.declared.pieces.WalkFault.{WalkFault}
 use Rattle.repl_log.specs.declared.rest.Rest.{Rest}
 use Rattle.repl_log.specs.declared.rest.TheConstants.{REST_LIMIT}
 use Rattle.repl_log.specs.Faults.{IsFaultBehind}
-use Rattle.repl_log.specs.Rest.{HasPassed, IsRest, IsRestBegun, IsRestWhole, rest_identity, rest_position}
-use Rattle.repl_log.specs.Walks.{HasRefused, HasWalked}
+use Rattle.repl_log.specs.Rest.{HasPassed, IsRest, IsRestWhole, rest_identity}
+use Rattle.repl_log.specs.Walks.{HasWalked}
 use Rattle.repl_log.proofs.Ends.{ends_within}
 use Rattle.repl_log.proofs.Walks.{walked_prefix, walked_whole}
 use Rattle.repl_check.specs.declared.log_check.LogCheck.{LogCheck}
 use Rattle.repl_check.specs.declared.log_check.Stage.{Stage}
 use Rattle.repl_check.specs.declared.log_check.Stage.TheVariants as stage
-use Rattle.repl_check.specs.Fits.{HasBadRecord, HasRecords, IsBefore, IsFirst, rest_of}
+use Rattle.repl_check.specs.Fits.{HasBadRecord, HasRecords, IsFirst, rest_of}
 use Rattle.repl_check.specs.Machine.{HasJudged, HasStopped, HasWalkedOn, InRecords, InRest, IsAtStage, IsPlaced}
 use Rattle.repl_check.proofs.Starts.{bad_record_more, bad_rest_more, drop_more, first_more, first_placed}
 

@@ -1,13 +1,13 @@
 -- A log that fits has no flaw, and one that does not has one.
-use Rattle.std.proofs.Common.{◌≡◌, ◌≢◌, ℕ, ◌-◌, ◌%◌, ◌<◌, ◌≤◌, ◌⊎◌, List, drop, refl, sym, ap, ◌∙◌, subst, inl, inr, arith}
+use Rattle.std.proofs.Common.{◌≡◌, ℕ, ◌-◌, ◌<◌, ◌⊎◌, List, drop, refl, sym, ap, ◌∙◌, subst, inl, inr, arith}
 use Rattle.repl_lsn.specs.Segment.{IsSegSize}
 use Rattle.repl_page.specs.declared.ident.Ident.{Ident}
 use Rattle.repl_page.specs.Page.{IsPage}
 use Rattle.repl_record.specs.declared.answer.WalkReason.{WalkReason}
 use Rattle.repl_check.specs.declared.flaw.Flaw.{Flaw}
 use Rattle.repl_check.specs.declared.flaw.Flaw.TheVariants as flaw
-use Rattle.repl_check.specs.Fits.{Fits, HasBadRecord, HasBadRest, HasRecords, IsOrigin, IsStoredRight, IsUnbegun, rest_of}
-use Rattle.repl_check.specs.Flaws.{BreaksOff, EndsElsewhere, EndsLater, HasEnd, IsFlaw, IsFlawBehind, StartsElsewhere}
+use Rattle.repl_check.specs.Fits.{Fits, HasBadRecord, HasBadRest, HasRecords, IsOrigin, IsStoredRight, rest_of}
+use Rattle.repl_check.specs.Flaws.{BreaksOff, HasEnd, IsFlaw, IsFlawBehind, StartsElsewhere}
 use Rattle.repl_log.proofs.RestAnswers.{fault_not_begun}
 use Rattle.repl_check.proofs.RestFaults.{one_rest_fault}
 use Rattle.repl_check.proofs.Single.{one_bad, one_records_end, records_not_bad}

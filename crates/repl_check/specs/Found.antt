@@ -1,5 +1,5 @@
 -- What is answered of the log of a store as it stands on its disk.
-use Rattle.std.specs.Prelude.{◌≡◌, ℕ, ◌+◌, ◌-◌, ◌%◌, ◌≤◌, ◌⊎◌, List, ◌++◌, length, take, drop, Result, Ok, Err}
+use Rattle.std.specs.Prelude.{◌≡◌, ℕ, ◌-◌, ◌%◌, ◌≤◌, ◌⊎◌, List, ◌++◌, length, take, drop, Result, Ok, Err}
 use Rattle.repl_disk.specs.State.{DiskState}
 use Rattle.repl_lsn.specs.Path.{timeline_at}
 use Rattle.repl_page.specs.declared.ident.Ident.{Ident}

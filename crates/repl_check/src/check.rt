@@ -1,5 +1,5 @@
 //! The log of a store, judged as it stands on its disk.
-ghost use Rattle.std.specs.Prelude.{◌≡◌, ◌↔◌, true, Err, OnOk};
+ghost use Rattle.std.specs.Prelude.{◌≡◌, ◌↔◌, true, Err, IsOk, OnOk};
 ghost use Rattle.repl_store.specs.Backing.{Backs, Before, Breaks, Comes, IsAnswer, IsCaused, State};
 ghost use Rattle.repl_check.specs.declared.check.CheckFault.TheVariants as CheckFault;
 ghost use Rattle.repl_check.specs.declared.flaw.Flaw.{Flaw};
@@ -37,8 +37,9 @@ pub enum CheckFault {
 /// Judges the whole log of a store, from its floor to its flushed end, against what the store says of it. Takes the memory of
 /// one piece of the log and of the name of a segment, however long the log is. The store stays as it is.
 pub fn check_log<D: Disk>(alloc: Global, store: &mut Store<D>) -> Result<(), CheckFault>
-    // Where the disk tells its files, which are the store's, the log fits, or it has the flaw that is answered.
-    ensures fits { OnOk result ((s : State) → Backs (D.state store.old.disk) store.old.head s → LogFits store.old.head s) }
+    // Where the disk tells its files, which are the store's, and the log was read, it is found right exactly where it fits, and
+    // else has the flaw that is answered.
+    ensures exact { OnOk (read_of result) ((s : State) → Backs (D.state store.old.disk) store.old.head s → IsOk result ↔ LogFits store.old.head s) }
     ensures flaw { (flaw : Flaw) → result ≡ Err (told flaw) → (s : State) → Backs (D.state store.old.disk) store.old.head s → LogHas store.old.head s flaw }
     // Otherwise it is answered why it could not be read.
     ensures broken { (result ≡ Err CheckFault.Broken) ↔ (store.old.broken ≡ true) }

@@ -1,6 +1,6 @@
 -- A read of nothing, and then of the pieces.
-use Rattle.std.proofs.Common.{rules, ◌≡◌, Result, Err, sym, ◌∙◌, subst}
-use Rattle.repl_store.specs.Backing.{Backs, Before, Comes}
+use Rattle.std.proofs.Common.{◌≡◌, Result, Err, sym, subst}
+use Rattle.repl_store.specs.Backing.{Before, Comes}
 use Rattle.repl_store.specs.Head.{Head}
 use Rattle.repl_store.specs.declared.fault.StoreFault.{StoreFault}
 use Rattle.repl_check.specs.declared.log_check.LogCheck.{LogCheck}

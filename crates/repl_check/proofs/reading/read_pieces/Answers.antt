@@ -1,9 +1,7 @@
 -- The check begins at the floor, and has the log when all pieces are read.
-use Rattle.std.proofs.Common.{rules, ◌≡◌, ℕ, ◌%◌, [], Bool, Result, Ok, Err, refl, sym, ap, ◌∙◌, subst, arith}
-use Rattle.repl_disk.specs.State.{DiskState}
+use Rattle.std.proofs.Common.{◌≡◌, ℕ, ◌%◌, [], Result, Err, sym, ap, ◌∙◌, subst, arith}
 use Rattle.repl_lsn.specs.Path.{timeline_at}
 use Rattle.repl_store.specs.Backing.{Before, Breaks, Comes, IsCaused}
-use Rattle.repl_store.specs.Head.{Head}
 use Rattle.repl_store.specs.declared.fault.StoreFault.{StoreFault}
 use Rattle.repl_store.specs.declared.store.StoreStatus.{StoreStatus}
 use Rattle.repl_check.specs.declared.log_check.LogCheck.{LogCheck}

@@ -1,6 +1,6 @@
 -- Piece by piece the check takes the log.
 use Rattle.std.proofs.Common.{rules, ◌≡◌, ℕ, ◌-◌, ◌%◌, ◌<◌, length, min, Result, Ok, Err, sym, ap, ◌∙◌, subst, arith}
-use Rattle.repl_store.specs.Backing.{Backs, Before, Comes, State}
+use Rattle.repl_store.specs.Backing.{Backs, Before, Comes}
 use Rattle.repl_store.specs.Head.{Head}
 use Rattle.repl_store.specs.declared.fault.StoreFault.{StoreFault}
 use Rattle.repl_check.specs.Found.{GoesThrough}

@@ -1,11 +1,11 @@
 -- Before the first bytes the log begins with them, and later its first page is there.
-use Rattle.std.proofs.Common.{rules, ◌≡◌, ◌≢◌, ℕ, ◌+◌, ◌%◌, ◌≤◌, List, [], ◌++◌, length, sym, ap, ◌∙◌, subst, arith}
+use Rattle.std.proofs.Common.{rules, ◌≡◌, ◌≢◌, ℕ, ◌≤◌, List, [], ◌++◌, length, sym, ◌∙◌, subst, arith}
 use Rattle.std.proofs.lemmas.Bool.{eqb-false}
 use Rattle.std.proofs.lemmas.List.{nil_from_length}
 use Rattle.repl_page.specs.Page.{header_length}
 use Rattle.repl_record.proofs.Pages.{header_is}
 use Rattle.repl_check.specs.Fits.{rest_of}
-use Rattle.repl_check.specs.Machine.{IsAtStage, check_floor, check_identity}
+use Rattle.repl_check.specs.Machine.{IsAtStage, check_identity}
 use Rattle.repl_check.proofs.Stages.{rest_more, stage_placed}
 use Rattle.repl_check.proofs.log_check.LogCheck.begun.Goals as goal
 

@@ -1,5 +1,5 @@
 -- The log begins with the rest of a record, or with a record.
-use Rattle.std.proofs.Common.{◌≡◌, ℕ, ◌∙◌, [], length, sym, subst, arith}
+use Rattle.std.proofs.Common.{ℕ, ◌∙◌, [], sym, subst, arith}
 use Rattle.repl_check.specs.Machine.{InRest, check_floor, check_identity}
 use Rattle.repl_check.proofs.Stages.{fresh_records, fresh_rest}
 use Rattle.repl_check.proofs.log_check.LogCheck.first_stage.Goals as goal

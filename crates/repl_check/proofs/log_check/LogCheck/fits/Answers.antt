@@ -1,14 +1,12 @@
 -- What each stage says is told.
-use Rattle.std.proofs.Common.{◌≡◌, ℕ, List, ◌∙◌, refl, sym, subst, inl, inr}
+use Rattle.std.proofs.Common.{ℕ, refl, sym, subst, inl}
 use Rattle.std.proofs.lemmas.Bool.{both_ways}
 use Rattle.std.proofs.lemmas.Result.{IfErr-weaker}
-use Rattle.std.specs.Result.{IsOk}
 use Rattle.repl_page.specs.Page.{IsPage}
 use Rattle.repl_check.specs.declared.flaw.Flaw.TheVariants as flaw
-use Rattle.repl_check.specs.declared.log_check.Stage.{Stage}
 use Rattle.repl_check.specs.Fits.{Fits, HasBadRecord, HasRecords, rest_of}
 use Rattle.repl_check.specs.Flaws.{IsFlaw}
-use Rattle.repl_check.specs.Machine.{IsAtStage, check_floor, check_identity}
+use Rattle.repl_check.specs.Machine.{IsAtStage, check_identity}
 use Rattle.repl_check.proofs.Stages.{records_found}
 use Rattle.repl_check.proofs.Verdicts.{fits_no_flaw}
 use Rattle.repl_check.proofs.log_check.LogCheck.fits.Goals as goal

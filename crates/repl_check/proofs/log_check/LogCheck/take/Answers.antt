@@ -1,10 +1,9 @@
 -- What was found goes on.
-use Rattle.std.proofs.Common.{◌≡◌, ℕ, ◌+◌, List, ◌++◌, length, sym, ap, ◌∙◌, subst, arith, length-append}
-use Rattle.repl_page.specs.declared.ident.Ident.{Ident}
+use Rattle.std.proofs.Common.{ℕ, ◌+◌, ◌++◌, length, sym, ap, ◌∙◌, subst, arith}
 use Rattle.repl_page.specs.Page.{IsPage}
 use Rattle.repl_check.specs.declared.log_check.LogCheck.{LogCheck}
 use Rattle.repl_check.specs.Fits.{rest_of}
-use Rattle.repl_check.specs.Machine.{IsAtStage, check_floor, check_identity, check_position}
+use Rattle.repl_check.specs.Machine.{IsAtStage, check_identity}
 use Rattle.repl_check.proofs.Stages.{judged_on}
 use Rattle.repl_check.proofs.log_check.LogCheck.take.Goals as goal
 

@@ -1,9 +1,6 @@
 -- What is wrong remains so.
-use Rattle.std.proofs.Common.{◌≡◌, ℕ, List, ◌++◌, length, sym, subst, inl, inr}
-use Rattle.repl_page.specs.Page.{IsPage}
-use Rattle.repl_record.specs.Walker.{AreOn}
-use Rattle.repl_check.specs.declared.log_check.Stage.{Stage}
-use Rattle.repl_check.specs.Machine.{IsAtStage, check_floor, check_identity, check_position}
+use Rattle.std.proofs.Common.{subst}
+use Rattle.repl_check.specs.Machine.{IsAtStage, check_floor, check_identity}
 use Rattle.repl_check.proofs.Stages.{stays_wrong}
 use Rattle.repl_check.proofs.log_check.LogCheck.through.Goals as goal
 

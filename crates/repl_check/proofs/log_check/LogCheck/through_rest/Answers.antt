@@ -1,12 +1,12 @@
 -- The rest goes on, is wrong, or is whole, and then records follow.
-use Rattle.std.proofs.Common.{◌≡◌, ℕ, ◌+◌, ◌-◌, ◌%◌, ◌≤◌, List, ◌++◌, length, take, drop, refl, sym, ap, ◌∙◌, subst, arith, append_assoc, length-append, length-drop}
+use Rattle.std.proofs.Common.{◌≡◌, ℕ, ◌-◌, List, ◌++◌, length, take, drop, sym, ap, ◌∙◌, subst, arith, append_assoc, length-drop}
 use Rattle.std.proofs.lemmas.List.{length-take, take-append-drop, take_rest}
 use Rattle.repl_page.specs.declared.ident.Ident.{Ident}
 use Rattle.repl_page.specs.Page.{IsPage}
 use Rattle.repl_record.specs.Walker.{AreOn, position}
 use Rattle.repl_log.specs.Rest.{IsRestBegun, IsRestFault, IsRestWhole}
 use Rattle.repl_check.specs.declared.log_check.LogCheck.{LogCheck}
-use Rattle.repl_check.specs.Machine.{IsAtStage, check_floor, check_identity, check_position}
+use Rattle.repl_check.specs.Machine.{IsAtStage, check_floor, check_identity}
 use Rattle.repl_check.proofs.Stages.{rest_done}
 use Rattle.repl_check.proofs.log_check.LogCheck.through_rest.Goals as goal
 
