@@ -24,7 +24,7 @@ use Rattle.repl_tend.specs.declared.tended.Tended.TheVariants as tended
 -- ---- faults
 
 -- of an end that no fault is the cause of
-calm_faults : (end : Tended) (old new : DiskState) (w : SinkState) → (end ≡ tended.DiskFault → ⊥) → is_write_fault end ≡ false
+pub calm_faults : (end : Tended) (old new : DiskState) (w : SinkState) → (end ≡ tended.DiskFault → ⊥) → is_write_fault end ≡ false
     → Stood old.faults new.faults → TellsFaults end old new w w
 calm_faults end old new w other quiet stood = record {
   disk = λ is. absurd (other is);
@@ -32,7 +32,7 @@ calm_faults end old new w other quiet stood = record {
   sink = rw quiet refl;
 }
 
-memory_faults : (end : Tended) (old new : DiskState) (w : SinkState) → end ≡ tended.Memory → Stood old.faults new.faults
+pub memory_faults : (end : Tended) (old new : DiskState) (w : SinkState) → end ≡ tended.Memory → Stood old.faults new.faults
     → TellsFaults end old new w w
 memory_faults end old new w is stood =
     let P : Tended → Type 0 = λ t. TellsFaults t old new w w in
@@ -58,7 +58,7 @@ disk_faults end old new w is rose = record {
 }
 
 -- an answer that is not the disk's
-stood_of : (e : StoreFault) (old new : DiskState) → (e ≡ fault.DiskFault → ⊥) → (e ≡ fault.DiskFault) ⊎ Stood old.faults new.faults
+pub stood_of : (e : StoreFault) (old new : DiskState) → (e ≡ fault.DiskFault → ⊥) → (e ≡ fault.DiskFault) ⊎ Stood old.faults new.faults
     → Stood old.faults new.faults
 stood_of e old new other (inl is) = absurd (other is)
 stood_of e old new other (inr stood) = stood
@@ -100,7 +100,7 @@ module _ {X : Type 0} (Is : X → Type 0) (text : X → List ℕ) (IsThere : Typ
   abbrev EndsSo : Tended → SinkState → SinkState → Type 0
   EndsSo end w w' = Ends Is text IsThere Bad end old new w w'
 
-  memory_ends : (end : Tended) (w : SinkState) → end ≡ tended.Memory → EndsSo end w w
+  pub memory_ends : (end : Tended) (w : SinkState) → end ≡ tended.Memory → EndsSo end w w
   memory_ends end w is = rw is (inl refl)
 
   damage_ends : (name : List ℕ) (place : ℕ) (why : DamageReason) (end : Tended) (w : SinkState)
