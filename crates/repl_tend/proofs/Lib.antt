@@ -1,3 +1,4 @@
 pub mod Ending
 pub mod Stating
 pub mod Making
+pub mod Judging

@@ -2,3 +2,4 @@ pub mod Lines
 pub mod Tending
 pub mod Damages
 pub mod Printing
+pub mod Checking

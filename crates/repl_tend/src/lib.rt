@@ -11,12 +11,14 @@
 //! ```
 #![tactic(auto)]
 
+mod judging;
 mod damage;
-mod lines;
 mod making;
+mod lines;
 mod telling;
 mod tended;
 
+pub use judging::check;
 pub use making::init;
 pub use telling::status;
 pub use tended::Tended;
