@@ -1,2 +1,15 @@
-pub mod Digits
-pub mod Lines
+pub mod Moves
+pub mod Lengths
+pub mod Decimal
+pub mod CommandLine
+pub mod OtherTasks
+pub mod OneTask
+pub mod Replication
+pub mod Stages
+pub mod Sessions
+pub mod Messages
+pub mod Ends
+pub mod Steps
+pub mod HistoryEnds
+pub mod FrameLines
+pub mod FrameProgress

@@ -1,3 +1,14 @@
 pub mod Words
-pub mod Witness
+pub mod Status
+pub mod Session
+pub mod Answer
+pub mod Gathering
+pub mod Outcome
+pub mod Frames
+pub mod Printing
+pub mod Names
+pub mod Histories
+pub mod Identify
 pub mod Tool
+pub mod Stages
+pub mod Stream

@@ -1,4 +1,0 @@
-pub mod Ending
-pub mod Stating
-pub mod Making
-pub mod Judging

@@ -1,5 +1,0 @@
-pub mod Lines
-pub mod Tending
-pub mod Damages
-pub mod Printing
-pub mod Checking
