@@ -3,6 +3,7 @@ use Rattle.std.proofs.Common.{◌≡◌, ◌≢◌, ℕ, ◌-◌, ◌%◌, ◌<�
 use Rattle.std.proofs.lemmas.Bool.{cases_lt, cases_order}
 use Rattle.std.proofs.lemmas.List.{length-take-le, take-append-le, take-take, take_all, take_at}
 use Rattle.repl_lsn.specs.Segment.{IsSegSize}
+use Rattle.repl_page.specs.Header.{field}
 use Rattle.repl_page.specs.declared.ident.Ident.{Ident}
 use Rattle.repl_record.specs.declared.answer.WalkReason.{WalkReason}
 use Rattle.repl_record.specs.declared.answer.WalkReason.TheVariants as why
@@ -25,7 +26,7 @@ use Rattle.repl_log.proofs.Faults.{fault_greatest}
 -- ---- faults behind another record
 
 -- what has no records is the beginning of one
-no_records : (ident : Ident) (timeline : ℕ → ℕ) (from prev : ℕ) (log : List ℕ) → (records : IsPrefixOfRecords ident timeline from prev log)
+pub no_records : (ident : Ident) (timeline : ℕ → ℕ) (from prev : ℕ) (log : List ℕ) → (records : IsPrefixOfRecords ident timeline from prev log)
     → (records.end ≡ from) × (records.last ≡ prev) → IsBeginning ident timeline from prev log
 no_records ident timeline from prev log records none =
     let zero : records.end - from ≡ 0 = omega (arith, none.0) in
@@ -53,7 +54,7 @@ wrong_no_prefix ident timeline from prev n log reason size_is eight within opene
 -- ---- one record before
 
 -- images at one front are equally long, whatever the record before is
-same_length : (ident : Ident) (timeline : ℕ → ℕ) (from prev other m n : ℕ) (a b : RecordIn) (log : List ℕ) → IsSegSize ident.size
+pub same_length : (ident : Ident) (timeline : ℕ → ℕ) (from prev other m n : ℕ) (a b : RecordIn) (log : List ℕ) → IsSegSize ident.size
     → m ≤ length log → n ≤ length log → IsImage ident timeline from prev a (take m log) → IsImage ident timeline from other b (take n log)
     → m ≡ n
 same_length ident timeline from prev other m n a b log size_is m_in n_in first second =
@@ -71,7 +72,7 @@ same_length ident timeline from prev other m n a b log size_is m_in n_in first s
     ]
 
 -- and an image tells the record before
-told_prev : (ident : Ident) (timeline : ℕ → ℕ) (from prev other : ℕ) (a b : RecordIn) (log : List ℕ) → IsSegSize ident.size
+pub told_prev : (ident : Ident) (timeline : ℕ → ℕ) (from prev other : ℕ) (a b : RecordIn) (log : List ℕ) → IsSegSize ident.size
     → IsImage ident timeline from prev a log → IsImage ident timeline from other b log → other ≡ prev
 told_prev ident timeline from prev other a b log size_is first second =
     let all : take (length log) log ≡ log = take_all (length log) log (omega arith) in
@@ -104,7 +105,7 @@ one_prev ident timeline from prev other end last log size_is some ends records =
 -- ---- a walk that met a fault
 
 -- a fault that does not tell the record before is one behind each
-fault_behind : (ident : Ident) (timeline : ℕ → ℕ) (from prev other : ℕ) (log : List ℕ) (reason : WalkReason)
+pub fault_behind : (ident : Ident) (timeline : ℕ → ℕ) (from prev other : ℕ) (log : List ℕ) (reason : WalkReason)
     → ((found expected : ℕ) → reason ≢ why.Prev found expected) → IsFaultAt ident timeline from prev log reason
     → IsFaultAt ident timeline from other log reason
 fault_behind ident timeline from prev other log (why.Page fault) unlike is = is
@@ -115,7 +116,7 @@ fault_behind ident timeline from prev other log (why.Checksum found computed) un
 fault_behind ident timeline from prev other log why.Padding unlike is = is
 
 -- the fault of the first record
-first_fault : {ident : Ident} {timeline : ℕ → ℕ} {from prev : ℕ} {log : List ℕ} {end last at : ℕ} {reason : WalkReason}
+pub first_fault : {ident : Ident} {timeline : ℕ → ℕ} {from prev : ℕ} {log : List ℕ} {end last at : ℕ} {reason : WalkReason}
     → IsSegSize ident.size
     → from % 8 ≡ 0 → IsFaultBehind ident timeline from prev log end last at reason → end ≡ from
     → IsFirstFault ident timeline from prev log at reason
@@ -220,3 +221,35 @@ begun_anew before w timeline from prev at found expected log bytes new size_is i
           (subst (λ (l : ℕ). Stands new timeline (last_end new) l log) at_start (subst (λ (e : ℕ). Stands new timeline e found log) at_end
           now));
     }
+
+-- the walker that is begun anew does not find the first record wrong in where the record before starts
+pub told_anew : (w new : Walker) (timeline : ℕ → ℕ) (from prev at other found expected seen wanted : ℕ) (log : List ℕ)
+    → IsSegSize (identity w).size → identity new ≡ identity w → HasRefused w timeline from prev log at (why.Prev found expected)
+    → last_end w ≡ from → HasRefused new timeline from found log other (why.Prev seen wanted) → last_end new ≡ from → ⊥
+told_anew w new timeline from prev at other found expected seen wanted log size_is same first begins second begun =
+    let size = (identity w).size in
+    let new_size = subst (λ (i : Ident). IsSegSize i.size) (sym same) size_is in
+    let a = first_fault size_is first.aligned first.behind begins in
+    let b = first_fault new_size second.aligned second.behind begun in
+    let wrong = subst (λ (i : Ident). IsFaultAt i timeline from found (take b.n log) (why.Prev seen wanted)) same b.fault in
+    let a_is = length-take-le a.n log a.within in
+    let b_is = length-take-le b.n log b.within in
+    let one : a.n ≡ b.n = elim (cases_order a.n b.n) [
+      | inl alike ↦ alike
+      | inr (inl below) ↦ absurd (omega (
+        arith,
+        a.fault.0.count_is,
+        wrong.0.count_is,
+        ap (λ (t : List ℕ). length (content size from t)) (take-take a.n b.n log (omega arith)),
+        length-content-short size from a.n (take b.n log) (omega arith) wrong.0.last,
+      ))
+      | inr (inr above) ↦ absurd (omega (
+        arith,
+        a.fault.0.count_is,
+        wrong.0.count_is,
+        ap (λ (t : List ℕ). length (content size from t)) (take-take b.n a.n log (omega arith)),
+        length-content-short size from b.n (take a.n log) (omega arith) a.fault.0.last,
+      ))
+    ] in
+    let alike : found ≡ seen = a.fault.2 ∙ ap (λ (n : ℕ). field 8 8 (content size from (take n log))) one ∙ sym wrong.2 in
+    wrong.4 (sym alike ∙ sym wrong.3)

@@ -111,6 +111,7 @@ fault_more ident timeline rest from at (why.Checksum found computed) log more is
 -- What was taken so far is the beginning of the rest; where more bytes follow, whole pages were passed over.
 pub record Passing (old r : Rest) (tli : ℕ) (bytes : List ℕ) (used : ℕ) : Type 0 where
   pub within : used ≤ length bytes
+  pub full : (used ≡ length bytes) ⊎ (used % 8192 ≡ 0)
   pub same : rest_identity r ≡ rest_identity old
   pub low : rest_position r ≤ rest_position old + used
   pub begun : (timeline : ℕ → ℕ) (rest from : ℕ) (log : List ℕ) → HasPassed old timeline rest from log
@@ -150,6 +151,13 @@ pub passing_on : (old r new : Rest) (tli used n : ℕ) (bytes : List ℕ) → Pa
     → Passing old new tli bytes (used + n)
 passing_on old r new tli used n bytes passing some within whole same low begun goes = record {
   within = within;
+  full = elim whole [
+    | inl page ↦ inr (elim passing.full [
+      | inl all ↦ absurd (omega arith)
+      | inr pages ↦ omega arith
+    ])
+    | inr all ↦ inl all
+  ];
   same = same ∙ passing.same;
   low = omega (arith, low, passing.low);
   begun = λ timeline rest from log passed on.

@@ -131,8 +131,8 @@ RestGoesOn r timeline rest from log bytes (step.Whole end used) = from + length 
 RestGoesOn r timeline rest from log bytes step.Short = IsPage (from + length (log ++ bytes)) → HasPassed r timeline rest from (log ++ bytes)
 RestGoesOn r timeline rest from log bytes (step.Bad at reason) = Unit {0}
 
--- it took some of so many bytes, and no more
+-- it took some of so many bytes, and no more; what begins with a page ends where the next record can begin
 abbrev pub RestTakes : ℕ → RestStep → Type 0
-RestTakes count (step.Whole end used) = (0 < used) × (used ≤ count)
+RestTakes count (step.Whole end used) = (0 < used) × (used ≤ count) × (used % 8 ≡ 0)
 RestTakes count step.Short = Unit {0}
 RestTakes count (step.Bad at reason) = Unit {0}

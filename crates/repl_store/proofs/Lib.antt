@@ -23,3 +23,5 @@ pub mod Turned
 pub mod Starting
 pub mod Left
 pub mod Freeing
+pub mod Histories
+pub mod Refusals

@@ -5,7 +5,7 @@ use Rattle.std.proofs.Math.Seq.{take-length}
 use Rattle.std.proofs.lemmas.List.{append-nil, ext_get_or}
 use Rattle.std.proofs.lemmas.Nat.{le-div}
 use Rattle.repl_control.proofs.Spelled.{control_one}
-use Rattle.repl_control.specs.Control.{control_bytes}
+use Rattle.repl_control.specs.Control.{SpellsControl, control_bytes}
 use Rattle.repl_control.specs.declared.control.Control.{Control}
 use Rattle.repl_disk.specs.Crash.{NoneNew}
 use Rattle.repl_disk.specs.Folder.{Folder, IfTold, Stayed, ToldFiles, content}
@@ -118,38 +118,51 @@ module _ (size : ℕ) (folder : Folder) (c : Control) (path : Path) (some : 0 < 
 
 -- ---- one store
 
--- files stand for one control, and one path of it
-pub one_control_of : (size : ℕ) (folder : Folder) (a b : Durable) → StandsFor size folder a → StandsFor size folder b → a.control ≡ b.control
-one_control_of size folder a b is_a is_b =
-    let same = ap content (sym is_a.control ∙ is_b.control) in
-    control_one size size (control_bytes a.control) a.control b.control (record { fits = is_a.fits; right = is_a.right; spelled = refl })
-    (record { fits = is_b.fits; right = is_b.right; spelled = same })
+-- a folder has one control, and that one path
+pub one_control_in : (size : ℕ) (folder : Folder) (a b : Control) → HasControl size folder a → HasControl size folder b → a ≡ b
+one_control_in size folder a b has_a has_b =
+    let P : List ℕ → Type 0 = λ bytes. SpellsControl size bytes a in
+    control_one size size has_b.0 a b (subst P (ap content (sym has_a.1 ∙ has_b.1)) has_a.2) has_b.2
 
 -- the two forms of a path
-abbrev IsFirst : Folder → Durable → Type 0
-IsFirst folder d = (d.control.tli ≡ 1) × (d.path.parents ≡ [])
+abbrev IsFirst : Control → Path → Type 0
+IsFirst control path = (control.tli ≡ 1) × (path.parents ≡ [])
 
-abbrev IsLater : Folder → Durable → Type 0
-IsLater folder d = (d.control.tli ≢ 1) × ((text : List ℕ) × (folder (history_name d.control.tli) ≡ Some text) × SaysHistory text d.path)
+abbrev IsLater : Folder → Control → Path → Type 0
+IsLater folder control path = (control.tli ≢ 1) × ((text : List ℕ) × (folder (history_name control.tli) ≡ Some text) × SaysHistory text path)
 
-pub one_path_of : (size : ℕ) (folder : Folder) (a b : Durable) → StandsFor size folder a → StandsFor size folder b → a.path ≡ b.path
-one_path_of size folder a b is_a is_b =
-    let same : a.control.tli ≡ b.control.tli = ap (λ c. c.tli) (one_control_of size folder a b is_a is_b) in
-    let own : a.path.own ≡ b.path.own = is_a.path.own ∙ same ∙ sym is_b.path.own in
-    ⊎_elim (λ (first : IsFirst folder a). ⊎_elim (λ (other : IsFirst folder b). both_first own first other) (λ (other : IsLater folder b). absurd (other.0 (sym same ∙ first.0)))
-    is_b.path.history) (λ (later : IsLater folder a). ⊎_elim (λ (other : IsFirst folder b). absurd (later.0 (same ∙ other.0)))
-    (λ (other : IsLater folder b). both_later same own later other) is_b.path.history) is_a.path.history
+pub path_one : (size : ℕ) (folder : Folder) (control : Control) (a b : Path) → HasPath size folder control a → HasPath size folder control b
+    → a ≡ b
+path_one size folder control a b is_a is_b =
+    let own : a.own ≡ b.own = is_a.own ∙ sym is_b.own in
+    ⊎_elim (λ (first : IsFirst control a). ⊎_elim (λ (other : IsFirst control b). both_first own first other)
+    (λ (other : IsLater folder control b). absurd (other.0 first.0)) is_b.history)
+    (λ (later : IsLater folder control a). ⊎_elim (λ (other : IsFirst control b). absurd (later.0 other.0))
+    (λ (other : IsLater folder control b). both_later own later other) is_b.history) is_a.history
   where
     path_of : ℕ → List Part → Path
     path_of own parents = record { own = own; parents = parents }
 
-    both_first : a.path.own ≡ b.path.own → IsFirst folder a → IsFirst folder b → a.path ≡ b.path
-    both_first own first other = ap (λ n. path_of n a.path.parents) own ∙ ap (path_of b.path.own) (first.1 ∙ sym other.1)
+    both_first : a.own ≡ b.own → IsFirst control a → IsFirst control b → a ≡ b
+    both_first own first other = ap (λ n. path_of n a.parents) own ∙ ap (path_of b.own) (first.1 ∙ sym other.1)
 
-    both_later : a.control.tli ≡ b.control.tli → a.path.own ≡ b.path.own → IsLater folder a → IsLater folder b → a.path ≡ b.path
-    both_later same own later other =
-        let text : later.1.0 ≡ other.1.0 = ap content (sym later.1.1 ∙ ap (λ n. folder (history_name n)) same ∙ other.1.1) in
-        one_reading other.1.0 a.path b.path (let P : List ℕ → Type 0 = λ t. SaysHistory t a.path in subst P text later.1.2) other.1.2 own
+    both_later : a.own ≡ b.own → IsLater folder control a → IsLater folder control b → a ≡ b
+    both_later own later other =
+        let text : later.1.0 ≡ other.1.0 = ap content (sym later.1.1 ∙ other.1.1) in
+        one_reading other.1.0 a b (let P : List ℕ → Type 0 = λ t. SaysHistory t a in subst P text later.1.2) other.1.2 own
+
+-- files stand for these
+pub has_control_of : (size : ℕ) (folder : Folder) (d : Durable) → StandsFor size folder d → HasControl size folder d.control
+has_control_of size folder d is = (control_bytes d.control, is.control, record { fits = is.fits; right = is.right; spelled = refl })
+
+pub one_control_of : (size : ℕ) (folder : Folder) (a b : Durable) → StandsFor size folder a → StandsFor size folder b → a.control ≡ b.control
+one_control_of size folder a b is_a is_b =
+    one_control_in size folder a.control b.control (has_control_of size folder a is_a) (has_control_of size folder b is_b)
+
+pub one_path_of : (size : ℕ) (folder : Folder) (a b : Durable) → StandsFor size folder a → StandsFor size folder b → a.path ≡ b.path
+one_path_of size folder a b is_a is_b =
+    let P : Control → Type 0 = λ c. HasPath size folder c a.path in
+    path_one size folder b.control a.path b.path (subst P (one_control_of size folder a b is_a is_b) is_a.path) is_b.path
 
 pub told_always : (told : ToldFiles) (P : Folder → Type 0) → ((folder : Folder) → P folder) → IfTold told P
 told_always None P h = tt

@@ -70,6 +70,17 @@ IsRefusal size folder (fault.ShortFile name have wanted) = IsShort size folder n
 IsRefusal size folder fault.DiskFault = Unit {0}
 IsRefusal size folder fault.Memory = Unit {0}
 
+-- a mount may answer so, over any files
+abbrev pub IsOfMount : StoreFault → Type 0
+IsOfMount fault.Broken = ⊥
+IsOfMount fault.Exists = ⊥
+IsOfMount (fault.Missing name) = Unit {0}
+IsOfMount (fault.BadControl place) = Unit {0}
+IsOfMount (fault.BadHistory tli wrong) = Unit {0}
+IsOfMount (fault.ShortFile name have wanted) = Unit {0}
+IsOfMount fault.DiskFault = Unit {0}
+IsOfMount fault.Memory = Unit {0}
+
 -- how it is refused that the history of this timeline is wrong so
 abbrev pub bad_history : ℕ → HistoryFault → StoreFault
 bad_history tli history.Memory = fault.Memory

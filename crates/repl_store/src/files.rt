@@ -3,7 +3,7 @@ ghost use Rattle.std.specs.Prelude.{◌≡◌, ◌≤◌, ◌⊎◌, ℕ, List, 
 ghost use Rattle.repl_disk.specs.Folder.{Folder, IfTold};
 ghost use Rattle.repl_store.specs.Backing.{Asks};
 ghost use Rattle.repl_text.specs.Text.{IsText};
-ghost use Rattle.repl_store.specs.Refusal.{IsMissingOr, IsOfDisk};
+ghost use Rattle.repl_store.specs.Refusal.{IsMissingOr, IsOfDisk, IsOfMount};
 ghost use Rattle.repl_store.specs.declared.fault.StoreFault.TheVariants as StoreFault;
 
 use crate::fault::{StoreFault, fault_of};
@@ -16,6 +16,7 @@ pub(crate) fn length_of<D: Disk>(alloc: Global, disk: &mut D, name: &str) -> Res
     requires { IsText name.now }
     ensures read { IfOk result (λ n. IfTold (D.state disk.old).files (λ folder. (bytes : List ℕ) × (folder name.now ≡ Some bytes) × (n ≡ length bytes))) }
     ensures refused { IfErr result (λ e. IfTold (D.state disk.old).files (λ folder. IsMissingOr folder name.now e)) }
+    ensures answers { IfErr result IsOfMount }
     ensures asks { Asks result (D.state disk.old) (D.state disk.new) }
     ensures keeps { D.keeps disk.old disk.new }
 {
@@ -29,7 +30,8 @@ pub(crate) fn length_of<D: Disk>(alloc: Global, disk: &mut D, name: &str) -> Res
 /// What is said of a file that is not there.
 fn missing(alloc: Global, name: &str) -> StoreFault
     requires { IsText name.now }
-    ensures { (result ≡ StoreFault.Missing name.now) ⊎ (result ≡ StoreFault.Memory) }
+    ensures made { (result ≡ StoreFault.Missing name.now) ⊎ (result ≡ StoreFault.Memory) }
+    ensures answers { IsOfMount result }
 {
     match Text::copied(alloc, name.as_bytes()) {
         Ok(text) => StoreFault::Missing(text),

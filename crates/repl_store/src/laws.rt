@@ -1,11 +1,27 @@
-//! Laws of what files stand for.
-ghost use Rattle.std.specs.Prelude.{◌≡◌, ◌<◌, ℕ};
+//! Laws of what files stand for, and of why they are refused.
+ghost use Rattle.std.specs.Prelude.{◌≡◌, ◌<◌, ◌⊎◌, ℕ};
 ghost use Rattle.repl_disk.specs.Folder.{Folder};
 ghost use Rattle.repl_store.specs.Durable.{Durable, IsKnown, StandsFor};
+ghost use Rattle.repl_store.specs.Refusal.{IsOfDisk, IsRefusal};
+ghost use Rattle.repl_store.specs.declared.fault.StoreFault.{StoreFault};
 
 /// Files stand for one store at most: a mount has one thing to find.
 pub fn one_durable()
     ensures { (size : ℕ) (folder : Folder) (a b : Durable) → StandsFor size folder a → StandsFor size folder b → a ≡ b }
+{}
+
+/// Files that stand for a store are refused for nothing that is wrong with them: a mount fails over them for want of memory
+/// or a failure of the disk alone.
+pub fn stands_unrefused()
+    ensures { (size : ℕ) (folder : Folder) (d : Durable) (fault : StoreFault) → 0 < size → StandsFor size folder d
+        → IsRefusal size folder fault → IsOfDisk fault }
+{}
+
+/// The files of a folder are refused for one thing at most: two refusals are one, but for want of memory and failures of the
+/// disk, which may come over any files.
+pub fn one_refusal_of_files()
+    ensures { (size : ℕ) (folder : Folder) (a b : StoreFault) → IsRefusal size folder a → IsRefusal size folder b
+        → IsOfDisk a ⊎ IsOfDisk b ⊎ (a ≡ b) }
 {}
 
 /// One number is the greatest of a timeline and of those whose history is there.

@@ -7,7 +7,7 @@ ghost use Rattle.repl_lsn.specs.Between.{AreBetween};
 ghost use Rattle.repl_store.specs.Backing.{Asks, Backs, OnlyReads};
 ghost use Rattle.repl_store.specs.Durable.{Durable, HasPath, StandsFor, control_name};
 ghost use Rattle.repl_store.specs.Head.{IsMounted};
-ghost use Rattle.repl_store.specs.Refusal.{HasControl, IsEnough, IsHeld, IsLackOf, IsRefusal, IsSegmentLack, IsUnread, bad_history};
+ghost use Rattle.repl_store.specs.Refusal.{HasControl, IsEnough, IsHeld, IsLackOf, IsOfMount, IsRefusal, IsSegmentLack, IsUnread, bad_history};
 ghost use Rattle.repl_text.specs.Text.{IsText};
 ghost use Rattle.repl_store.specs.declared.fault.StoreFault.TheVariants as StoreFault;
 
@@ -38,6 +38,7 @@ impl<D: Disk> Store<D> {
             → ((image : Folder) → (D.state disk).may_leave image → StandsFor VERSION_1_SIZE image d)
             → Backs (D.state store.disk) store.head (record { durable = d; unflushed = [] })) }
         ensures refused { IfErr result (λ e. IfTold (D.state disk).files (λ folder. IsRefusal VERSION_1_SIZE folder e.0)) }
+        ensures answers { IfErr result (λ e. IsOfMount e.0) }
         ensures asks { MatchResult result (λ store. Asks (Ok store) (D.state disk) (D.state store.disk)) (λ e. Asks {A = Store D} (Err e.0) (D.state disk) (D.state e.1)) }
         ensures keeps { MatchResult result (λ store. D.keeps disk store.disk) (λ e. D.keeps disk e.1) }
     {
@@ -57,6 +58,7 @@ impl<D: Disk> Store<D> {
 fn read_head<D: Disk>(alloc: Global, disk: &mut D) -> Result<Head, StoreFault>
     ensures read { IfOk result (λ head. IfTold (D.state disk.old).files (λ folder. (d : Durable) × StandsFor VERSION_1_SIZE folder d × IsMounted head VERSION_1_SIZE d)) }
     ensures refused { IfErr result (λ e. IfTold (D.state disk.old).files (λ folder. IsRefusal VERSION_1_SIZE folder e)) }
+    ensures answers { IfErr result IsOfMount }
     ensures asks { Asks result (D.state disk.old) (D.state disk.new) }
     ensures keeps { D.keeps disk.old disk.new }
 {
@@ -83,6 +85,7 @@ fn read_control_file<D: Disk>(
     ensures right { IfOk result (λ control. FitsFields control × IsControl size control) }
     ensures read { IfOk result (λ control. IfTold (D.state disk.old).files (λ folder. HasControl size folder control)) }
     ensures refused { IfErr result (λ e. IfTold (D.state disk.old).files (λ folder. IsRefusal size folder e)) }
+    ensures answers { IfErr result IsOfMount }
     ensures asks { Asks result (D.state disk.old) (D.state disk.new) }
     ensures keeps { D.keeps disk.old disk.new }
 {
@@ -100,6 +103,7 @@ fn read_control_bytes<D: Disk>(
 ) -> Result<[u8; CONTROL_SIZE], StoreFault>
     ensures read { IfOk result (λ bytes. IfTold (D.state disk.old).files (λ folder. folder control_name ≡ Some bytes)) }
     ensures refused { IfErr result (λ e. IfTold (D.state disk.old).files (λ folder. (size : ℕ) → IsRefusal size folder e)) }
+    ensures answers { IfErr result IsOfMount }
     ensures asks { Asks result (D.state disk.old) (D.state disk.new) }
     ensures keeps { D.keeps disk.old disk.new }
 {
@@ -122,6 +126,7 @@ fn read_own_history<D: Disk>(
     ensures right { IfOk result (λ history. (history.own ≡ control.now.tli) × AreBetween size control.now.whole history.parents) }
     ensures read { IfOk result (λ history. IfTold (D.state disk.old).files (λ folder. HasPath size folder control.now history)) }
     ensures refused { IfErr result (λ e. IfTold (D.state disk.old).files (λ folder. HasControl size folder control.now → IsRefusal size folder e)) }
+    ensures answers { IfErr result IsOfMount }
     ensures asks { Asks result (D.state disk.old) (D.state disk.new) }
     ensures keeps { D.keeps disk.old disk.new }
 {
@@ -140,7 +145,8 @@ fn read_own_history<D: Disk>(
 
 /// How it is refused that the history of this timeline is wrong so.
 fn bad_history(tli: Tli, fault: HistoryFault) -> StoreFault
-    ensures { result ≡ bad_history tli fault }
+    ensures made { result ≡ bad_history tli fault }
+    ensures answers { IsOfMount result }
 {
     match fault {
         HistoryFault::Memory => StoreFault::Memory,
@@ -158,6 +164,7 @@ fn read_text<D: Disk>(
     requires { IsText name.now }
     ensures read { IfOk result (λ text. IfTold (D.state disk.old).files (λ folder. folder name.now ≡ Some text.items)) }
     ensures refused { IfErr result (λ e. IfTold (D.state disk.old).files (λ folder. IsUnread folder name.now tli e)) }
+    ensures answers { IfErr result IsOfMount }
     ensures asks { Asks result (D.state disk.old) (D.state disk.new) }
     ensures keeps { D.keeps disk.old disk.new }
 {
@@ -183,6 +190,7 @@ fn check_segments<D: Disk>(
     requires limit { control.now.flushed ≤ 2 ^ 63 }
     ensures enough { OnOk result (IfTold (D.state disk.old).files (λ folder. (segment : ℕ) → IsHeld size control.now segment → IsEnough size folder control.now history.now segment)) }
     ensures refused { IfErr result (λ e. IfTold (D.state disk.old).files (λ folder. IsLackOf size folder control.now history.now e)) }
+    ensures answers { IfErr result IsOfMount }
     ensures asks { Asks result (D.state disk.old) (D.state disk.new) }
     ensures keeps { D.keeps disk.old disk.new }
 {
@@ -222,6 +230,7 @@ fn check_segment<D: Disk>(
     requires limit { control.now.flushed ≤ 2 ^ 63 }
     ensures enough { OnOk result (IfTold (D.state disk.old).files (λ folder. IsEnough size folder control.now history.now segment)) }
     ensures refused { IfErr result (λ e. IfTold (D.state disk.old).files (λ folder. IsSegmentLack size folder control.now history.now segment e)) }
+    ensures answers { IfErr result IsOfMount }
     ensures asks { Asks result (D.state disk.old) (D.state disk.new) }
     ensures keeps { D.keeps disk.old disk.new }
 {
@@ -238,7 +247,8 @@ fn check_segment<D: Disk>(
 /// What is said of a file that is too short.
 fn short(alloc: Global, name: &str, have: u64, needed: u64) -> StoreFault
     requires { IsText name.now }
-    ensures { (result ≡ StoreFault.ShortFile name.now have needed) ⊎ (result ≡ StoreFault.Memory) }
+    ensures made { (result ≡ StoreFault.ShortFile name.now have needed) ⊎ (result ≡ StoreFault.Memory) }
+    ensures answers { IsOfMount result }
 {
     match Text::copied(alloc, name.as_bytes()) {
         Ok(name) => StoreFault::ShortFile { name, have, needed },

@@ -10,7 +10,7 @@ use repl_lsn::{
 use std::alloc::{AllocError, Global};
 
 /// The name of the file in which a segment stands, along a path. Takes memory for it.
-pub(crate) fn segment_file(
+pub fn segment_file(
     alloc: Global,
     history: &History,
     segment: SegNo,
@@ -28,7 +28,7 @@ pub(crate) fn segment_file(
 }
 
 /// The name of the file with a timeline's history. Takes memory for it.
-pub(crate) fn history_file(alloc: Global, tli: Tli) -> Result<String, AllocError>
+pub fn history_file(alloc: Global, tli: Tli) -> Result<String, AllocError>
     ensures value { IfOk result (λ name. string_bytes name ≡ history_name tli) }
     ensures text { IfOk result (λ name. IsText (string_bytes name)) }
 {

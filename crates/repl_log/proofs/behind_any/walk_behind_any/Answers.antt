@@ -8,7 +8,7 @@ use Rattle.repl_record.specs.declared.answer.WalkReason.{WalkReason}
 use Rattle.repl_record.specs.Log.{IsPrefixOfRecords}
 use Rattle.repl_record.specs.Walker.{AreOn, identity, last_end}
 use Rattle.repl_log.specs.Walks.{HasRefused}
-use Rattle.repl_log.proofs.BehindAny.{begun_anew, other_refused, refused_behind_any}
+use Rattle.repl_log.proofs.BehindAny.{begun_anew, other_refused, refused_behind_any, told_anew}
 use Rattle.repl_log.proofs.Walks.{refused_prefix}
 use Rattle.repl_log.proofs.behind_any.walk_behind_any.Goals as goal
 
@@ -117,4 +117,31 @@ returns-clause-refuses c = IfErr-weaker c.walk-2.result _ _ (λ wrong refuses ti
     let begun = begun_anew before new timeline from is.prev at found told.0 log bytes c.behind.result size same is.walked refused begins
     c.behind.ensures.stands c.behind.ensures.ident in
     let pages = subst (λ (p : ℕ). AreOn timeline c.args.tli p (length bytes)) (sym c.behind.ensures.position) on in
-    record { prev = found; refused = refuses timeline from found log begun pages }) c.walk-2.ensures.refuses
+    let anew = refuses timeline from found log begun pages in
+    record {
+      prev = found;
+      refused = anew;
+      unlike = λ at_first seen wanted named. told_anew new c.walk-2.new.walker timeline from is.prev at wrong.at found told.0 seen wanted (log
+          ++ bytes) size (c.walk-2.ensures.ident ∙ c.behind.ensures.ident ∙ sym same) refused begins (subst (λ (reason : WalkReason). HasRefused c.walk-2.new.walker timeline from found (log ++ bytes) wrong.at reason) named anew) at_first;
+    }) c.walk-2.ensures.refuses
+
+pub returns-in_default-clause-refuses : goal.returns-in_default-clause-refuses
+returns-in_default-clause-refuses c timeline log is on = record {
+  prev = is.prev;
+  refused = c.in-Err.ensures.refuses timeline c.args.from is.prev log is.walked on;
+  unlike = λ begins found expected. c.in_default.ensures.none refl found expected;
+}
+
+pub returns-then-last_end-from-clause-refuses : goal.returns-then-last_end-from-clause-refuses
+returns-then-last_end-from-clause-refuses c timeline log is on = record {
+  prev = is.prev;
+  refused = c.in-Err.ensures.refuses timeline c.args.from is.prev log is.walked on;
+  unlike = λ begins found expected. absurd (omega (
+    arith,
+    begins,
+    c.last_end.ensures,
+    c.from.view_is,
+    c.last_end-2.view_is,
+    c.if-last_end-from.true,
+  ));
+}

@@ -19,5 +19,5 @@ returns-clause-refused g c =
     let named : c.deref.result.now ≡ history_name control.tli = search rules in
     let wrong : IsFaultBetween control.tli text size control.whole fault = search rules in
     let Refuses : StoreFault → Folder → Type 0 = λ e folder. HasControl size folder control → IsRefusal size folder e in
-    rw c.bad_history.ensures (told_map files (λ folder. folder c.deref.result.now ≡ Some text) (Refuses (bad_history control.tli fault))
+    rw c.bad_history.ensures.made (told_map files (λ folder. folder c.deref.result.now ≡ Some text) (Refuses (bad_history control.tli fault))
     (λ folder is has. history_refuses size folder control text fault has later (ap folder (sym named) ∙ is) wrong) c.in_ok-text.ensures.read)

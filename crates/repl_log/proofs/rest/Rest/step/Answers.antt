@@ -33,6 +33,7 @@ use Rattle.repl_log.proofs.rest.Rest.step.Goals as goal
 pub pages-init : goal.pages-init
 pages-init c = record {
   within = omega arith;
+  full = inr (omega arith);
   same = refl;
   low = omega arith;
   begun = λ timeline rest from log passed on.
@@ -108,7 +109,11 @@ returns-in-Whole-clause-takes c =
     let bytes = c.args.bytes.now in
     let long = part_is c.pages.used c.min.result bytes (omega (arith, c.min.ensures)) in
     let takes = c.in-Whole.ensures.takes in
-    (omega (arith, takes.0), omega (arith, takes.1, long, c.min.ensures))
+    let pages : c.pages.used % 8192 ≡ 0 = elim c.pages.invariant.full [
+      | inl all ↦ absurd (omega (arith, c.pages-test.true))
+      | inr full ↦ full
+    ] in
+    (omega (arith, takes.0), omega (arith, takes.1, long, c.min.ensures), omega (arith, takes.2, pages))
 
 pub returns-in-Bad-clause-answers : goal.returns-in-Bad-clause-answers
 returns-in-Bad-clause-answers c timeline rest from log passed on =

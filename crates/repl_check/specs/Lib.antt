@@ -1,0 +1,4 @@
+pub mod Fits
+pub mod Flaws
+pub mod Machine
+pub mod Found

@@ -1,0 +1,6 @@
+pub mod Stream
+pub mod Session
+pub mod Apart
+pub mod Answer
+pub mod Stages
+pub mod Identify

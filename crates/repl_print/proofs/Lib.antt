@@ -1,0 +1,4 @@
+pub mod FrameLines
+pub mod FrameProgress
+pub mod FrameEnds
+pub mod NamesEnds

@@ -1,0 +1,6 @@
+pub mod Stream
+pub mod Frames
+pub mod Printing
+pub mod Names
+pub mod Histories
+pub mod Apart
