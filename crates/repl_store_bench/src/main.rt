@@ -4,6 +4,7 @@
 //! pieces of 128 KiB, makes them certain behind each 128 pieces, and prints up to which position they are. Without these
 //! two words it writes nothing, and prints the position 0/0.
 #![tactic(auto)]
+
 ghost use Rattle.std.specs.Prelude.{◌+◌, ◌^◌, ◌≤◌, ◌≡◌};
 
 use repl_control::{Role, version_1_size};
@@ -74,5 +75,7 @@ fn fill<D: Disk>(alloc: Global, store: &mut Store<D>, pieces: u64) -> Option<Lsn
 /// Makes all that was written certain. No record is whole, since a standby may stop within one.
 fn flush<D: Disk>(store: &mut Store<D>) -> Option<()> {
     let status = store.status();
-    store.set_role(Role::Standby, status.whole, status.prev).ok()
+    store
+        .set_role(Role::Standby, status.whole, status.prev)
+        .ok()
 }

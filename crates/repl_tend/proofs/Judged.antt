@@ -1,0 +1,183 @@
+-- What `check` does, from what a mount, the check of the log and the writing of the lines did.
+use Rattle.std.proofs.Common.{◌≡◌, ◌↔◌, ◌⊎◌, ◌^◌, ◌<◌, ◌≤◌, ◌%◌, ◌*◌, ℕ, List, [], true, false, Some, None, Result, Ok, Err, OnOk, IsOk, MatchResult, refl, sym, ◌∙◌, ap, subst, inl, inr, ⊎_elim, arith}
+use Rattle.std.proofs.Math.Nat.{mod-add-div'}
+use Rattle.repl_check.proofs.Verdicts.{fits_no_flaw}
+use Rattle.repl_check.specs.Found as found
+use Rattle.repl_check.specs.Found.{read_of, told}
+use Rattle.repl_check.specs.Fits.{Fits}
+use Rattle.repl_check.specs.Flaws.{IsFlaw}
+use Rattle.repl_check.specs.declared.check.CheckFault.{CheckFault}
+use Rattle.repl_check.specs.declared.check.CheckFault.TheVariants as check
+use Rattle.repl_check.specs.declared.flaw.Flaw.{Flaw}
+use Rattle.repl_check.specs.declared.flaw.Flaw.TheVariants as flaw
+use Rattle.repl_control.specs.declared.control.Control.{Control}
+use Rattle.repl_control.specs.declared.control.TheConstants.{VERSION_1_SIZE}
+use Rattle.repl_counts.specs.Counts.{Rose, Stood}
+use Rattle.repl_disk.specs.Folder.{Folder, IfTold}
+use Rattle.repl_disk.specs.Runs.{told_so}
+use Rattle.repl_disk.specs.State.{DiskState}
+use Rattle.repl_io.specs.Sink.{SinkState}
+use Rattle.repl_lsn.specs.History.{Path}
+use Rattle.repl_lsn.specs.Path.{timeline_at}
+use Rattle.repl_lsn.specs.Segment.{IsSegSize}
+use Rattle.repl_page.specs.Page.{IsPage}
+use Rattle.repl_page.specs.declared.ident.Ident.{Ident}
+use Rattle.repl_status.specs.declared.damage.DamageReason.{DamageReason}
+use Rattle.repl_status.specs.declared.damage.DamageReason.TheVariants as damage
+use Rattle.repl_store.proofs.Mounting.{durable_one}
+use Rattle.repl_store.specs.Backing.{Asks, Backs, Before, Comes, IsCaused, State}
+use Rattle.repl_store.specs.Durable.{Durable, StandsFor, control_name}
+use Rattle.repl_store.specs.Head.{Head, IsMounted}
+use Rattle.repl_store.specs.Head as head
+use Rattle.repl_store.specs.Refusal.{IsOfMount, IsRefusal}
+use Rattle.repl_store.specs.declared.fault.StoreFault.{StoreFault}
+use Rattle.repl_store.specs.declared.fault.StoreFault.TheVariants as fault
+use Rattle.repl_tend.proofs.Ending.{damaged_ends, damaged_faults, disk_ends, disk_faults, done_of, memory_ends, memory_faults, printed_ends, printed_faults, refused_ends, refused_faults}
+use Rattle.repl_tend.proofs.Stating.{status_same, undamaged}
+use Rattle.repl_tend.specs.Checking.{Checked, FitsWhole, IsDamageAt, IsFlawed, IsSettled, IsToldAt, LogFits, LogHas, identity_of}
+use Rattle.repl_tend.specs.Damages.{IsDamagedOr, IsToldOf}
+use Rattle.repl_tend.specs.Lines.{check_lines}
+use Rattle.repl_tend.specs.Printing.{IsPrinted}
+use Rattle.repl_tend.specs.Tending.{Ends, IsCalm, IsDamaged, IsDone, TellsFaults, status_of}
+use Rattle.repl_tend.specs.declared.tended.Tended.{Tended}
+use Rattle.repl_tend.specs.declared.tended.Tended.TheVariants as tended
+
+-- ---- the store of the files
+
+-- the state of a store with this durable part that has written nothing
+abbrev mounted_state : Durable → State
+mounted_state d = record { durable = d; unflushed = [] }
+
+size_is : IsSegSize VERSION_1_SIZE
+size_is = record { exponent = 24; power = refl; least = omega arith; most = omega arith }
+
+floor_on_page : (folder : Folder) (d : Durable) → StandsFor VERSION_1_SIZE folder d → IsPage d.control.floor
+floor_on_page folder d stands = omega (arith, stands.right.floor.0)
+
+-- what a check finds of the log of a store is said of what its files stand for
+log_fits : (h : Head) (d : Durable) → IsMounted h VERSION_1_SIZE d → found.LogFits h (mounted_state d) → LogFits d
+log_fits h d mounted fits = rw (mounted.same_size, mounted.same_control, mounted.same_path) at fits
+
+log_has : (h : Head) (d : Durable) (wrong : Flaw) → IsMounted h VERSION_1_SIZE d → found.LogHas h (mounted_state d) wrong → LogHas d wrong
+log_has h d wrong mounted has = rw (mounted.same_size, mounted.same_control, mounted.same_path) at has
+
+-- no flaw can be told of a log that fits
+unflawed : (folder : Folder) (d : Durable) → FitsWhole folder d → (name : List ℕ) (place : ℕ) (why : DamageReason) → IsFlawed folder name place why → ⊥
+unflawed folder d whole name place why (inl bad) = undamaged folder d whole.stands name place why bad
+unflawed folder d whole name place why (inr (other, wrong, stands, has, at)) =
+    let same = durable_one VERSION_1_SIZE folder other d stands whole.stands in
+    fits_no_flaw (identity_of d) (timeline_at d.path) d.control.floor d.bytes d.control.whole d.control.prev wrong size_is
+    (floor_on_page folder d whole.stands) whole.fits (subst (λ (x : Durable). LogHas x wrong) same has)
+
+module _ (end : Tended) (old new : DiskState) (w w' : SinkState) where
+  abbrev EndsAt : Folder → Type 0
+  EndsAt folder = Ends (FitsWhole folder) (λ d. check_lines (status_of d)) ⊥ (IsFlawed folder) end old new w w'
+
+  checked_of : ((folder : Folder) → old.files ≡ Some folder → IsSettled old folder → EndsAt folder) → TellsFaults end old new w w'
+      → Checked end old new w w'
+  checked_of ends faults = record {
+    ends = ends;
+    faults = faults;
+    complete = λ folder d told settled whole calm.
+        done_of (FitsWhole folder) (λ x. check_lines (status_of x)) ⊥ (IsFlawed folder) old new end w w' (ends folder told settled) calm
+        (unflawed folder d whole) (λ none. none);
+  }
+
+-- ---- the files are refused
+
+pub refused_checked : {A : Type 0} (e : StoreFault) (end : Tended) (old new : DiskState) (w : SinkState)
+    → IfTold old.files (λ folder. IsRefusal VERSION_1_SIZE folder e) → IsOfMount e → IsToldOf e end → Asks {A = A} (Err e) old new
+    → Checked end old new w w
+refused_checked e end old new w refused answer is asks =
+    checked_of end old new w w
+    (λ folder told settled. refused_ends (FitsWhole folder) (λ d. check_lines (status_of d)) ⊥ (IsFlawed folder) old new folder e end w told is
+    (told_so old.files folder (λ f. IsRefusal VERSION_1_SIZE f e) told refused) asks (λ name place why bad. inl bad))
+    (refused_faults e end old new w answer is asks)
+
+-- ---- the log is judged
+
+abbrev IsMountedOn : Head → Folder → Type 0
+IsMountedOn h folder = (d : Durable) × StandsFor VERSION_1_SIZE folder d × IsMounted h VERSION_1_SIZE d
+
+-- a store that was mounted from these files hangs together with them where a crash leaves nothing else
+abbrev BacksMounted : DiskState → DiskState → Head → Type 0
+BacksMounted old mid h = (folder : Folder) (d : Durable) → old.files ≡ Some folder → StandsFor VERSION_1_SIZE folder d
+    → ((image : Folder) → old.may_leave image → StandsFor VERSION_1_SIZE image d) → Backs mid h (mounted_state d)
+
+module _ {A : Type 0} (x : A) (h : Head) (end : Tended) (old mid new : DiskState) (w w' : SinkState)
+    (mounted : IfTold old.files (IsMountedOn h)) (backs : BacksMounted old mid h) (asks : Asks {A = A} (Ok x) old mid) where
+  found_in : (folder : Folder) → old.files ≡ Some folder → IsMountedOn h folder
+  found_in folder told = told_so old.files folder (IsMountedOn h) told mounted
+
+  backs_in : (folder : Folder) (told : old.files ≡ Some folder) → IsSettled old folder → Backs mid h (mounted_state (found_in folder told).0)
+  backs_in folder told settled =
+      let d = found_in folder told in
+      backs folder d.0 told d.1 (λ image now. settled d.0 image d.1 now)
+
+  -- the log fits, and that was printed
+  pub printed_checked : ((s : State) → Backs mid h s → found.LogFits h s) → Stood mid.faults new.faults
+      → IsPrinted (check_lines (head.status_of h)) end w w' → Checked end old new w w'
+  printed_checked fits stood printed =
+      checked_of end old new w w'
+      (λ folder told settled.
+      let d = found_in folder told in
+      let whole : FitsWhole folder d.0 = record { stands = d.1; fits = log_fits h d.0 d.2 (fits (mounted_state d.0) (backs_in folder told settled)) } in
+      printed_ends (FitsWhole folder) (λ d. check_lines (status_of d)) ⊥ (IsFlawed folder) old new d.0 end w w' whole
+      (subst (λ s. IsPrinted (check_lines s) end w w') (status_same h d.0 d.2) printed))
+      (printed_faults (check_lines (head.status_of h)) end old new w w' printed (stood ∙ asks.ok.0))
+
+  -- the log has a flaw, and that is told
+  flawed_checked : (wrong : Flaw) (name : List ℕ) (place : ℕ) (why : DamageReason) → IsDamagedOr name place why end
+      → ((d : Durable) → d.path ≡ h.path → IsDamageAt d wrong name place why) → ((s : State) → Backs mid h s → found.LogHas h s wrong)
+      → Stood mid.faults new.faults → Checked end old new w w
+  flawed_checked wrong name place why is at has stood =
+      checked_of end old new w w
+      (λ folder told settled.
+      let d = found_in folder told in
+      damaged_ends (FitsWhole folder) (λ d. check_lines (status_of d)) ⊥ (IsFlawed folder) old new name place why end w is
+      (inr (d.0, wrong, d.1, log_has h d.0 wrong d.2 (has (mounted_state d.0) (backs_in folder told settled)), at d.0 (sym d.2.same_path))))
+      (damaged_faults name place why end old new w is (stood ∙ asks.ok.0))
+
+  -- the log is not found to fit
+  pub answered_checked : (e : CheckFault) → IsToldAt h.path e end → (e ≡ check.Broken → ⊥)
+      → ((wrong : Flaw) → e ≡ told wrong → (s : State) → Backs mid h s → found.LogHas h s wrong)
+      → IsCaused (read_of (Err e)) mid new
+      → ((s : State) → Backs mid h s → Comes (read_of (Err e)) mid new h (Before s) s (λ t. t ≡ s)) → Checked end old new w w
+  answered_checked check.Whole is unbroken has caused comes =
+      flawed_checked flaw.Whole _ 32 damage.Control is (λ d same. (refl, refl, refl)) (has flaw.Whole refl) caused.ok.0
+  answered_checked check.Last is unbroken has caused comes =
+      flawed_checked flaw.Last _ 48 damage.Control is (λ d same. (refl, refl, refl)) (has flaw.Last refl) caused.ok.0
+  answered_checked (check.Bad at reason) is unbroken has caused comes =
+      flawed_checked (flaw.Bad at reason) _ _ (damage.Bad reason) is (λ d same. (rw same refl, refl, refl)) (has (flaw.Bad at reason) refl) caused.ok.0
+  answered_checked check.Broken is unbroken has caused comes = absurd (unbroken refl)
+  answered_checked check.DiskFault is unbroken has caused comes =
+      checked_of end old new w w
+      (λ folder told settled.
+      let d = found_in folder told in
+      let rose : Rose mid.faults new.faults = (comes (mounted_state d.0) (backs_in folder told settled)).failed refl in
+      disk_ends (FitsWhole folder) (λ d. check_lines (status_of d)) ⊥ (IsFlawed folder) old new end w is (omega (arith, rose, asks.ok.0)))
+      (disk_faults end old new w is (⊎_elim (λ rose. inl (omega (arith, rose, asks.ok.0))) (λ lack. inr (omega (arith, lack, asks.lacks))) (caused.failed refl)))
+  answered_checked check.Memory is unbroken has caused comes =
+      checked_of end old new w w
+      (λ folder told settled. memory_ends (FitsWhole folder) (λ d. check_lines (status_of d)) ⊥ (IsFlawed folder) old new end w is)
+      (memory_faults end old new w is (caused.no_memory refl ∙ asks.ok.0))
+
+-- what is told of a log that was judged
+abbrev pub IsTold : Head → Result (Unit {0}) CheckFault → Tended → SinkState → SinkState → Type 0
+IsTold h result end w w' = MatchResult result (λ _. IsPrinted (check_lines (head.status_of h)) end w w')
+    (λ e. IsToldAt h.path e end × (w' ≡ w))
+
+module _ {A : Type 0} (x : A) (h : Head) (end : Tended) (old mid new : DiskState) (w w' : SinkState)
+    (mounted : IfTold old.files (IsMountedOn h)) (backs : BacksMounted old mid h) (asks : Asks {A = A} (Ok x) old mid) where
+  pub judged_checked : (result : Result (Unit {0}) CheckFault)
+      → OnOk (read_of result) ((s : State) → Backs mid h s → IsOk result ↔ found.LogFits h s)
+      → ((wrong : Flaw) → result ≡ Err (told wrong) → (s : State) → Backs mid h s → found.LogHas h s wrong)
+      → (result ≡ Err check.Broken → ⊥) → IsCaused (read_of result) mid new
+      → ((s : State) → Backs mid h s → Comes (read_of result) mid new h (Before s) s (λ t. t ≡ s))
+      → IsTold h result end w w' → Checked end old new w w'
+  judged_checked (Ok u) exact flawed unbroken caused comes is =
+      printed_checked x h end old mid new w w' mounted backs asks (λ s backed. (exact s backed).0 refl) caused.ok.0 is
+  judged_checked (Err e) exact flawed unbroken caused comes is =
+      let P : SinkState → Type 0 = λ v. Checked end old new w v in
+      subst P (sym is.1) (answered_checked x h end old mid new w w mounted backs asks e is.0 (λ same. unbroken (ap Err same))
+      (λ wrong same. flawed wrong (ap Err same)) caused comes)

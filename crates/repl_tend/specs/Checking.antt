@@ -1,0 +1,79 @@
+-- What `check` does, by what the disk and the sink tell and count.
+use Rattle.std.specs.Prelude.{◌≡◌, ℕ, ◌%◌, ◌/◌, ◌⊎◌, List, Some}
+use Rattle.repl_check.specs.declared.check.CheckFault.{CheckFault}
+use Rattle.repl_check.specs.declared.check.CheckFault.TheVariants as check
+use Rattle.repl_check.specs.declared.flaw.Flaw.{Flaw}
+use Rattle.repl_check.specs.declared.flaw.Flaw.TheVariants as flaw
+use Rattle.repl_check.specs.Fits.{Fits}
+use Rattle.repl_check.specs.Flaws.{IsFlaw}
+use Rattle.repl_control.specs.declared.control.TheConstants.{VERSION_1_SIZE}
+use Rattle.repl_disk.specs.Folder.{Folder}
+use Rattle.repl_disk.specs.State.{DiskState}
+use Rattle.repl_io.specs.Sink.{SinkState}
+use Rattle.repl_lsn.specs.History.{Path}
+use Rattle.repl_lsn.specs.Path.{timeline_at}
+use Rattle.repl_page.specs.declared.ident.Ident.{Ident}
+use Rattle.repl_status.specs.declared.damage.DamageReason.TheVariants as damage
+use Rattle.repl_store.specs.Durable.{Durable, StandsFor, control_name, segment_file}
+use Rattle.repl_tend.specs.Damages.{IsDamagedOr}
+use Rattle.repl_tend.specs.Lines.{check_lines}
+use Rattle.repl_tend.specs.Tending.{Damage, Ends, IsCalm, IsDamaged, IsDone, TellsFaults, status_of}
+use Rattle.repl_tend.specs.declared.tended.Tended.{Tended}
+use Rattle.repl_tend.specs.declared.tended.Tended.TheVariants as tended
+
+-- ---- the log
+
+abbrev pub identity_of : Durable → Ident
+identity_of d = record { sysid = d.control.sysid; magic = d.control.magic; size = VERSION_1_SIZE }
+
+-- the log, from the floor to the flushed end, is what the control says
+abbrev pub LogFits : Durable → Type 0
+LogFits d = Fits (identity_of d) (timeline_at d.path) d.control.floor d.bytes d.control.whole d.control.prev
+
+-- it has this flaw
+abbrev pub LogHas : Durable → Flaw → Type 0
+LogHas d wrong = IsFlaw (identity_of d) (timeline_at d.path) d.control.floor d.bytes d.control.whole d.control.prev wrong
+
+-- a crash would leave files that stand for what these do
+abbrev pub IsSettled : DiskState → Folder → Type 0
+IsSettled disk folder = (d : Durable) (image : Folder) → StandsFor VERSION_1_SIZE folder d → disk.may_leave image → StandsFor VERSION_1_SIZE image d
+
+-- ---- damage
+
+-- what is told where the log has this flaw: the field of the control that is wrong, or the record or page
+abbrev pub IsDamageAt : Durable → Flaw → Damage
+IsDamageAt d flaw.Whole name place why = (name ≡ control_name) × (place ≡ 32) × (why ≡ damage.Control)
+IsDamageAt d flaw.Last name place why = (name ≡ control_name) × (place ≡ 48) × (why ≡ damage.Control)
+IsDamageAt d (flaw.Bad at reason) name place why = (name ≡ segment_file VERSION_1_SIZE d.path (at / VERSION_1_SIZE))
+    × (place ≡ at % VERSION_1_SIZE) × (why ≡ damage.Bad reason)
+
+-- where a check of the log of a store on this path answered so
+abbrev pub IsToldAt : Path → CheckFault → Tended → Type 0
+IsToldAt path check.Whole end = IsDamagedOr control_name 32 damage.Control end
+IsToldAt path check.Last end = IsDamagedOr control_name 48 damage.Control end
+IsToldAt path (check.Bad at reason) end =
+    IsDamagedOr (segment_file VERSION_1_SIZE path (at / VERSION_1_SIZE)) (at % VERSION_1_SIZE) (damage.Bad reason) end
+IsToldAt path check.Broken end = end ≡ tended.DiskFault
+IsToldAt path check.DiskFault end = end ≡ tended.DiskFault
+IsToldAt path check.Memory end = end ≡ tended.Memory
+
+-- ---- the command
+
+-- the files stand for a store whose log fits
+pub record FitsWhole (folder : Folder) (d : Durable) : Type 0 where
+  pub stands : StandsFor VERSION_1_SIZE folder d
+  pub fits : LogFits d
+
+-- the files stand for no store, or for one whose log has a flaw, which is this damage
+abbrev pub IsFlawed : Folder → Damage
+IsFlawed folder name place why = IsDamaged folder name place why
+    ⊎ ((d : Durable) × (wrong : Flaw) × StandsFor VERSION_1_SIZE folder d × LogHas d wrong × IsDamageAt d wrong name place why)
+
+-- What `check` does, where a crash would leave what the disk has: it prints that all fits, and the line of the store, or
+-- tells the first that is wrong: of control, history, segments, and then of the log.
+pub record Checked (end : Tended) (old new : DiskState) (w w' : SinkState) : Type 0 where
+  pub ends : (folder : Folder) → old.files ≡ Some folder → IsSettled old folder
+      → Ends (FitsWhole folder) (λ d. check_lines (status_of d)) ⊥ (IsFlawed folder) end old new w w'
+  pub faults : TellsFaults end old new w w'
+  -- Unless an object is faulty or memory runs out, a store whose log fits is told to fit.
+  pub complete : (folder : Folder) (d : Durable) → old.files ≡ Some folder → IsSettled old folder → FitsWhole folder d → IsCalm old new w w' → IsDone end

@@ -1,0 +1,5 @@
+pub mod Lines
+pub mod Tending
+pub mod Damages
+pub mod Printing
+pub mod Checking

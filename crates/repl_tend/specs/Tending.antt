@@ -1,0 +1,149 @@
+-- What the commands on a store do, by what the disk and the sink tell and count: `old` and `new` are the disk before and
+-- after it, `w` and `w'` the sink.
+use Rattle.std.specs.Prelude.{◌≡◌, ℕ, ◌⊎◌, List, Bool, true, false, Some, None, IsSome}
+use Rattle.repl_control.specs.declared.control.Role.{Role}
+use Rattle.repl_control.specs.declared.control.TheConstants.{VERSION_1_SIZE}
+use Rattle.repl_counts.specs.Counts.{Rose, RoseExactly, Stood}
+use Rattle.repl_disk.specs.Crash.{LeavesOnly}
+use Rattle.repl_disk.specs.Folder.{Folder, IfTold}
+use Rattle.repl_disk.specs.State.{DiskState}
+use Rattle.repl_io.specs.Sink.{SinkState, WritesFront}
+use Rattle.repl_io.specs.declared.sink.Sent.{Sent}
+use Rattle.repl_io.specs.declared.sink.Sent.TheVariants as sent
+use Rattle.repl_counts.specs.Told.{Gained, Kept}
+use Rattle.repl_lsn.specs.declared.fault.HistoryFault.{HistoryFault}
+use Rattle.repl_lsn.specs.declared.fault.HistoryFault.TheVariants as history
+use Rattle.repl_lsn.specs.Segment.{history_name}
+use Rattle.repl_page.specs.declared.ident.Ident.{Ident}
+use Rattle.repl_status.specs.declared.damage.DamageReason.{DamageReason}
+use Rattle.repl_status.specs.declared.damage.DamageReason.TheVariants as damage
+use Rattle.repl_store.specs.declared.fault.StoreFault.{StoreFault}
+use Rattle.repl_store.specs.declared.fault.StoreFault.TheVariants as fault
+use Rattle.repl_store.specs.declared.store.StoreStatus.{StoreStatus}
+use Rattle.repl_store.specs.Backing.{OnlyReads}
+use Rattle.repl_store.specs.Creating.{IsMaking, fresh}
+use Rattle.repl_store.specs.Durable.{Durable, StandsFor, control_name}
+use Rattle.repl_store.specs.Refusal.{IsRefusal}
+use Rattle.repl_tend.specs.declared.tended.Tended.{Tended}
+use Rattle.repl_tend.specs.declared.tended.Tended.TheVariants as tended
+use Rattle.repl_tend.specs.Lines.{ok_line, status_line}
+
+-- ---- what is told of a store
+
+-- what a store is that was just mounted
+abbrev pub status_of : Durable → StoreStatus
+status_of d = record {
+  sysid = d.control.sysid;
+  role = d.control.role;
+  tli = d.control.tli;
+  floor = d.control.floor;
+  whole = d.control.whole;
+  flushed = d.control.flushed;
+  written = d.control.flushed;
+  ident = record { sysid = d.control.sysid; magic = d.control.magic; size = VERSION_1_SIZE };
+  prev = d.control.prev;
+}
+
+-- ---- damage: the name of a file, a place in it, and a reason
+
+abbrev pub Damage : Type 1
+Damage = List ℕ → ℕ → DamageReason → Type 0
+
+-- the line of a fault, which is 0 where a text is too long
+abbrev pub line_of : HistoryFault → ℕ
+line_of (history.TooLong have) = 0
+line_of (history.NotNumber line) = line
+line_of (history.NotSwitch line) = line
+line_of (history.NotIncreasing line) = line
+line_of (history.NotBelowOwn line) = line
+line_of (history.SwitchFalls line) = line
+line_of history.Memory = 0
+
+-- what is told where the files stand for no store, for this reason; that a call failed is no damage
+abbrev pub IsDamageOf : StoreFault → Damage
+IsDamageOf fault.Broken name place why = ⊥
+IsDamageOf fault.Exists name place why = ⊥
+IsDamageOf (fault.Missing file) name place why = (name ≡ file) × (place ≡ 0) × (why ≡ damage.Missing)
+IsDamageOf (fault.BadControl at) name place why = (name ≡ control_name) × (place ≡ at) × (why ≡ damage.Control)
+IsDamageOf (fault.BadHistory tli wrong) name place why = (name ≡ history_name tli) × (place ≡ line_of wrong) × (why ≡ damage.History wrong)
+IsDamageOf (fault.ShortFile file have wanted) name place why = (name ≡ file) × (place ≡ have) × (why ≡ damage.Short)
+IsDamageOf fault.DiskFault name place why = ⊥
+IsDamageOf fault.Memory name place why = ⊥
+
+-- the files stand for no store, and this is the first that is wrong, in the order control, history, segments
+abbrev pub IsDamaged : Folder → Damage
+IsDamaged folder name place why = (e : StoreFault) × IsRefusal VERSION_1_SIZE folder e × IsDamageOf e name place why
+
+-- ---- writing
+
+abbrev pub Wrote : List ℕ → SinkState → SinkState → Type 0
+Wrote text w w' = Gained w.written w'.written text
+
+abbrev pub WroteFront : List ℕ → SinkState → SinkState → Type 0
+WroteFront text w w' = WritesFront text w.written w'.written
+
+abbrev pub WroteNothing : SinkState → SinkState → Type 0
+WroteNothing w w' = Kept w.written w'.written
+
+-- how a command ends where the writing of its lines ended so
+abbrev pub sent_end : Sent → Tended
+sent_end sent.All = tended.Done
+sent_end sent.Failed = tended.WriteFault
+sent_end sent.Memory = tended.Memory
+
+abbrev pub is_write_fault : Tended → Bool
+is_write_fault tended.WriteFault = true
+is_write_fault tended.Done = false
+is_write_fault (tended.Damaged name place why) = false
+is_write_fault tended.Exists = false
+is_write_fault tended.DiskFault = false
+is_write_fault tended.Memory = false
+
+-- How a command ends that writes the text `text x` for some x that `Is`. Where it is damaged, or memory runs out before the
+-- writing, nothing is written.
+abbrev pub Ends : {X : Type 0} → (X → Type 0) → (X → List ℕ) → Type 0 → Damage → Tended → DiskState → DiskState → SinkState → SinkState → Type 0
+Ends {X} Is text IsThere Bad tended.Done old new w w' = (x : X) × Is x × Wrote (text x) w w'
+Ends {X} Is text IsThere Bad (tended.Damaged name place why) old new w w' = Bad name place why × WroteNothing w w'
+Ends {X} Is text IsThere Bad tended.Exists old new w w' = IsThere × WroteNothing w w'
+Ends {X} Is text IsThere Bad tended.DiskFault old new w w' = Rose old.faults new.faults × WroteNothing w w'
+Ends {X} Is text IsThere Bad tended.WriteFault old new w w' = Rose w.faults w'.faults × ((x : X) × Is x × WroteFront (text x) w w')
+Ends {X} Is text IsThere Bad tended.Memory old new w w' = WroteNothing w w' ⊎ (Rose w.wants w'.wants × ((x : X) × Is x × WroteFront (text x) w w'))
+
+-- What holds over every disk: faults are told where an object counted one. A disk that does not tell its files may count a lack
+-- in place of a fault.
+pub record TellsFaults (end : Tended) (old new : DiskState) (w w' : SinkState) : Type 0 where
+  pub disk : end ≡ tended.DiskFault → Rose old.faults new.faults ⊎ Rose old.lacks new.lacks
+  pub calm : (end ≡ tended.DiskFault) ⊎ Stood old.faults new.faults
+  pub sink : RoseExactly (is_write_fault end) w.faults w'.faults
+
+-- no object was faulty
+abbrev pub IsCalm : DiskState → DiskState → SinkState → SinkState → Type 0
+IsCalm old new w w' = ¬ Rose old.faults new.faults × ¬ Rose w.faults w'.faults
+
+abbrev pub IsDone : Tended → Type 0
+IsDone end = (end ≡ tended.Done) ⊎ (end ≡ tended.Memory)
+
+-- ---- the commands
+
+-- What `status` does: it prints the line of the store that the files stand for, or tells the first that is wrong.
+pub record Stated (end : Tended) (old new : DiskState) (w w' : SinkState) : Type 0 where
+  pub ends : IfTold old.files (λ folder. Ends (λ d. StandsFor VERSION_1_SIZE folder d) (λ d. status_line (status_of d)) ⊥ (IsDamaged folder) end old new w w')
+  pub only : OnlyReads old new
+  pub faults : TellsFaults end old new w w'
+  -- Unless an object is faulty or memory runs out, a store is told.
+  pub complete : (folder : Folder) (d : Durable) → old.files ≡ Some folder → StandsFor VERSION_1_SIZE folder d → IsCalm old new w w' → IsDone end
+
+-- every image is the new store, and there was none
+abbrev pub IsNew : Role → Ident → Folder → DiskState → Unit {0} → Type 0
+IsNew role ident folder new _ = (folder control_name ≡ None)
+    × ((image : Folder) → new.may_leave image → (known : ℕ) × StandsFor VERSION_1_SIZE image (fresh role ident known))
+
+-- What `init` does: it makes a store, unless one is there.
+pub record Initiated (role : Role) (ident : Ident) (end : Tended) (old new : DiskState) (w w' : SinkState) : Type 0 where
+  pub ends : IfTold old.files (λ folder. Ends (IsNew role ident folder new) (λ _. ok_line) (IsSome (folder control_name)) (λ name place why. ⊥) end old new w w')
+  pub moments : IfTold old.files (λ folder. LeavesOnly old new (IsMaking old.may_leave role ident))
+  pub faults : TellsFaults end old new w w'
+  -- Unless an object is faulty or memory runs out, a store is made where none is, and else that is told.
+  pub complete : (folder : Folder) → old.files ≡ Some folder → folder control_name ≡ None → IsCalm old new w w' → IsDone end
+  pub there : (folder : Folder) → old.files ≡ Some folder → IsSome (folder control_name) → IsCalm old new w w'
+      → (end ≡ tended.Exists) ⊎ (end ≡ tended.Memory)
