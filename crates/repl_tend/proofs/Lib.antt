@@ -1,4 +1,3 @@
 pub mod Ending
 pub mod Stating
-pub mod Making
-pub mod Judging
+pub mod Judged

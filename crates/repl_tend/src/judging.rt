@@ -1,8 +1,9 @@
 //! The whole store is judged.
-ghost use Rattle.std.specs.Prelude.{◌≡◌, ◌%◌, ◌/◌};
+ghost use Rattle.std.specs.Prelude.{◌≡◌, ◌%◌, ◌/◌, MatchResult};
 ghost use Rattle.repl_control.specs.declared.control.TheConstants.{VERSION_1_SIZE};
 ghost use Rattle.repl_status.specs.declared.damage.DamageReason.TheVariants as reason;
 ghost use Rattle.repl_store.specs.Durable.{segment_file};
+ghost use Rattle.repl_store.specs.Head.{status_of};
 ghost use Rattle.repl_tend.specs.Checking.{Checked, IsToldAt};
 ghost use Rattle.repl_tend.specs.Damages.{IsDamagedOr};
 ghost use Rattle.repl_tend.specs.Lines.{check_lines};
@@ -41,13 +42,27 @@ pub fn check<D: Disk, K: Sink>(alloc: Global, disk: D, out: &mut K) -> (Tended, 
     match Store::mount(alloc, disk) {
         Ok(store) => {
             let mut store = store;
-            let end = match check_log(alloc, &mut store) {
-                Ok(()) => print_check(alloc, &store.status(), out),
-                Err(fault) => end_of_check(alloc, store.path(), fault),
-            };
+            let checked = check_log(alloc, &mut store);
+            let end = tell(alloc, &store, checked, out);
             (end, store.into_disk())
         }
         Err((fault, disk)) => (end_of_store(alloc, fault), disk),
+    }
+}
+
+/// Tells what was found of the log of a store.
+fn tell<D: Disk, K: Sink>(
+    alloc: Global,
+    store: &Store<D>,
+    checked: Result<(), CheckFault>,
+    out: &mut K,
+) -> Tended
+    ensures { MatchResult checked (λ _. IsPrinted (check_lines (status_of store.now.head)) result (K.sink out.old) (K.sink out.new))
+        (λ fault. IsToldAt store.now.head.path fault result × (K.sink out.new ≡ K.sink out.old)) }
+{
+    match checked {
+        Ok(()) => print_check(alloc, &store.status(), out),
+        Err(fault) => end_of_check(alloc, store.path(), fault),
     }
 }
 

@@ -11,10 +11,10 @@
 //! ```
 #![tactic(auto)]
 
-mod judging;
 mod damage;
-mod making;
+mod judging;
 mod lines;
+mod making;
 mod telling;
 mod tended;
 

@@ -1,5 +1,5 @@
 -- What `check` does, from what a mount, the check of the log and the writing of the lines did.
-use Rattle.std.proofs.Common.{◌≡◌, ◌↔◌, ◌⊎◌, ◌^◌, ◌<◌, ◌≤◌, ◌%◌, ◌*◌, ℕ, List, [], true, false, Some, None, Result, Ok, Err, OnOk, IsOk, refl, sym, ◌∙◌, ap, subst, inl, inr, ⊎_elim, arith}
+use Rattle.std.proofs.Common.{◌≡◌, ◌↔◌, ◌⊎◌, ◌^◌, ◌<◌, ◌≤◌, ◌%◌, ◌*◌, ℕ, List, [], true, false, Some, None, Result, Ok, Err, OnOk, IsOk, MatchResult, refl, sym, ◌∙◌, ap, subst, inl, inr, ⊎_elim, arith}
 use Rattle.std.proofs.Math.Nat.{mod-add-div'}
 use Rattle.repl_check.proofs.Verdicts.{fits_no_flaw}
 use Rattle.repl_check.specs.Found as found
@@ -161,3 +161,23 @@ module _ {A : Type 0} (x : A) (h : Head) (end : Tended) (old mid new : DiskState
       checked_of end old new w w
       (λ folder told settled. memory_ends (FitsWhole folder) (λ d. check_lines (status_of d)) ⊥ (IsFlawed folder) old new end w is)
       (memory_faults end old new w is (caused.no_memory refl ∙ asks.ok.0))
+
+-- what is told of a log that was judged
+abbrev pub IsTold : Head → Result (Unit {0}) CheckFault → Tended → SinkState → SinkState → Type 0
+IsTold h result end w w' = MatchResult result (λ _. IsPrinted (check_lines (head.status_of h)) end w w')
+    (λ e. IsToldAt h.path e end × (w' ≡ w))
+
+module _ {A : Type 0} (x : A) (h : Head) (end : Tended) (old mid new : DiskState) (w w' : SinkState)
+    (mounted : IfTold old.files (IsMountedOn h)) (backs : BacksMounted old mid h) (asks : Asks {A = A} (Ok x) old mid) where
+  pub judged_checked : (result : Result (Unit {0}) CheckFault)
+      → OnOk (read_of result) ((s : State) → Backs mid h s → IsOk result ↔ found.LogFits h s)
+      → ((wrong : Flaw) → result ≡ Err (told wrong) → (s : State) → Backs mid h s → found.LogHas h s wrong)
+      → (result ≡ Err check.Broken → ⊥) → IsCaused (read_of result) mid new
+      → ((s : State) → Backs mid h s → Comes (read_of result) mid new h (Before s) s (λ t. t ≡ s))
+      → IsTold h result end w w' → Checked end old new w w'
+  judged_checked (Ok u) exact flawed unbroken caused comes is =
+      printed_checked x h end old mid new w w' mounted backs asks (λ s backed. (exact s backed).0 refl) caused.ok.0 is
+  judged_checked (Err e) exact flawed unbroken caused comes is =
+      let P : SinkState → Type 0 = λ v. Checked end old new w v in
+      subst P (sym is.1) (answered_checked x h end old mid new w w mounted backs asks e is.0 (λ same. unbroken (ap Err same))
+      (λ wrong same. flawed wrong (ap Err same)) caused comes)
