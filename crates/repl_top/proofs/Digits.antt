@@ -38,11 +38,11 @@ front_at_most base word i value n some h inside d =
 
 -- four hexadecimal digits have a value below 2 ^ 16
 four_digits : (count : ℕ) → count ≤ 4 → 16 ^ count ≤ 65536
-four_digits 0 few = omega arith
-four_digits 1 few = omega arith
-four_digits 2 few = omega arith
-four_digits 3 few = omega arith
-four_digits 4 few = omega arith
+four_digits zero few = omega arith
+four_digits (suc zero) few = omega arith
+four_digits (suc (suc zero)) few = omega arith
+four_digits (suc (suc (suc zero))) few = omega arith
+four_digits (suc (suc (suc (suc zero)))) few = omega arith
 four_digits (suc (suc (suc (suc (suc count))))) few = absurd (omega arith)
 
 pub magic_below : (word : List ℕ) (n : ℕ) → IsMagic word n → n ≤ 65535

@@ -13,7 +13,7 @@ use Rattle.repl_top.specs.declared.kinds.Word.{Word}
 use Rattle.repl_top.specs.declared.kinds.Word.TheVariants as kind
 use Rattle.repl_top.specs.declared.table.Command.{Command}
 use Rattle.repl_top.specs.declared.task.Task.TheVariants as task
-use Rattle.repl_top.specs.Words.{IsRole, IsSide, IsSystem, IsTask, IsTimeline, IsWordOf, SaysMagic, form_of, frames_form, history_form, identify_form, init_form, role_word, side_word, the_table}
+use Rattle.repl_top.specs.Words.{IsRole, IsSide, IsSystem, IsTask, IsTimeline, IsWordOf, SaysMagic, form_of, frames_form, history_form, identify_form, init_form, names_form, role_word, side_word, the_table}
 
 each_form : All (λ (f : PlainForm Word Command). f ≡ form_of f.command) the_table.forms
 each_form = All-from_recursion (λ (f : PlainForm Word Command). f ≡ form_of f.command) the_table.forms
@@ -72,6 +72,11 @@ pub frames_line : (words : List (List ℕ)) (line : Line Command) (side : Side) 
     → IsSide (get_or words (line.first + 1) []) side → IsTask words (task.Frames side)
 frames_line words line side read is =
     (read.is_line, one_argument frames_form kind.Side words line refl read ∙ ap (λ w. w ∷ []) is)
+
+pub names_line : (words : List (List ℕ)) (line : Line Command) (text : List ℕ) → IsReadOf IsWordOf the_table names_form words line
+    → text ≡ get_or words (line.first + 1) [] → (l : IsLineOf IsWordOf the_table names_form words) × (l.arguments ≡ text ∷ [])
+names_line words line text read is =
+    (read.is_line, one_argument names_form kind.Text words line refl read ∙ ap (λ w. w ∷ []) (sym is))
 
 pub history_line : (words : List (List ℕ)) (line : Line Command) (own : ℕ) → IsReadOf IsWordOf the_table history_form words line
     → IsTimeline (get_or words (line.first + 1) []) own → IsTask words (task.History own)

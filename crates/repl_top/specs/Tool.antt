@@ -15,7 +15,8 @@ use Rattle.repl_status.specs.declared.status.Status.{Status}
 use Rattle.repl_status.specs.declared.status.Status.TheVariants as status
 use Rattle.repl_tend.specs.declared.tended.Tended.{Tended}
 use Rattle.repl_tend.specs.declared.tended.Tended.TheVariants as tended
-use Rattle.repl_tend.specs.Tending.{Checked, Initiated, Stated}
+use Rattle.repl_tend.specs.Checking.{Checked}
+use Rattle.repl_tend.specs.Tending.{Initiated, Stated}
 use Rattle.repl_top.specs.declared.task.Task.{Task}
 use Rattle.repl_top.specs.declared.task.Task.TheVariants as task
 use Rattle.repl_top.specs.Words.{IsTask}

@@ -139,8 +139,10 @@ UsesDisk words asked = ((t : Task) × IsTask words t × (asked ≡ disk_use t)) 
 
 -- ---- the folder
 
--- the word behind a first word `-D`, or `.`
-abbrev pub folder_word : List (List ℕ) → List ℕ
-folder_word [] = codes "."
-folder_word (first ∷ []) = codes "."
-folder_word (first ∷ folder ∷ rest) = if bytes_eq first (codes "-D") then folder else codes "."
+-- a word stands behind a first word `-D`
+abbrev pub IsLed : List (List ℕ) → Type 0
+IsLed words = (1 < length words) × (get_or words 0 [] ≡ codes "-D")
+
+-- that word, or `.` where there is none
+abbrev pub IsFolder : List (List ℕ) → List ℕ → Type 0
+IsFolder words folder = (IsLed words × (folder ≡ get_or words 1 [])) ⊎ ((¬ IsLed words) × (folder ≡ codes "."))

@@ -1,17 +1,18 @@
 //! Which folder a command line is about.
 ghost use Rattle.std.specs.Prelude.{◌≡◌};
 ghost use Rattle.repl_words.specs.Words.{texts};
-ghost use Rattle.repl_top.specs.Words.{UsesDisk, folder_word};
+ghost use Rattle.repl_top.specs.Words.{IsFolder, UsesDisk};
 
 use crate::task::read_task;
 
 /// The folder that the words name: the word after a first word `-D`, or `.`.
 pub fn folder_of(words: &[String]) -> &str
-    ensures { result.now ≡ folder_word (texts words.now) }
+    ensures { IsFolder (texts words.now) result.now }
 {
-    match words {
-        [first, folder, ..] if first.as_str() == "-D" => folder.as_str(),
-        _ => ".",
+    if words.len() > 1 && words[0].as_str() == "-D" {
+        words[1].as_str()
+    } else {
+        "."
     }
 }
 

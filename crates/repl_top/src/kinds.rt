@@ -10,6 +10,11 @@ use repl_store::Role;
 use repl_wire::Side;
 use repl_words::Kind;
 
+/// The greatest value of four hexadecimal digits.
+const MAGIC_LIMIT: u64 = 65_535;
+
+const _: () = prove!(MAGIC_LIMIT == 65_535);
+
 /// What a word in some place may be.
 #[derive(Clone, Copy)]
 pub(crate) enum Word {
@@ -43,16 +48,16 @@ impl Kind for Word {
             Word::Text => true,
             Word::System => read_system(word).is_some(),
             Word::Timeline => read_timeline(word).is_some(),
-            Word::Position => read_position(word).is_some(),
+            Word::Position => is_position(word),
             Word::Side => read_side(word).is_some(),
             Word::Role => read_role(word).is_some(),
-            Word::Magic => read_magic(word).is_some(),
+            Word::Magic => is_magic(word),
         }
     }
 }
 
 /// The value of digits to this base, of which there is at least one, where it is at most `limit`.
-fn read_number(word: &str, base: u32, limit: u64) -> Option<u64>
+fn read_number(word: &str, base: u64, limit: u64) -> Option<u64>
     requires { (2 ≤ base) × (base ≤ 36) }
     ensures some { IfSome result (λ n. IsNumber base word.now n × (n ≤ limit)) }
     ensures none { IfNone result ((n : ℕ) → IsNumber base word.now n → n ≤ limit → ⊥) }
@@ -62,8 +67,8 @@ fn read_number(word: &str, base: u32, limit: u64) -> Option<u64>
     }
     let mut value = 0u64;
     for byte in word.as_bytes() {
-        let digit = (*byte as char).to_digit(base)?;
-        value = value.checked_mul(u64::from(base))?.checked_add(u64::from(digit))?;
+        let digit = (*byte as char).to_digit(base as u32)?;
+        value = value.checked_mul(base)?.checked_add(u64::from(digit))?;
     }
     if value <= limit { Some(value) } else { None }
 }
@@ -125,6 +130,28 @@ pub(crate) fn read_magic(word: &str) -> Option<u16>
     if word.len() > 4 {
         return None;
     }
-    let number = read_number(word, 16, u64::from(u16::MAX))?;
-    Some(number as u16)
+    match read_number(word, 16, MAGIC_LIMIT) {
+        Some(number) => Some(number as u16),
+        None => None,
+    }
+}
+
+/// Whether the word is a position of the log.
+fn is_position(word: &str) -> bool
+    ensures { IsTrue result ↔ ((n : ℕ) × Spells word.now n) }
+{
+    match read_position(word) {
+        Some(_) => true,
+        None => false,
+    }
+}
+
+/// Whether the word is a magic number.
+fn is_magic(word: &str) -> bool
+    ensures { IsTrue result ↔ ((n : ℕ) × IsMagic word.now n) }
+{
+    match read_magic(word) {
+        Some(_) => true,
+        None => false,
+    }
 }

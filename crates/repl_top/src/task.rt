@@ -5,7 +5,7 @@ ghost use Rattle.repl_words.specs.Forms.{tail_maybe};
 ghost use Rattle.repl_words.specs.Lines.{IsTail, IsUsage};
 ghost use Rattle.repl_words.specs.Words.{texts};
 ghost use Rattle.repl_top.specs.declared.kinds.Word.TheVariants as kind;
-ghost use Rattle.repl_top.specs.Words.{IsRole, IsSide, IsSystem, IsTask, IsTimeline, IsWordOf, SaysMagic, disk_use, the_table};
+ghost use Rattle.repl_top.specs.Words.{IsMagic, IsRole, IsSide, IsSystem, IsTask, IsTimeline, IsWordOf, SaysMagic, disk_use, the_table};
 
 use crate::folder::DiskUse;
 use crate::kinds::{
@@ -134,12 +134,21 @@ fn magic_behind(words: &[String], place: usize) -> u16
     requires { IsTail IsWordOf (tail_maybe kind.Magic) (drop place (texts words.now)) }
     ensures { SaysMagic (drop place (texts words.now)) result }
 {
-    match words.get(place) {
-        Some(word) => match read_magic(word.as_str()) {
-            Some(magic) => magic,
-            None => unreachable!(),
-        },
-        None => MAGIC,
+    if place < words.len() {
+        magic_at(words, place)
+    } else {
+        MAGIC
+    }
+}
+
+/// The magic number that stands there.
+fn magic_at(words: &[String], place: usize) -> u16
+    requires { IsWordOf kind.Magic (get_or (texts words.now) place []) }
+    ensures { IsMagic (get_or (texts words.now) place []) result }
+{
+    match read_magic(word_at(words, place)) {
+        Some(magic) => magic,
+        None => unreachable!(),
     }
 }
 
