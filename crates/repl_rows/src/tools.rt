@@ -1,7 +1,8 @@
 //! The program's work on words and streams: how it ends, and what it writes.
 use crate::sinks::ByteSink;
 use crate::streams::script;
-use repl_io::{Source, SteadyLink};
+use repl_disk::MemoryDisk;
+use repl_io::{Sink, Source, SteadyLink};
 use repl_table::{Answer, Call, Miss, debug, joined, number, said, text};
 use repl_top::{Status, run_tool, status_line, status_number};
 use std::alloc::{AllocError, Global};
@@ -55,6 +56,18 @@ fn owned(alloc: Global, words: &[Vec<u8>]) -> Result<Vec<String>, Miss> {
     Ok(all)
 }
 
+/// The status of a run beside an empty disk.
+fn ran_over<S: Source, K: Sink>(
+    alloc: Global,
+    words: &[Vec<u8>],
+    input: &mut S,
+    out: &mut K,
+) -> Result<Status, Miss> {
+    let disk = MemoryDisk::new(alloc, Vec::new(alloc));
+    let (status, _disk) = run_tool(alloc, &owned(alloc, words)?, input, out, disk);
+    Ok(status)
+}
+
 /// The status, and what was written.
 fn told(alloc: Global, status: &Status, written: &[u8]) -> Answer {
     let line = status_line(alloc, status)?;
@@ -72,7 +85,7 @@ fn told(alloc: Global, status: &Status, written: &[u8]) -> Answer {
 fn steady(alloc: Global, words: &[Vec<u8>], input: &[u8]) -> Answer {
     let mut input = SteadyLink::new(alloc, input.to_vec(alloc)?)?;
     let mut out = SteadyLink::new(alloc, Vec::new(alloc))?;
-    let status = run_tool(alloc, &owned(alloc, words)?, &mut input, &mut out);
+    let status = ran_over(alloc, words, &mut input, &mut out)?;
     told(alloc, &status, out.written())
 }
 
@@ -80,7 +93,7 @@ fn steady(alloc: Global, words: &[Vec<u8>], input: &[u8]) -> Answer {
 fn scripted(alloc: Global, words: &[Vec<u8>], steps: &[Vec<u8>]) -> Answer {
     let mut input = script(alloc, steps)?;
     let mut out = SteadyLink::new(alloc, Vec::new(alloc))?;
-    let status = run_tool(alloc, &owned(alloc, words)?, &mut input, &mut out);
+    let status = ran_over(alloc, words, &mut input, &mut out)?;
     told(alloc, &status, out.written())
 }
 
@@ -88,7 +101,7 @@ fn scripted(alloc: Global, words: &[Vec<u8>], steps: &[Vec<u8>]) -> Answer {
 fn limited(alloc: Global, words: &[Vec<u8>], limit: &[u8], input: &[u8]) -> Answer {
     let mut out = ByteSink::new(alloc, number(limit)?);
     let mut input = SteadyLink::new(alloc, input.to_vec(alloc)?)?;
-    let status = run_tool(alloc, &owned(alloc, words)?, &mut input, &mut out);
+    let status = ran_over(alloc, words, &mut input, &mut out)?;
     told(alloc, &status, out.taken())
 }
 
@@ -96,7 +109,7 @@ fn limited(alloc: Global, words: &[Vec<u8>], limit: &[u8], input: &[u8]) -> Answ
 fn failing(alloc: Global, words: &[Vec<u8>], input: &[u8]) -> Answer {
     let mut out = script(alloc, &[b"failing:1".to_vec(alloc)?])?;
     let mut input = SteadyLink::new(alloc, input.to_vec(alloc)?)?;
-    let status = run_tool(alloc, &owned(alloc, words)?, &mut input, &mut out);
+    let status = ran_over(alloc, words, &mut input, &mut out)?;
     told(alloc, &status, out.written())
 }
 
@@ -104,7 +117,7 @@ fn failing(alloc: Global, words: &[Vec<u8>], input: &[u8]) -> Answer {
 fn left(alloc: Global, words: &[Vec<u8>], input: &[u8]) -> Answer {
     let mut input = SteadyLink::new(alloc, input.to_vec(alloc)?)?;
     let mut out = SteadyLink::new(alloc, Vec::new(alloc))?;
-    let status = run_tool(alloc, &owned(alloc, words)?, &mut input, &mut out);
+    let status = ran_over(alloc, words, &mut input, &mut out)?;
     let got = debug(alloc, &input.read(&mut [0; 40]))?;
     joined(alloc, &[&told(alloc, &status, out.written())?, &got])
 }
@@ -204,8 +217,10 @@ fn status_named(name: &str, number: u64) -> Result<Status, Miss> {
         "BadInput" => Ok(Status::BadInput(number)),
         "ReadFault" => Ok(Status::ReadFault),
         "WriteFault" => Ok(Status::WriteFault),
+        "DiskFault" => Ok(Status::DiskFault),
         "TurnsSpent" => Ok(Status::TurnsSpent),
         "Memory" => Ok(Status::Memory),
+        "Exists" => Ok(Status::Exists),
         _ => Err(Miss::Words),
     }
 }

@@ -1,14 +1,3 @@
 pub mod Words
-pub mod Status
-pub mod Session
-pub mod Answer
-pub mod Gathering
-pub mod Outcome
-pub mod Frames
-pub mod Printing
-pub mod Names
-pub mod Histories
-pub mod Identify
+pub mod Witness
 pub mod Tool
-pub mod Stages
-pub mod Stream
