@@ -1,38 +1,55 @@
-//! `repl_rows`: the tables of tests of all libraries, read as rows from standard input.
+//! `repl_rows`: the tables of tests of texts, positions, histories, lists and waits, read as rows from standard input.
 //!
 //! `repl_table` says how a table is written.
 #![tactic(auto)]
 
-mod commands;
-mod controls;
-mod copies;
-mod disks;
 mod histories;
 mod lists;
-mod messages;
-mod pages;
 mod paths;
 mod positions;
 mod quorum;
-mod reader;
-mod records;
 mod segments;
-mod server_words;
-mod sinks;
-mod slots;
-mod streams;
-mod subjects;
 mod sync;
 mod texts;
-mod tokens;
-mod tools;
-mod walks;
-mod wire;
 
-use repl_table::count_rows;
+use repl_table::{Answer, Call, Miss, Rows, count_rows, is};
+use std::alloc::Global;
 use std::io;
-use subjects::Subjects;
+
+/// The subjects of the table, which keep nothing from row to row.
+#[derive(Drop)]
+struct Subjects;
+
+impl Rows for Subjects {
+    fn answer(&mut self, alloc: Global, subject: &str, call: &Call) -> Answer {
+        if is(subject, "texts") {
+            return texts::answer(alloc, call);
+        }
+        if is(subject, "positions") {
+            return positions::answer(alloc, call);
+        }
+        if is(subject, "segments") {
+            return segments::answer(alloc, call);
+        }
+        if is(subject, "histories") {
+            return histories::answer(alloc, call);
+        }
+        if is(subject, "paths") {
+            return paths::answer(alloc, call);
+        }
+        if is(subject, "lists") {
+            return lists::answer(alloc, call);
+        }
+        if is(subject, "quorum") {
+            return quorum::answer(alloc, call);
+        }
+        if is(subject, "sync") {
+            return sync::answer(alloc, call);
+        }
+        Err(Miss::Call)
+    }
+}
 
 fn main(rt: HostRuntime) -> io::Result<()> {
-    count_rows(&rt, Subjects::new(rt.alloc()))
+    count_rows(&rt, Subjects)
 }

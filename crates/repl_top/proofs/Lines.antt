@@ -1,5 +1,5 @@
 -- What is known of a line whose command is known.
-use Rattle.std.proofs.Common.{◌≡◌, ℕ, ◌+◌, List, [], ◌∷◌, get_or, drop, All, refl, sym, ap, subst, ◌∙◌, arith}
+use Rattle.std.proofs.Common.{◌≡◌, ℕ, ◌+◌, List, [], ◌∷◌, get_or, drop, All, Contains, refl, sym, ap, subst, ◌∙◌, arith}
 use Rattle.std.proofs.lemmas.List.Elements.{All-from_recursion}
 use Rattle.repl_control.specs.declared.control.Role.{Role}
 use Rattle.repl_identify.specs.declared.identity.SystemIdentity.{SystemIdentity}
@@ -7,13 +7,15 @@ use Rattle.repl_lsn.specs.Position.{Spells}
 use Rattle.repl_message.specs.declared.message.Side.{Side}
 use Rattle.repl_words.specs.declared.line.Line.{Line}
 use Rattle.repl_words.specs.Forms.{PlainForm, tail_maybe}
-use Rattle.repl_words.specs.Lines.{IsLineOf, IsRead, IsReadOf, IsTail}
+use Rattle.repl_words.specs.Lines.{IsLine, IsLineOf, IsRead, IsReadOf, IsTail}
 use Rattle.repl_words.proofs.LinesRead.{form_of_command, place_of_argument, rest_that_was_read}
 use Rattle.repl_top.specs.declared.kinds.Word.{Word}
 use Rattle.repl_top.specs.declared.kinds.Word.TheVariants as kind
 use Rattle.repl_top.specs.declared.table.Command.{Command}
+use Rattle.repl_top.specs.declared.table.Command.TheVariants as command
+use Rattle.repl_top.specs.declared.task.Task.{Task}
 use Rattle.repl_top.specs.declared.task.Task.TheVariants as task
-use Rattle.repl_top.specs.Words.{IsRole, IsSide, IsSystem, IsTask, IsTimeline, IsWordOf, SaysMagic, form_of, frames_form, history_form, identify_form, init_form, names_form, role_word, side_word, the_table}
+use Rattle.repl_top.specs.Words.{IsRole, IsSide, IsSystem, IsTask, IsTimeline, IsWordOf, SaysMagic, check_form, form_of, frames_form, history_form, identify_form, init_form, names_form, role_word, side_word, status_form, the_table}
 
 each_form : All (λ (f : PlainForm Word Command). f ≡ form_of f.command) the_table.forms
 each_form = All-from_recursion (λ (f : PlainForm Word Command). f ≡ form_of f.command) the_table.forms
@@ -109,3 +111,22 @@ init_line words line role sysid magic read role_is system magic_is =
       subst (λ w. IsSystem w sysid) second system,
       subst (λ w. SaysMagic w magic) (rest_that_was_read IsWordOf the_table init_form words line read) magic_is,
     )
+
+-- the words of a task are a line
+contains_form : (c : Command) → Contains the_table.forms (form_of c)
+contains_form command.Identify = (0, omega arith, refl)
+contains_form command.Frames = (1, omega arith, refl)
+contains_form command.Names = (2, omega arith, refl)
+contains_form command.History = (3, omega arith, refl)
+contains_form command.Init = (4, omega arith, refl)
+contains_form command.Status = (5, omega arith, refl)
+contains_form command.Check = (6, omega arith, refl)
+
+pub task_is_line : (words : List (List ℕ)) (t : Task) → IsTask words t → IsLine IsWordOf the_table words
+task_is_line words (task.Identify identity) is = (identify_form, contains_form command.Identify, is.0)
+task_is_line words (task.Frames side) is = (frames_form, contains_form command.Frames, is.0)
+task_is_line words (task.Names text) is = (names_form, contains_form command.Names, is.0)
+task_is_line words (task.History own) is = (history_form, contains_form command.History, is.0)
+task_is_line words (task.Init role sysid magic) is = (init_form, contains_form command.Init, is.0)
+task_is_line words task.Status is = (status_form, contains_form command.Status, is)
+task_is_line words task.Check is = (check_form, contains_form command.Check, is)

@@ -1,5 +1,6 @@
 //! How the program ends where a command ended so.
-ghost use Rattle.std.specs.Prelude.{◌≡◌};
+ghost use Rattle.std.specs.Prelude.{◌≡◌, ◌≢◌, ℕ};
+ghost use Rattle.repl_status.specs.declared.status.Status.TheVariants as variant;
 ghost use Rattle.repl_top.specs.Tool.{status_of_converted, status_of_tended};
 
 use repl_convert::Converted;
@@ -8,7 +9,8 @@ use repl_tend::Tended;
 
 /// The status of a command that answers its input.
 pub(crate) fn status_of_converted(end: Converted) -> Status
-    ensures { result ≡ status_of_converted end }
+    ensures named { result ≡ status_of_converted end }
+    ensures other { (word : ℕ) → result ≢ variant.Usage word }
 {
     match end {
         Converted::Done => Status::Ok,
@@ -22,7 +24,8 @@ pub(crate) fn status_of_converted(end: Converted) -> Status
 
 /// The status of a command on a store.
 pub(crate) fn status_of_tended(end: Tended) -> Status
-    ensures { result ≡ status_of_tended end }
+    ensures named { result ≡ status_of_tended end }
+    ensures other { (word : ℕ) → result ≢ variant.Usage word }
 {
     match end {
         Tended::Done => Status::Ok,

@@ -4,13 +4,14 @@ ghost use Rattle.repl_words.specs.Words.{texts};
 ghost use Rattle.repl_top.specs.Words.{IsFolder, UsesDisk};
 
 use crate::task::read_task;
+use repl_words::word_at;
 
 /// The folder that the words name: the word after a first word `-D`, or `.`.
 pub fn folder_of(words: &[String]) -> &str
     ensures { IsFolder (texts words.now) result.now }
 {
-    if words.len() > 1 && words[0].as_str() == "-D" {
-        words[1].as_str()
+    if words.len() > 1 && word_at(words, 0) == "-D" {
+        word_at(words, 1)
     } else {
         "."
     }

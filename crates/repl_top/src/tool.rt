@@ -1,8 +1,8 @@
 //! The command line of `pgnode`, but for serving.
-ghost use Rattle.std.specs.Prelude.{◌≡◌, ℕ, ◌↔◌};
+ghost use Rattle.std.specs.Prelude.{◌≡◌, ◌≢◌, ℕ, ◌↔◌};
 ghost use Rattle.repl_words.specs.Lines.{IsLine, IsUsage};
 ghost use Rattle.repl_words.specs.Words.{texts};
-ghost use Rattle.repl_top.specs.Tool.{Did, TellsFaults};
+ghost use Rattle.repl_top.specs.Tool.{Did, Ends, TellsFaults};
 ghost use Rattle.repl_top.specs.Words.{IsWordOf, the_table};
 ghost use Rattle.repl_status.specs.declared.status.Status.TheVariants as Status;
 
@@ -43,10 +43,26 @@ pub fn run_tool<S: Source, K: Sink, D: Disk>(
     ensures faults { TellsFaults result.0 (S.source input.old) (S.source input.new) (K.sink out.old) (K.sink out.new) (D.state disk) (D.state result.1) }
     ensures keeps { D.keeps disk result.1 }
 {
-    let task = match read_task(words) {
-        Ok(task) => task,
-        Err(word) => return (Status::Usage(word), disk),
-    };
+    match read_task(words) {
+        Ok(task) => done(alloc, task, input, out, disk),
+        Err(word) => (Status::Usage(word), disk),
+    }
+}
+
+/// Does this task.
+fn done<S: Source, K: Sink, D: Disk>(
+    alloc: Global,
+    task: Task<'_>,
+    input: &mut S,
+    out: &mut K,
+    disk: D,
+) -> (Status, D)
+    ensures other { (word : ℕ) → result.0 ≢ Status.Usage word }
+    ensures ends { Ends task result.0 (input.new ≡ input.old) (result.1 ≡ disk)
+        (S.source input.old) (S.source input.new) (K.sink out.old) (K.sink out.new) (D.state disk) (D.state result.1) }
+    ensures faults { TellsFaults result.0 (S.source input.old) (S.source input.new) (K.sink out.old) (K.sink out.new) (D.state disk) (D.state result.1) }
+    ensures keeps { D.keeps disk result.1 }
+{
     match task {
         Task::Identify(identity) => {
             let end = identify(alloc, &identity, input, out);

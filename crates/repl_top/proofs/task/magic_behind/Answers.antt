@@ -9,4 +9,4 @@ use Rattle.repl_top.proofs.task.magic_behind.Goals as goal
 pub magic_at-requires : goal.magic_at-requires
 magic_at-requires c =
     one_word (texts c.args.words.now) c.args.place
-    (subst (λ (n : ℕ). c.args.place < n) (sym (length-map string_bytes c.args.words.now)) c.if-place-words.true) c.requires
+    (subst (λ (n : ℕ). c.args.place < n) (sym (length-map c.args.words.now string_bytes)) c.if-place-words.true) c.requires

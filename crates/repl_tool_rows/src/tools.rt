@@ -48,7 +48,7 @@ fn ran(alloc: Global, words: &[Vec<u8>], call: &Call) -> Answer {
 }
 
 /// The words of a command line.
-fn owned(alloc: Global, words: &[Vec<u8>]) -> Result<Vec<String>, Miss> {
+pub fn owned(alloc: Global, words: &[Vec<u8>]) -> Result<Vec<String>, Miss> {
     let mut all = Vec::new(alloc);
     for word in words {
         all.push(String::from_str(alloc, text(word)?)?)?;
@@ -69,7 +69,7 @@ fn ran_over<S: Source, K: Sink>(
 }
 
 /// The status, and what was written.
-fn told(alloc: Global, status: &Status, written: &[u8]) -> Answer {
+pub fn told(alloc: Global, status: &Status, written: &[u8]) -> Answer {
     let line = status_line(alloc, status)?;
     let line = match line.as_slice() {
         [words @ .., b'\n'] => words,

@@ -1,5 +1,5 @@
 //! Headers of pages.
-use crate::segments::{size, timeline};
+use crate::values::{size, timeline};
 use repl_lsn::Lsn;
 use repl_page::{Ident, PageHeader, check_header, header_size, write_header};
 use repl_table::{Answer, Call, Miss, debug, number, said, short};

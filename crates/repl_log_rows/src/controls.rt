@@ -1,5 +1,5 @@
 //! The control file of a store.
-use crate::segments::{size, timeline};
+use crate::values::{size, timeline};
 use repl_control::{Control, Role, read_control, write_control};
 use repl_lsn::Lsn;
 use repl_table::{Answer, Call, Miss, debug, number, short};
