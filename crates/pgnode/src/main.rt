@@ -12,11 +12,10 @@ use repl_disk::{Disk, FolderDisk, MemoryDisk};
 use repl_io::{StdSink, StdSource};
 use repl_top::{DiskUse, Status, disk_use, folder_of, run_tool, status_line, status_number};
 use std::alloc::{AllocError, AllocGlobal};
-use std::env;
-use std::fs;
 use std::io::{self, ErrorKind, Write};
 use std::process::ExitCode;
 use std::rt::Env;
+use std::{env, fs};
 
 fn main(rt: HostRuntime) -> ExitCode {
     let status = run(rt);

@@ -28,5 +28,9 @@ pub magic_word : (words : List (List ℕ)) (place magic : ℕ) → place < lengt
 magic_word words place magic inside (inl none) is =
     absurd (none_is_not_some (get_or words place []) (drop (place + 1) words) (sym (drop_more words place [] inside) ∙ none))
 magic_word words place magic inside (inr some) is =
-    inr (some.0, some.1, subst (λ w. IsMagic w magic)
-    (first_is_one (get_or words place []) some.0 (drop (place + 1) words) (sym (drop_more words place [] inside) ∙ some.1)) is)
+    inr (
+      some.0,
+      some.1,
+      subst (λ w. IsMagic w magic)
+          (first_is_one (get_or words place []) some.0 (drop (place + 1) words) (sym (drop_more words place [] inside) ∙ some.1)) is,
+    )

@@ -8,9 +8,7 @@ ghost use Rattle.repl_top.specs.declared.kinds.Word.TheVariants as kind;
 ghost use Rattle.repl_top.specs.Words.{IsMagic, IsRole, IsSide, IsSystem, IsTask, IsTimeline, IsWordOf, SaysMagic, disk_use, the_table};
 
 use crate::folder::DiskUse;
-use crate::kinds::{
-    read_magic, read_position, read_role, read_side, read_system, read_timeline,
-};
+use crate::kinds::{read_magic, read_position, read_role, read_side, read_system, read_timeline};
 use crate::table::{Command, TABLE};
 use repl_identify::SystemIdentity;
 use repl_lsn::{Lsn, Tli};

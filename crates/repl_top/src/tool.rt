@@ -44,7 +44,7 @@ pub fn run_tool<S: Source, K: Sink, D: Disk>(
     ensures keeps { D.keeps disk result.1 }
 {
     match read_task(words) {
-        Ok(task) => done(alloc, task, input, out, disk),
+        Ok(task) => done(alloc, &task, input, out, disk),
         Err(word) => (Status::Usage(word), disk),
     }
 }
@@ -52,27 +52,30 @@ pub fn run_tool<S: Source, K: Sink, D: Disk>(
 /// Does this task.
 fn done<S: Source, K: Sink, D: Disk>(
     alloc: Global,
-    task: Task<'_>,
+    task: &Task<'_>,
     input: &mut S,
     out: &mut K,
     disk: D,
 ) -> (Status, D)
     ensures other { (word : ℕ) → result.0 ≢ Status.Usage word }
-    ensures ends { Ends task result.0 (input.new ≡ input.old) (result.1 ≡ disk)
+    ensures ends { Ends task.now result.0 (input.new ≡ input.old) (result.1 ≡ disk)
         (S.source input.old) (S.source input.new) (K.sink out.old) (K.sink out.new) (D.state disk) (D.state result.1) }
     ensures faults { TellsFaults result.0 (S.source input.old) (S.source input.new) (K.sink out.old) (K.sink out.new) (D.state disk) (D.state result.1) }
     ensures keeps { D.keeps disk result.1 }
 {
     match task {
         Task::Identify(identity) => {
-            let end = identify(alloc, &identity, input, out);
+            let end = identify(alloc, identity, input, out);
             (status_of_converted(end), disk)
         }
-        Task::Frames(side) => (status_of_converted(frames(alloc, side, input, out)), disk),
-        Task::Names(text) => (status_of_converted(names(alloc, text.as_bytes(), out)), disk),
-        Task::History(own) => (status_of_converted(history(alloc, own, input, out)), disk),
+        Task::Frames(side) => (status_of_converted(frames(alloc, *side, input, out)), disk),
+        Task::Names(text) => (
+            status_of_converted(names(alloc, text.as_bytes(), out)),
+            disk,
+        ),
+        Task::History(own) => (status_of_converted(history(alloc, *own, input, out)), disk),
         Task::Init { role, sysid, magic } => {
-            let (end, disk) = init(alloc, disk, role, sysid, magic, out);
+            let (end, disk) = init(alloc, disk, *role, *sysid, *magic, out);
             (status_of_tended(end), disk)
         }
         Task::Status => {

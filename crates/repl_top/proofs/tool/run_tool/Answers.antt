@@ -18,10 +18,10 @@ returns-in-Ok-clause-usage c = λ word. (
 pub returns-in-Err-clause-usage : goal.returns-in-Err-clause-usage
 returns-in-Err-clause-usage c = λ word. (
   λ e.
-  let same : c.in-Err.word ≡ word = cc in
-  subst (λ (k : ℕ). IsUsage IsWordOf the_table (texts c.args.words.now) k) same c.in-Err.ensures.wrong,
+      let same : c.in-Err.word ≡ word = cc in
+      subst (λ (k : ℕ). IsUsage IsWordOf the_table (texts c.args.words.now) k) same c.in-Err.ensures.wrong,
   λ usage.
-  ap (λ (k : ℕ). status.Usage k) (one_usage_of_words IsWordOf the_table (texts c.args.words.now) c.in-Err.word word c.in-Err.ensures.wrong usage),
+      ap (λ (k : ℕ). status.Usage k) (one_usage_of_words IsWordOf the_table (texts c.args.words.now) c.in-Err.word word c.in-Err.ensures.wrong usage),
 )
 
 pub returns-in-Ok-clause-ends : goal.returns-in-Ok-clause-ends
