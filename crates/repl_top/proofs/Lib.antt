@@ -1,3 +1,4 @@
 pub mod Digits
+pub mod Folders
 pub mod Lines
 pub mod Tails
