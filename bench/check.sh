@@ -47,7 +47,8 @@ as_server "$pg/pg_ctl" -D "$place/pg/data" -l "$place/pg/log" -w -o "-c listen_a
 ask "select pg_switch_wal()" > /dev/null
 start=$(ask "select pg_current_wal_lsn()")
 ask "select count(pg_logical_emit_message(false, 'x', repeat('a', 8192))) from generate_series(1, $mib * 1048576 / 8276)" > /dev/null
-end=$(ask "select pg_current_wal_flush_lsn()")
+end=$(ask "select pg_current_wal_insert_lsn()")
+ask "select pg_switch_wal()" > /dev/null
 bytes=$(ask "select pg_wal_lsn_diff('$end', '$start')")
 as_server "$pg/pg_ctl" -D "$place/pg/data" -m fast -w stop > /dev/null
 

@@ -26,7 +26,7 @@ struct Subject {
 
 impl Rows for Subject {
     fn answer(&mut self, alloc: Global, subject: &str, call: &Call) -> Answer {
-        if !is(subject, "tend") && !is(subject, "damages") {
+        if !is(subject, "tend") && !is(subject, "damages") && !is(subject, "segments") {
             return Err(Miss::Call);
         }
         calls::answer(alloc, &mut self.disk, call)
