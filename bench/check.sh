@@ -3,11 +3,12 @@
 # many bytes of PostgreSQL's own log, whose records are messages of 8 KiB. Five runs of each by turns behind one that warms
 # the system's cache; the figures are medians. Then the most memory that a run of each holds.
 # Run after `make` and `cd crates/repl_store_bench && rt run`: check.sh [MIB]. Wants PostgreSQL 15 or later, in PGBIN, and GNU
-# time. A server does not run as root: there it runs as the user `postgres`. The folder is made in /tmp, or in FOLDER.
+# time. A server does not run as root: there it runs as the user `postgres`. The folder is made in /tmp, or in FOLDER. CHECK and FILL
+# name other programs.
 set -euo pipefail
 top=$(cd "$(dirname "$0")/.." && pwd)
 check=${CHECK:-$top/bin/pgnode}
-fill=$top/crates/repl_store_bench/out/repl_store_bench
+fill=${FILL:-$top/crates/repl_store_bench/out/repl_store_bench}
 pg=${PGBIN:-/usr/lib/postgresql/15/bin}
 mib=${1:-1024}
 place=$(mktemp -d "${FOLDER:-/tmp}/check_bench.XXXXXX")
