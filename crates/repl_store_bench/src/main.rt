@@ -1,9 +1,12 @@
-//! What bench/store.sh times: the log of a store in a folder, written in large pieces.
+//! What bench/store.sh and bench/check.sh time: the log of a store in a folder, written in large pieces, and one of records.
 //!
 //! `repl_store_bench FOLDER MIB` makes a store in the folder, which is there and has none, writes so many MiB of zeros in
-//! pieces of 128 KiB, makes them certain behind each 128 pieces, and prints up to which position they are. Without these
-//! two words it writes nothing, and prints the position 0/0.
+//! pieces of 128 KiB, makes them certain behind each 128 pieces, and prints up to which position they are. With `records` as
+//! a third word it appends records with bodies of 8 KiB instead, as many as fit so many MiB in whole segments of 16, and
+//! makes them certain behind each segment's. Without the first two words it writes nothing, and prints the position 0/0.
 #![tactic(auto)]
+
+mod records;
 
 ghost use Rattle.std.specs.Prelude.{◌+◌, ◌^◌, ◌≤◌, ◌≡◌};
 
@@ -24,6 +27,8 @@ const PIECE: usize = 131_072;
 const PIECES_A_FLUSH: u64 = 128;
 
 const PIECES_A_MIB: u64 = 8;
+
+const MIB_A_SEGMENT: u64 = 16;
 
 /// No more is written than up to here.
 const LIMIT: Lsn = Lsn(1 << 62);
@@ -50,9 +55,17 @@ fn filled(rt: HostRuntime) -> Option<Lsn> {
         magic: 0xd116,
         size: version_1_size(),
     };
-    match Store::create(rt.alloc(), disk, ident, Role::Standby) {
-        Ok(mut store) => fill(rt.alloc(), &mut store, mib.saturating_mul(PIECES_A_MIB)),
-        Err(_) => None,
+    let of_records = match words.next() {
+        Some(word) => word.as_str() == "records",
+        None => false,
+    };
+    let Ok(mut store) = Store::create(rt.alloc(), disk, ident, Role::Standby) else {
+        return None;
+    };
+    if of_records {
+        records::fill(rt.alloc(), &mut store, mib / MIB_A_SEGMENT)
+    } else {
+        fill(rt.alloc(), &mut store, mib.saturating_mul(PIECES_A_MIB))
     }
 }
 

@@ -1,17 +1,13 @@
 //! Calls of the store, as rows spell them.
-ghost use Rattle.std.specs.Prelude.{◌≡◌, ◌∷◌, [], ◌++◌, IfOk};
-ghost use Rattle.repl_lsn.specs.History.{last_switch};
-ghost use Rattle.repl_lsn.specs.Path.{steps};
-
-use crate::checks::{can_flush, can_raise, can_read, can_switch, can_write, last_switch};
 use crate::files;
 use crate::place::Place;
 use crate::told::{ended, identity, known, refused, status};
 use repl_control::{Role, version_1_size};
 use repl_disk::MemoryDisk;
-use repl_lsn::{History, Lsn, Tli};
+use repl_lsn::{Lsn, Tli};
 use repl_page::Ident;
 use repl_store::{Store, StoreFault};
+use repl_store_checks::{can_flush, can_raise, can_read, can_switch, can_write, child_at};
 use repl_table::{Answer, Call, Miss, number, said, short, text};
 use std::alloc::Global;
 
@@ -197,21 +193,14 @@ fn switch_to(alloc: Global, store: &mut Store<MemoryDisk>, words: [&[u8]; 5]) ->
         Tli::new(short(tli)?).ok_or(Miss::Words)?,
         Lsn(number(switch)?),
     );
-    let (child, role) = (child(alloc, store.path(), tli, switch)?, role(name)?);
+    let role = role(name)?;
+    let Some(child) = child_at(alloc, store.path(), tli, switch)? else {
+        return Err(Miss::Words);
+    };
     if !can_switch(alloc, store, &child, role, whole, prev) {
         return Err(Miss::Words);
     }
     ended(alloc, store.switch(alloc, &child, whole, prev, role))
-}
-
-/// The history of a timeline that leaves the path's own at this position.
-fn child(alloc: Global, path: &History, tli: Tli, switch: Lsn) -> Result<History, Miss>
-    ensures { IfOk result (λ child. steps child ≡ steps path.now ++ record { tli = path.now.own; switch = last_switch child.parents } ∷ []) }
-{
-    if path.own() >= tli || last_switch(path) > switch {
-        return Err(Miss::Words);
-    }
-    Ok(path.child(alloc, tli, switch)?)
 }
 
 fn raise(alloc: Global, store: &mut Store<MemoryDisk>, floor: Lsn) -> Answer {

@@ -5,7 +5,6 @@
 #![tactic(auto)]
 
 mod calls;
-mod checks;
 mod files;
 mod place;
 mod stops;
