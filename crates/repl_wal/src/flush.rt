@@ -27,7 +27,10 @@ impl<D: Disk> Wal<D> {
             return Err(NodeFault::Broken);
         }
         let before = self.store.status();
-        match self.store.flush(self.walker.last_end(), self.walker.last_start()) {
+        match self
+            .store
+            .flush(self.walker.last_end(), self.walker.last_start())
+        {
             Ok(()) => Ok(before.written),
             Err(fault) => Err(stop(&mut self.stopped, before, fault)),
         }
@@ -50,7 +53,10 @@ impl<D: Disk> Wal<D> {
             return Err(NodeFault::NotPrimary);
         }
         let whole = self.walker.last_end();
-        match self.store.set_role(Role::Standby, whole, self.walker.last_start()) {
+        match self
+            .store
+            .set_role(Role::Standby, whole, self.walker.last_start())
+        {
             Ok(()) => Ok(()),
             Err(fault) => Err(stop(&mut self.stopped, before, fault)),
         }
