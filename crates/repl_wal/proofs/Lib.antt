@@ -2,3 +2,7 @@
 pub mod Marks
 -- what is in memory through a call
 pub mod Running
+-- how a call ends that the store refused
+pub mod Ending
+-- what a written piece makes of a log
+pub mod Writing

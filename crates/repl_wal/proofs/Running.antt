@@ -115,3 +115,79 @@ can_flush head w n role is runs ends =
       },
       between_on head.size head.control.whole (last_end w) head.path.parents (omega (arith, m.after, same)) is.between,
     )
+
+-- the log behind the new whole end
+flush_tail : (n : LogState) (role : Role) (end last : ℕ) → floor_of n ≤ whole_end n → whole_end n ≤ end
+    → tail_of (flushed_log n role end last) ≡ drop (end - whole_end n) (tail_of n)
+flush_tail n role end last floor after =
+    let way : (whole_end n - floor_of n) + (end - whole_end n) ≡ end - floor_of n = omega (arith, floor, after) in
+    ap (drop (end - floor_of n)) (append-nil (log n.kept))
+    ∙ sym (drop-drop (end - whole_end n) (whole_end n - floor_of n) (log n.kept) ∙ ap (λ (k : ℕ). drop k (log n.kept)) (omega (arith, way)))
+
+pub flushed_runs : (head new : Head) (w : Walker) (n : LogState) (role : Role) → IsHead head → Runs head w n
+    → (role ≡ Primary → last_end w ≡ written_end n)
+    → Stands new head.size (flushed_control head.control role head.written (last_end w) (last_start w)) head.path head.written
+    → Runs new w (flushed_log n role (last_end w) (last_start w))
+flushed_runs head new w n role is runs ends stands =
+    let m = marks head w n is runs in
+    let end = last_end w in
+    let last = last_start w in
+    let after = flushed_log n role end last in
+    let tail : tail_of after ≡ drop (end - whole_end n) (tail_of n) = flush_tail n role end last m.floor m.after in
+    let walked : HasWalked w (timeline_of n) end last (tail_of after) = subst (HasWalked w (timeline_of n) end last) (sym tail)
+    (from_its_end w (timeline_of n) (whole_end n) (start_kept n) (tail_of n) runs.walked) in
+    let size : IsSegSize (identity w).size = subst IsSegSize (sym (ap (λ (i : Ident). i.size) runs.of_log)) m.size in
+    let whole : IsWholeEnd (identity w) (timeline_of n) end last (tail_of after) end last = walked_whole w (timeline_of n) end last (tail_of after)
+    size walked in
+    let all : take (written_end n - end) (tail_of after) ≡ tail_of after = take_all (written_end n - end) (tail_of after) (omega (
+      arith,
+      ap length tail,
+      length-drop (end - whole_end n) (tail_of n),
+      m.counted,
+      m.after,
+      m.within,
+    )) in
+    record {
+      size = stands.same_size ∙ runs.size;
+      control = stands.same_control
+          ∙ ap (λ (c : Control). flushed_control c role head.written end last) runs.control
+          ∙ ap (λ (x : ℕ). flushed_control n.kept.durable.control role x end last) runs.written;
+      path = stands.same_path ∙ runs.path;
+      written = stands.same_end ∙ runs.written ∙ sym (omega arith);
+      counted = omega (arith, runs.counted, length-append n.kept.durable.bytes n.kept.unflushed);
+      of_log = runs.of_log;
+      walked = walked;
+      unended = subst (λ (i : Ident). IsWholeEnd i (timeline_of n) end last (take (written_end n - end) (tail_of after)) end last) runs.of_log
+          (subst (λ (l : List ℕ). IsWholeEnd (identity w) (timeline_of n) end last l end last) (sym all) whole);
+      primary = λ primary. ends primary ∙ sym (omega arith);
+    }
+
+-- a store that may have synced more is the same log's
+pub still_runs : (head new : Head) (w : Walker) (n : LogState) → Runs head w n → IsAt head new head.written → Runs new w n
+still_runs head new w n runs same = record {
+  size = same.same_size ∙ runs.size;
+  control = same.same_control ∙ runs.control;
+  path = same.same_path ∙ runs.path;
+  written = same.same_end ∙ runs.written;
+  counted = runs.counted;
+  of_log = runs.of_log;
+  walked = runs.walked;
+  unended = runs.unended;
+  primary = runs.primary;
+}
+
+-- nothing that is not flushed is written: the whole end is the greatest record end
+pub nothing_new : (head : Head) (w : Walker) (n : LogState) → IsHead head → Runs head w n → written_end n ≡ flushed_end n
+    → (last_end w ≡ whole_end n) × (last_start w ≡ start_kept n)
+nothing_new head w n is runs same =
+    let m = marks head w n is runs in
+    let all : take (flushed_end n - whole_end n) (tail_of n) ≡ tail_of n = take_all (flushed_end n - whole_end n) (tail_of n) (omega (
+      arith,
+      m.counted,
+      same,
+      m.flushed,
+    )) in
+    one_greatest (ident_of n) (timeline_of n) (whole_end n) (start_kept n) (tail_of n) (whole_end n) (start_kept n) (last_end w) (last_start w)
+    m.size m.eight
+    (subst (λ (l : List ℕ). IsWholeEnd (ident_of n) (timeline_of n) (whole_end n) (start_kept n) l (whole_end n) (start_kept n)) all
+    runs.unended) (walked_last head w n is runs)

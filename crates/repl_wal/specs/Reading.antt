@@ -10,6 +10,8 @@ use Rattle.repl_wal.specs.declared.fault.NodeFault.{NodeFault}
 use Rattle.repl_wal.specs.declared.fault.NodeFault.TheVariants as fault
 use Rattle.repl_wal.specs.declared.read.ReadOut.{ReadOut}
 use Rattle.repl_wal.specs.declared.read.ReadOut.TheVariants as out
+use Rattle.repl_wal.specs.declared.read.Range.{Range}
+use Rattle.repl_wal.specs.declared.read.Range.TheVariants as range
 
 -- what can be read of the timeline ends here
 abbrev pub ReadsTo : LogState → ℕ → ℕ → Type 0
@@ -40,3 +42,10 @@ IsRead n tli at before after (out.Ended next switch) = EndsAt (path_of n) tli sw
 abbrev pub Reads : LogState → ℕ → ℕ → List ℕ → List ℕ → Result ReadOut NodeFault → LogState → Type 0
 Reads n tli at before after result m = Step (IsReadRefusal n tli at) (CanRead n tli at) (λ read m. IsRead n tli at before after read × (m ≡ n))
     (Only n) n result m
+
+-- what there is to read, before it is read. Private clauses cite this.
+abbrev pub IsRange : LogState → ℕ → ℕ → Range → Type 0
+IsRange n tli at (range.UpTo end) = ReadsTo n tli end × (at < end) × (floor_of n ≤ at) × (end ≤ flushed_end n)
+IsRange n tli at (range.Nothing (out.Bytes count)) = ⊥
+IsRange n tli at (range.Nothing out.AtEnd) = (tli ≡ (path_of n).own) × (at ≡ flushed_end n)
+IsRange n tli at (range.Nothing (out.Ended next switch)) = EndsAt (path_of n) tli switch × IsNext (path_of n) tli next × (at ≡ switch)

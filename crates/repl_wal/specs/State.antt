@@ -33,6 +33,9 @@ role_of n = n.kept.durable.control.role
 abbrev pub path_of : LogState → Path
 path_of n = n.kept.durable.path
 
+abbrev pub own_timeline : LogState → ℕ
+own_timeline n = n.kept.durable.control.tli
+
 abbrev pub floor_of : LogState → ℕ
 floor_of n = n.kept.durable.control.floor
 

@@ -1,6 +1,6 @@
 -- Leaving a timeline (PostgreSQL 17 manual, section "Timelines"): a standby follows a timeline that another node began, or is
 -- promoted and begins one.
-use Rattle.std.specs.Prelude.{◌≡◌, ◌≢◌, ℕ, ◌+◌, ◌-◌, ◌^◌, ◌<◌, ◌≤◌, ◌⊎◌, max, true, List, [], ◌∷◌, ◌++◌, length, take, drop, codes, Result}
+use Rattle.std.specs.Prelude.{◌≡◌, ◌≢◌, ℕ, ◌+◌, ◌-◌, ◌^◌, ◌<◌, ◌≤◌, ◌⊎◌, max, min, true, List, [], ◌∷◌, ◌++◌, length, take, drop, codes, Result}
 use Rattle.repl_control.specs.declared.control.Role.TheVariants.{Primary, Standby}
 use Rattle.repl_lsn.specs.declared.history.Part.{Part}
 use Rattle.repl_lsn.specs.declared.history.TheConstants.{HISTORY_LIMIT}
@@ -12,15 +12,19 @@ use Rattle.repl_wal.specs.Steps.{Only, Step}
 use Rattle.repl_wal.specs.declared.fault.NodeFault.{NodeFault}
 use Rattle.repl_wal.specs.declared.fault.NodeFault.TheVariants as fault
 
+-- how many bytes the text of its history has, as a number that fits
+abbrev pub text_size : Path → ℕ
+text_size path = min (length (canonical path)) (2 ^ 64 - 1)
+
 -- ---- follow
 
 -- the last parent is the own timeline, and there is one parent more
 pub record IsOneMore (path child : Path) : Type 0 where
-  pub parents : List Part
+  pub front : List Part
   pub last : Part
-  pub parts : child.parents ≡ before ++ last ∷ []
+  pub parts : child.parents ≡ front ++ last ∷ []
   pub own : last.tli ≡ path.own
-  pub count : length before ≡ length path.parents
+  pub count : length front ≡ length path.parents
 
 -- the two lists of parents differ first at this index
 pub record DifferFirst (path child : Path) (at : ℕ) (own theirs : Part) : Type 0 where
@@ -45,7 +49,7 @@ IsFollowRefusal n child (fault.ForkedBefore whole switch) = (role_of n ≡ Stand
 IsFollowRefusal n child (fault.NotThereYet flushed switch) = (role_of n ≡ Standby) × Leaves (path_of n) child × (flushed ≡ flushed_end n)
     × (switch ≡ last_switch child.parents) × (whole_end n < switch)
 IsFollowRefusal n child (fault.HistoryFull have) = (role_of n ≡ Standby) × Leaves (path_of n) child
-    × (last_switch child.parents ≡ whole_end n) × (have ≡ length (canonical child)) × (HISTORY_LIMIT < have)
+    × (last_switch child.parents ≡ whole_end n) × (have ≡ text_size child) × (HISTORY_LIMIT < length (canonical child))
 IsFollowRefusal n child e = ⊥
 
 abbrev pub CanFollow : LogState → Path → Type 0
@@ -94,8 +98,8 @@ abbrev pub IsPromoteRefusal : LogState → ℕ → NodeFault → Type 0
 IsPromoteRefusal n at_least fault.NotStandby = role_of n ≡ Primary
 IsPromoteRefusal n at_least fault.NoNumberLeft = (role_of n ≡ Standby) × HasHeard n (2 ^ 32 - 1)
 IsPromoteRefusal n at_least (fault.HistoryFull have) = (role_of n ≡ Standby)
-    × ((tli : ℕ) × (switch : ℕ) × (last : ℕ) × Begins n at_least tli switch last × (have ≡ length (canonical (child_of (path_of n) tli switch))))
-    × (HISTORY_LIMIT < have)
+    × ((tli : ℕ) × (switch : ℕ) × (last : ℕ) × Begins n at_least tli switch last × (have ≡ text_size (child_of (path_of n) tli switch))
+    × (HISTORY_LIMIT < length (canonical (child_of (path_of n) tli switch))))
 IsPromoteRefusal n at_least e = ⊥
 
 -- the log after the flush that comes first, and after the whole promotion

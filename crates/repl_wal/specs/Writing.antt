@@ -8,7 +8,8 @@ use Rattle.repl_record.specs.declared.record.TheConstants.{BODY_LIMIT}
 use Rattle.repl_record.specs.Length.{image_end}
 use Rattle.repl_record.specs.Record.{HeadersAreSpelled, IsImage, total_length}
 use Rattle.repl_store.specs.Durable.{Durable}
-use Rattle.repl_wal.specs.State.{AreRecordsOn, EndsLast, EndsRecord, LogState, appended_log, flushed_log, ident_of, last_start, path_of, role_of, tail_of, timeline_of, whole_end, written_end}
+use Rattle.repl_store.specs.declared.store.StoreStatus.{StoreStatus}
+use Rattle.repl_wal.specs.State.{AreRecordsOn, EndsLast, EndsRecord, LogState, appended_log, flushed_log, ident_of, last_start, own_timeline, role_of, tail_of, timeline_of, whole_end, written_end}
 use Rattle.repl_wal.specs.Steps.{Never, Only, OldOr, Step}
 use Rattle.repl_wal.specs.declared.fault.NodeFault.{NodeFault}
 use Rattle.repl_wal.specs.declared.fault.NodeFault.TheVariants as fault
@@ -28,6 +29,13 @@ IsAppendRefusal n item fault.NotPrimary = role_of n ≡ Standby
 IsAppendRefusal n item (fault.TooLong len) = (role_of n ≡ Primary) × (BODY_LIMIT < length item.body) × (len ≡ length item.body)
 IsAppendRefusal n item fault.LogFull = (role_of n ≡ Primary) × (length item.body ≤ BODY_LIMIT) × (LOG_LIMIT < append_end n item)
 IsAppendRefusal n item e = ⊥
+
+-- the same of what a log tells, for want of memory too
+abbrev pub IsUnlaid : StoreStatus → RecordIn → NodeFault → Type 0
+IsUnlaid status item fault.Memory = Unit {0}
+IsUnlaid status item (fault.TooLong len) = (BODY_LIMIT < length item.body) × (len ≡ length item.body)
+IsUnlaid status item fault.LogFull = (length item.body ≤ BODY_LIMIT) × (LOG_LIMIT < image_end status.ident.size status.written (length item.body))
+IsUnlaid status item e = ⊥
 
 abbrev pub CanAppend : LogState → RecordIn → Type 0
 CanAppend n item = (role_of n ≡ Primary) × (length item.body ≤ BODY_LIMIT) × (append_end n item ≤ LOG_LIMIT)
@@ -50,7 +58,7 @@ Appends n item result m = Step (IsAppendRefusal n item) (CanAppend n item) (IsAp
 -- these bytes of this timeline, from this position on, go on with the log
 pub record GoesOn (n : LogState) (tli start : ℕ) : Type 0 where
   pub standby : role_of n ≡ Standby
-  pub own : tli ≡ (path_of n).own
+  pub own : tli ≡ own_timeline n
   pub at_end : start ≡ written_end n
 
 -- what is no record in the log or in these bytes behind it
@@ -60,8 +68,8 @@ HasFaultWith n bytes e = ⊥
 
 abbrev pub IsReceiveRefusal : LogState → ℕ → ℕ → List ℕ → NodeFault → Type 0
 IsReceiveRefusal n tli start bytes fault.NotStandby = role_of n ≡ Primary
-IsReceiveRefusal n tli start bytes (fault.WrongTimeline own) = (role_of n ≡ Standby) × (tli ≢ (path_of n).own) × (own ≡ (path_of n).own)
-IsReceiveRefusal n tli start bytes (fault.NotAtEnd end) = (role_of n ≡ Standby) × (tli ≡ (path_of n).own) × (start ≢ written_end n)
+IsReceiveRefusal n tli start bytes (fault.WrongTimeline own) = (role_of n ≡ Standby) × (tli ≢ own_timeline n) × (own ≡ own_timeline n)
+IsReceiveRefusal n tli start bytes (fault.NotAtEnd end) = (role_of n ≡ Standby) × (tli ≡ own_timeline n) × (start ≢ written_end n)
     × (end ≡ written_end n)
 IsReceiveRefusal n tli start bytes fault.LogFull = GoesOn n tli start × (LOG_LIMIT < start + length bytes)
 IsReceiveRefusal n tli start bytes (fault.BadRecord at why) = GoesOn n tli start × (start + length bytes ≤ LOG_LIMIT)

@@ -49,7 +49,7 @@ impl<D: Disk> Wal<D> {
             return Err(NodeFault::Broken);
         }
         let before = self.store.status();
-        if before.role != Role::Primary {
+        if matches!(before.role, Role::Standby) {
             return Err(NodeFault::NotPrimary);
         }
         let whole = self.walker.last_end();

@@ -14,9 +14,13 @@
 //! ```
 #![tactic(auto)]
 
+mod append;
 mod fault;
 mod flush;
+mod read;
+mod receive;
 mod wal;
 
 pub use fault::NodeFault;
-pub use wal::{Identity, Wal};
+pub use read::ReadOut;
+pub use wal::{Identity, LOG_LIMIT, Wal};

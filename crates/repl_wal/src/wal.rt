@@ -10,6 +10,11 @@ use repl_record::Walker;
 use repl_store::{Store, StoreStatus};
 use std::marker::Model;
 
+/// The log ends at most here.
+pub const LOG_LIMIT: u64 = 1 << 62;
+
+const _: () = prove!(LOG_LIMIT == 4_611_686_018_427_387_904);
+
 /// A node's write-ahead log on a disk.
 #[derive(Drop)]
 pub struct Wal<D: Disk> {
