@@ -9,7 +9,7 @@ use Rattle.repl_disk.specs.State.{DiskState}
 use Rattle.repl_lsn.specs.History.{Path}
 use Rattle.repl_record.specs.Walker.{last_end, last_start}
 use Rattle.repl_record.specs.declared.walker.Walker.{Walker}
-use Rattle.repl_store.specs.Backing.{Backs, Breaks, Either, IsAnswer, LeavesOne, State, flushed, flushed_control, Comes as StoreComes}
+use Rattle.repl_store.specs.Backing.{Backs, Breaks, Either, IsAnswer, IsCaused, LeavesOne, State, flushed, flushed_control, Comes as StoreComes}
 use Rattle.repl_store.specs.Durable.{Durable}
 use Rattle.repl_store.specs.Head.{Head, Held, IsAt, IsHead, Stands, status_of}
 use Rattle.repl_store.specs.declared.fault.StoreFault.{StoreFault}
@@ -184,3 +184,92 @@ certain {A} {D} Refuses Passes Done Partly a disk new old now n role holds none 
           ]) (comes n.kept (holds.backs t b)).moments);
       failed = λ is. absurd cc;
     }
+
+-- ---- the same for calls as they are written
+
+-- the log of which nothing is known on the disk
+abbrev pub untold : LogState → LogState
+untold n = record { size = n.size; kept = n.kept; broken = n.broken; told = false }
+
+untold_runs : (head : Head) (w : Walker) (n : LogState) → Runs head w n → Runs head w (untold n)
+untold_runs head w n runs = record {
+  size = runs.size;
+  control = runs.control;
+  path = runs.path;
+  written = runs.written;
+  counted = runs.counted;
+  of_log = runs.of_log;
+  walked = runs.walked;
+  unended = runs.unended;
+  primary = runs.primary;
+}
+
+pub untold_holds : {D : Type 0} (disk : DiskState) (held : HeldLog D) (n : LogState) → Remembers held n → Holds disk held (untold n)
+untold_holds disk held n (inl is) = record {
+  remembers = inl (is.0, is.1, is.2, untold_runs held.store.head held.walker n is.3);
+  backs = λ told. absurd cc;
+}
+untold_holds disk held n (inr is) = record { remembers = inr is; backs = λ told. absurd cc }
+
+pub ok_sound : {A : Type 0} (x : A) (was now : Bool) → was ≡ false → Breaks (Ok x) was now → now ≡ false
+ok_sound {A} x was now sound breaks =
+    elim (cases_Bool now) [
+      | inl broke ↦ elim (breaks.0 broke) [
+        | inl before ↦ absurd cc
+        | inr failed ↦ absurd cc
+      ]
+      | inr fine ↦ fine
+    ]
+
+-- an unbroken store does not answer that it is
+pub not_broken : (f : StoreFault) (was : Bool) → was ≡ false → (◌≡◌ {A = Result (Unit {0}) StoreFault} (Err f) (Err store.Broken)) ↔ (was ≡ true)
+    → f ≡ store.Broken → ⊥
+not_broken f was sound broken is =
+    let Fails : StoreFault → Result (Unit {0}) StoreFault = λ e. Err e in
+    let broke : was ≡ true = broken.0 (ap Fails is) in absurd cc
+
+module _ {A D : Type 0} (Refuses : NodeFault → Type 0) (Passes : Type 0) (Done : A → LogState → Type 0) (Partly : LogState → Type 0)
+    (disk new : DiskState) (old : HeldLog D) (now : Held D) (n : LogState) where
+  pub refused_at : (column : Durable → Type 0) (f : StoreFault) (before : StoreStatus) (e : NodeFault) (stopped : Option StoreStatus)
+      → Holds disk old n → old.stopped ≡ None → Passes → Partly n → before ≡ status_of old.store.head
+      → IsAt old.store.head now.head old.store.head.written → IsCaused {A = Unit {0}} (Err f) disk new
+      → (◌≡◌ {A = Result (Unit {0}) StoreFault} (Err f) (Err store.Broken)) ↔ (old.store.broken ≡ true)
+      → Breaks {A = Unit {0}} (Err f) old.store.broken now.broken → (n.told ≡ true → n.broken ≡ false → Refused column f disk new now.head n)
+      → e ≡ of_store f → stopped ≡ stopped_by f old.stopped before
+      → Comes {A = A} (Err e) disk new (record { store = now; walker = old.walker; stopped = stopped }) n (Step Refuses Passes Done Partly n (Err e))
+      column
+  refused_at column f before e stopped holds none passes partly told same caused broken breaks files answer left =
+      let runs = running old n none holds.remembers in
+      let Fails : StoreFault → Result (Unit {0}) StoreFault = λ e. Err e in
+      let At : NodeFault → Option StoreStatus → Type 0 = λ e. λ s. Comes {A = A} (Err e) disk new (record {
+        store = now;
+        walker = old.walker;
+        stopped = s;
+      }) n (Step Refuses Passes Done Partly n (Err e)) column in
+      subst (λ (e : NodeFault). At e stopped) (sym answer) (subst (At (of_store f)) (sym left) (refused Refuses Passes Done Partly column disk new old
+      now f before n holds none passes partly told same caused.answers (not_broken f old.store.broken runs.1 broken) breaks (λ is. caused.failed
+      (ap Fails is)) files))
+
+  pub certain_at : (a : A) (role : Role) (end last : ℕ) → end ≡ last_end old.walker → last ≡ last_start old.walker → Holds disk old n
+      → old.stopped ≡ None → IsHead old.store.head → Passes → (role ≡ Primary → last_end old.walker ≡ written_end n)
+      → Done a (flushed_log n role (last_end old.walker) (last_start old.walker))
+      → Stands now.head old.store.head.size (flushed_control old.store.head.control role old.store.head.written end last) old.store.head.path
+      old.store.head.written
+      → Breaks {A = Unit {0}} (Ok tt) old.store.broken now.broken
+      → ((s : State) → Backs disk old.store.head s → StoreComes {A = Unit {0}} (Ok tt) disk new now.head (Either s.durable
+      (flushed s role end last).durable) (flushed s role end last) (λ t. t ≡ s))
+      → Comes {A = A} (Ok a) disk new (record { store = now; walker = old.walker; stopped = old.stopped }) n
+      (Step Refuses Passes Done Partly n (Ok a)) (OldOr n Done)
+  certain_at a role end last end_is last_is holds none is passes ends done stands breaks comes =
+      let runs = running old n none holds.remembers in
+      let As : ℕ → ℕ → Type 0 = λ e. λ l.
+      Stands now.head old.store.head.size (flushed_control old.store.head.control role old.store.head.written e l) old.store.head.path
+      old.store.head.written
+      → ((s : State) → Backs disk old.store.head s → StoreComes {A = Unit {0}} (Ok tt) disk new now.head (Either s.durable
+      (flushed s role e l).durable) (flushed s role e l) (λ t. t ≡ s))
+      → Comes {A = A} (Ok a) disk new (record { store = now; walker = old.walker; stopped = old.stopped }) n
+      (Step Refuses Passes Done Partly n (Ok a)) (OldOr n Done) in
+      let here : As (last_end old.walker) (last_start old.walker) = λ stands comes. certain Refuses Passes Done Partly a disk new old now n role holds
+      none is passes ends done stands (ok_sound tt old.store.broken now.broken runs.1 breaks) comes in
+      let there : As end last = subst (λ (e : ℕ). As e last) (sym end_is) (subst (As (last_end old.walker)) (sym last_is) here) in
+      there stands comes
