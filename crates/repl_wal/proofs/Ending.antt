@@ -3,8 +3,9 @@ use Rattle.std.proofs.Common.{◌≡◌, ℕ, ◌⊎◌, ◌↔◌, Bool, true, 
 use Rattle.std.proofs.lemmas.Bool.{cases_Bool}
 use Rattle.repl_control.specs.declared.control.Control.{Control}
 use Rattle.repl_control.specs.declared.control.Role.{Role}
-use Rattle.repl_control.specs.declared.control.Role.TheVariants.{Primary}
+use Rattle.repl_control.specs.declared.control.Role.TheVariants.{Primary, Standby}
 use Rattle.repl_counts.specs.Counts.{Rose}
+use Rattle.repl_disk.specs.Folder.{Folder}
 use Rattle.repl_disk.specs.State.{DiskState}
 use Rattle.repl_lsn.specs.History.{Path}
 use Rattle.repl_record.specs.Walker.{last_end, last_start}
@@ -16,10 +17,11 @@ use Rattle.repl_store.specs.declared.fault.StoreFault.{StoreFault}
 use Rattle.repl_store.specs.declared.fault.StoreFault.TheVariants as store
 use Rattle.repl_store.specs.declared.store.StoreStatus.{StoreStatus}
 use Rattle.repl_store.proofs.Chaining.{moments_more}
+use Rattle.repl_store.proofs.Pieces.{idle}
 use Rattle.repl_wal.specs.Faults.{of_store, stopped_by}
 use Rattle.repl_wal.specs.Holding.{Comes, HeldLog, Holds, Remembers, Runs}
-use Rattle.repl_wal.specs.State.{LogState, breaking, flushed_log, path_of, status_of_log, written_end}
-use Rattle.repl_wal.specs.Steps.{OldOr, Step}
+use Rattle.repl_wal.specs.State.{LogState, breaking, flushed_log, path_of, role_of, status_of_log, written_end}
+use Rattle.repl_wal.specs.Steps.{Old, OldOr, Step}
 use Rattle.repl_wal.specs.declared.fault.NodeFault.{NodeFault}
 use Rattle.repl_wal.specs.declared.fault.NodeFault.TheVariants as fault
 use Rattle.repl_wal.proofs.Running.{flushed_runs, still_runs}
@@ -273,3 +275,29 @@ module _ {A D : Type 0} (Refuses : NodeFault → Type 0) (Passes : Type 0) (Done
       none is passes ends done stands (ok_sound tt old.store.broken now.broken runs.1 breaks) comes in
       let there : As end last = subst (λ (e : ℕ). As e last) (sym end_is) (subst (As (last_end old.walker)) (sym last_is) here) in
       there stands comes
+
+-- ---- a refusal of the log's own
+
+pub standby_not : (r : Role) → (r ≡ Standby → ⊥) → r ≡ Primary
+standby_not Primary not = refl
+standby_not Standby not = absurd (not refl)
+
+-- the role that the store told is the log's
+pub role_told : (status : StoreStatus) (head : Head) (n : LogState) → status ≡ status_of head → head.control ≡ n.kept.durable.control
+    → status.role ≡ role_of n
+role_told status head n told same = ap (λ (s : StoreStatus). s.role) told ∙ ap (λ (k : Control). k.role) same
+
+-- nothing was called, and nothing changes
+pub untouched : {A D : Type 0} (result : Result A NodeFault) (disk : DiskState) (old : HeldLog D) (n : LogState) (Next : LogState → Type 0)
+    (column : Durable → Type 0) → ((image : Folder) → disk.left_since disk.moment image → disk.may_leave image) → Holds disk old n → Next n
+    → ((d : Durable) → Old n d → column d) → (result ≡ Err fault.DiskFault → ⊥) → Comes result disk disk old n Next column
+untouched {A} {D} result disk old n Next column only holds is more other =
+    let moments : n.told ≡ true → n.broken ≡ false → LeavesOne disk disk n.size column = λ t b.
+    let backs = holds.backs t b in
+    let left = idle disk old.store.head n.kept only backs in
+    let sized : old.store.head.size ≡ n.size = elim holds.remembers [
+      | inl is ↦ is.3.size
+      | inr is ↦ absurd cc
+    ] in
+    subst (λ (k : ℕ). LeavesOne disk disk k column) sized (moments_more disk disk old.store.head.size (Old n) column more left) in
+    record { next = n; is = is; holds = holds; moments = moments; failed = λ failed. absurd (other failed) }

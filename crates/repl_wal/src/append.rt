@@ -9,8 +9,7 @@ ghost use Rattle.repl_wal.specs.Writing.{Appends, IsUnlaid};
 ghost use Rattle.repl_wal.specs.declared.fault.NodeFault.TheVariants as NodeFault;
 
 use crate::fault::{NodeFault, stop};
-use crate::wal::{LOG_LIMIT, Wal};
-use repl_control::Role;
+use crate::wal::{LOG_LIMIT, Wal, is_standby};
 use repl_disk::Disk;
 use repl_lsn::Lsn;
 use repl_record::{BODY_LIMIT, Laid, RecordIn, Walker, image_end, lay_out};
@@ -30,7 +29,7 @@ impl<D: Disk> Wal<D> {
             return Err(NodeFault::Broken);
         }
         let before = self.store.status();
-        if matches!(before.role, Role::Standby) {
+        if is_standby(before.role) {
             return Err(NodeFault::NotPrimary);
         }
         let laid = match lay_behind(alloc, &before, self.walker.last_start(), item) {

@@ -7,7 +7,7 @@ ghost use Rattle.repl_wal.specs.Writing.{DemoteLeaves, Demotes, FlushLeaves, Flu
 ghost use Rattle.repl_wal.specs.declared.fault.NodeFault.TheVariants as NodeFault;
 
 use crate::fault::{NodeFault, stop};
-use crate::wal::Wal;
+use crate::wal::{Wal, is_standby};
 use repl_control::Role;
 use repl_disk::Disk;
 use repl_lsn::Lsn;
@@ -49,7 +49,7 @@ impl<D: Disk> Wal<D> {
             return Err(NodeFault::Broken);
         }
         let before = self.store.status();
-        if matches!(before.role, Role::Standby) {
+        if is_standby(before.role) {
             return Err(NodeFault::NotPrimary);
         }
         let whole = self.walker.last_end();

@@ -7,8 +7,7 @@ ghost use Rattle.repl_wal.specs.Writing.{GoesOn, IsReceiveRefusal, Receives};
 ghost use Rattle.repl_wal.specs.declared.fault.NodeFault.TheVariants as NodeFault;
 
 use crate::fault::{NodeFault, stop};
-use crate::wal::{LOG_LIMIT, Wal};
-use repl_control::Role;
+use crate::wal::{LOG_LIMIT, Wal, is_standby};
 use repl_disk::Disk;
 use repl_log::walk;
 use repl_lsn::{Lsn, Tli};
@@ -64,7 +63,7 @@ fn receivable(status: &StoreStatus, tli: Tli, start: Lsn, count: u64) -> Result<
     ensures passes { OnOk result ((n : LogState) → status.now ≡ status_of_log n → GoesOn n tli start) }
     ensures room { OnOk result (start + count ≤ 2 ^ 62) }
 {
-    if matches!(status.role, Role::Primary) {
+    if !is_standby(status.role) {
         return Err(NodeFault::NotStandby);
     }
     if tli != status.tli {

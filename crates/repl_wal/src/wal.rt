@@ -1,7 +1,8 @@
 //! A log, and what it tells of itself.
-ghost use Rattle.std.specs.Prelude.{◌≡◌, false};
+ghost use Rattle.std.specs.Prelude.{◌≡◌, ◌↔◌, IsTrue};
+ghost use Rattle.repl_control.specs.declared.control.Role.TheVariants as Role;
 ghost use Rattle.repl_wal.specs.Holding.{Remembers};
-ghost use Rattle.repl_wal.specs.State.{IsLog, LogState, identity_in, path_of, status_of_log};
+ghost use Rattle.repl_wal.specs.State.{LogState, identity_in, path_of, status_of_log};
 
 use repl_control::Role;
 use repl_disk::Disk;
@@ -34,6 +35,13 @@ impl<D: Disk> Model for Wal<D> {
     ghost view = { λ w. record { store = w.store; walker = w.walker; stopped = w.stopped } };
 
     ghost invariant = { λ w. (n : LogState) × Remembers {D = D} (record { store = w.store; walker = w.walker; stopped = w.stopped }) n };
+}
+
+/// Whether the node is a standby.
+pub(crate) fn is_standby(role: Role) -> bool
+    ensures { IsTrue result ↔ (role ≡ Role.Standby) }
+{
+    matches!(role, Role::Standby)
 }
 
 /// What a node is, and how far its log stands.
