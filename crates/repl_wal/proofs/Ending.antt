@@ -301,3 +301,12 @@ untouched {A} {D} result disk old n Next column only holds is more other =
     ] in
     subst (λ (k : ℕ). LeavesOne disk disk k column) sized (moments_more disk disk old.store.head.size (Old n) column more left) in
     record { next = n; is = is; holds = holds; moments = moments; failed = λ failed. absurd (other failed) }
+
+pub failure : {A : Type 0} (e : NodeFault) → ◌≡◌ {A = Result A NodeFault} (Err e) (Err fault.DiskFault) → e ≡ fault.DiskFault
+failure e is = cc
+
+-- an answer that a log is broken is one that its store is
+pub broken_of : {A : Type 0} (f : StoreFault) (e : NodeFault) → e ≡ of_store f → ◌≡◌ {A = Result A NodeFault} (Err e) (Err fault.Broken)
+    → f ≡ store.Broken
+broken_of store.Broken e is broken = refl
+broken_of f e is broken = absurd cc

@@ -1,5 +1,5 @@
 -- What a written piece of the log makes of it.
-use Rattle.std.proofs.Common.{◌≡◌, ℕ, ◌+◌, ◌-◌, ◌%◌, ◌<◌, ◌≤◌, ◌⊎◌, Bool, true, false, Option, None, List, [], ◌∷◌, ◌++◌, length, take, drop, Result, Ok, Err, nat_lt, refl, sym, ap, ◌∙◌, subst, inl, inr, arith, append_assoc, length-append, length-drop, suc}
+use Rattle.std.proofs.Common.{◌≡◌, ℕ, ◌+◌, ◌-◌, ◌%◌, ◌^◌, ◌<◌, ◌≤◌, ◌⊎◌, Bool, true, false, Option, None, List, [], ◌∷◌, ◌++◌, length, take, drop, Result, Ok, Err, nat_lt, refl, sym, ap, ◌∙◌, subst, inl, inr, arith, append_assoc, length-append, length-drop, suc}
 use Rattle.std.proofs.lemmas.Bool.{cond-false, le-ltb}
 use Rattle.std.proofs.lemmas.List.{drop-append-le, take-append-le}
 use Rattle.std.proofs.lemmas.List.Elements.{All-head, All-tail}
@@ -17,22 +17,26 @@ use Rattle.repl_lsn.specs.Path.{holder, timeline_at}
 use Rattle.repl_lsn.specs.Segment.{IsSegSize}
 use Rattle.repl_lsn.specs.declared.history.Part.{Part}
 use Rattle.repl_page.specs.declared.ident.Ident.{Ident}
+use Rattle.repl_record.specs.Length.{image_end}
 use Rattle.repl_record.specs.Log.{IsWholeEnd, RecordEnd}
 use Rattle.repl_record.specs.Record.{HeadersAreSpelled, IsImage, start_of, total_length}
 use Rattle.repl_record.specs.Walker.{AreOn, Stands, identity, last_end, last_start}
 use Rattle.repl_record.specs.declared.record.RecordIn.{RecordIn}
+use Rattle.repl_record.specs.declared.record.TheConstants.{BODY_LIMIT}
 use Rattle.repl_record.specs.declared.walker.Walker.{Walker}
-use Rattle.repl_store.specs.Backing.{Backs, Before, LeavesOne, State, appended, log, Comes as StoreComes}
+use Rattle.repl_store.specs.Backing.{Backs, Before, Breaks, LeavesOne, State, appended, log, Comes as StoreComes}
 use Rattle.repl_store.specs.Durable.{Durable}
-use Rattle.repl_store.specs.Head.{Head, Held, IsAt, IsHead}
+use Rattle.repl_store.specs.Head.{Head, Held, IsAt, IsHead, status_of}
 use Rattle.repl_store.specs.declared.store.StoreStatus.{StoreStatus}
 use Rattle.repl_store.proofs.Chaining.{moments_more}
 use Rattle.repl_wal.specs.Holding.{Comes, HeldLog, Holds, Runs}
-use Rattle.repl_wal.specs.State.{EndsRecord, LogState, appended_log, floor_of, flushed_end, ident_of, last_start as start_kept, path_of, role_of, tail_of, timeline_of, whole_end, written_end}
-use Rattle.repl_wal.specs.Steps.{Old, Step}
+use Rattle.repl_wal.specs.State.{EndsRecord, LogState, appended_log, own_timeline, status_of_log, floor_of, flushed_end, ident_of, last_start as start_kept, path_of, role_of, tail_of, timeline_of, whole_end, written_end}
+use Rattle.repl_wal.specs.Steps.{Old, Only, Step}
+use Rattle.repl_wal.specs.Writing.{Appends, CanAppend, IsAppended, IsAppendRefusal, IsUnlaid}
 use Rattle.repl_wal.specs.declared.fault.NodeFault.{NodeFault}
-use Rattle.repl_wal.proofs.Ending.{running}
-use Rattle.repl_wal.proofs.Running.{Marks, marks}
+use Rattle.repl_wal.specs.declared.fault.NodeFault.TheVariants as fault
+use Rattle.repl_wal.proofs.Ending.{ok_sound, running, same_status}
+use Rattle.repl_wal.proofs.Running.{Marks, marks, walked_last}
 
 -- ---- timelines
 
@@ -150,3 +154,74 @@ appended_walk head w next n item bytes is runs ends of_log image stands =
     begun_at_end next (timeline_of n) whole (start_kept n) (tail ++ bytes) (start_of n.size (whole + length tail)) m.eight
     (subst (λ (i : Ident). RecordEnd i (timeline_of n) whole (start_kept n) (tail ++ bytes) (whole + length (tail ++ bytes)) (start_of n.size
     (whole + length tail))) (sym of_log) goes) stood
+
+-- an append that laid the record out and wrote it
+pub appended_comes : {D : Type 0} (disk new : DiskState) (old : HeldLog D) (now : Held D) (next : Walker) (n : LogState) (item : RecordIn)
+    (status : StoreStatus) (prev start end : ℕ) (bytes given : List ℕ) → Holds disk old n → old.stopped ≡ None → IsHead old.store.head
+    → status ≡ status_of old.store.head → role_of n ≡ Primary → prev ≡ last_start old.walker
+    → IsImage status.ident (λ _. status.tli) status.written prev item bytes
+    → HeadersAreSpelled status.ident (λ _. status.tli) (total_length item) status.written bytes
+    → start ≡ start_of status.ident.size status.written → end ≡ status.written + length bytes → length item.body ≤ BODY_LIMIT
+    → image_end status.ident.size status.written (length item.body) ≤ 2 ^ 62 → ((timeline : ℕ → ℕ) → Stands next timeline end start [])
+    → identity next ≡ status.ident → given ≡ bytes → IsAt old.store.head now.head (old.store.head.written + length given)
+    → Breaks {A = Unit {0}} (Ok tt) old.store.broken now.broken
+    → ((s : State) → Backs disk old.store.head s → StoreComes {A = Unit {0}} (Ok tt) disk new now.head (Before s) (appended s given) (λ t. t ≡ s))
+    → Comes {A = ℕ} (Ok end) disk new (record { store = now; walker = next; stopped = old.stopped }) n (Appends n item (Ok end)) (Old n)
+appended_comes {D} disk new old now next n item status prev start end bytes given holds none is told primary prev_is image spelled start_is end_is
+    short fits stands of_log same at breaks comes =
+    let runs = running old n none holds.remembers in
+    let head = old.store.head in
+    let w = old.walker in
+    let m = marks head w n is runs.2 in
+    let as_log : status ≡ status_of_log n = told ∙ same_status head w n runs.2 in
+    let tli = own_timeline n in
+    let behind : head.control.whole ≡ whole_end n = ap (λ (k : Control). k.whole) runs.2.control in
+    let own : (page : ℕ) → written_end n ≤ page → timeline_of n page ≡ tli = λ page after.
+    ap (λ (p : Path). timeline_at p page) (sym runs.2.path)
+    ∙ own_from head page is (omega (arith, behind, m.flushed, after))
+    ∙ ap (λ (k : Control). k.tli) runs.2.control in
+    let laid : IsImage (ident_of n) (λ _. tli) (written_end n) (last_start w) item bytes = subst (λ (p : ℕ). IsImage (ident_of n) (λ _. tli)
+    (written_end n) p item bytes) prev_is (subst (λ (s : StoreStatus). IsImage s.ident (λ _. s.tli) s.written prev item bytes) as_log image) in
+    let put : IsImage (ident_of n) (timeline_of n) (written_end n) (last_start w) item bytes = image_alike (ident_of n) (λ _. tli) (timeline_of n)
+    (written_end n) (last_start w) item bytes (laid_alike n tli (written_end n) bytes own) laid in
+    let headed : HeadersAreSpelled (ident_of n) (timeline_of n) (total_length item) (written_end n) bytes = spelled_alike (ident_of n) n tli
+    (total_length item) (written_end n) bytes own (subst (λ (s : StoreStatus). HeadersAreSpelled s.ident (λ _. s.tli) (total_length item) s.written
+    bytes) as_log spelled) in
+    let starts : start ≡ start_of n.size (written_end n) = start_is ∙ ap (λ (s : StoreStatus). start_of s.ident.size s.written) as_log in
+    let ends : end ≡ written_end n + length bytes = end_is ∙ ap (λ (s : StoreStatus). s.written + length bytes) as_log in
+    let room : image_end n.size (written_end n) (length item.body) ≤ 2 ^ 62 = subst (λ (s : StoreStatus). image_end s.ident.size s.written
+    (length item.body) ≤ 2 ^ 62) as_log fits in
+    let identified : identity next ≡ ident_of n = of_log ∙ ap (λ (s : StoreStatus). s.ident) as_log in
+    let last : last_end w ≡ written_end n = runs.2.primary primary in
+    let stood : Stands next (timeline_of n) (written_end n + length bytes) (start_of n.size (written_end n)) [] =
+    subst (λ (e : ℕ). Stands next (timeline_of n) e (start_of n.size (written_end n)) []) ends
+    (subst (λ (b : ℕ). Stands next (timeline_of n) end b []) starts (stands (timeline_of n))) in
+    let walked = appended_walk head w next n item bytes is runs.2 last identified put stood in
+    let behind_last : EndsRecord n (written_end n) (last_start w) = subst (λ (e : ℕ). EndsRecord n e (last_start w)) last
+    (walked_last head w n is runs.2).is_end in
+    let Given : List ℕ → Type 0 = λ l.
+    IsAt head now.head (head.written + length l)
+    → ((s : State) → Backs disk head s → StoreComes {A = Unit {0}} (Ok tt) disk new now.head (Before s) (appended s l) (λ t. t ≡ s))
+    → Comes {A = ℕ} (Ok end) disk new (record { store = now; walker = next; stopped = old.stopped }) n (Appends n item (Ok end)) (Old n) in
+    let here : Given bytes = λ at comes. wrote (IsAppendRefusal n item) (CanAppend n item) (IsAppended n item) (Only n) end disk new old now next n
+    bytes holds none is (primary, short, room) (record {
+      bytes = bytes;
+      last = last_start w;
+      behind = behind_last;
+      image = put;
+      spelled = headed;
+      ends = ends;
+      becomes = refl;
+    }) at (ok_sound tt old.store.broken now.broken runs.1 breaks) identified walked (λ _. stood.keeps.begins) comes in
+    subst Given (sym same) here at comes
+
+-- why a record was not laid out is why it is not appended
+pub unlaid : (n : LogState) (item : RecordIn) (status : StoreStatus) (e : NodeFault) → status ≡ status_of_log n → n.broken ≡ false
+    → role_of n ≡ Primary → IsUnlaid status item e → Appends n item (Err e) n × (e ≡ fault.DiskFault → ⊥)
+unlaid n item status fault.Memory told sound primary is = ((sound, refl), λ no. absurd cc)
+unlaid n item status (fault.TooLong len) told sound primary is = ((sound, (primary, is.0, is.1), refl), λ no. absurd cc)
+unlaid n item status fault.LogFull told sound primary is = (
+  (sound, (primary, is.0, subst (λ (s : StoreStatus). 2 ^ 62 < image_end s.ident.size s.written (length item.body)) told is.1), refl),
+  λ no. absurd cc,
+)
+unlaid n item status e told sound primary is = absurd is

@@ -11,7 +11,7 @@ ghost use Rattle.repl_wal.specs.declared.fault.NodeFault.TheVariants as NodeFaul
 use crate::fault::{NodeFault, stop};
 use crate::wal::{LOG_LIMIT, Wal, is_standby};
 use repl_disk::Disk;
-use repl_lsn::Lsn;
+use repl_lsn::{Lsn, SegSize};
 use repl_record::{BODY_LIMIT, Laid, RecordIn, Walker, image_end, lay_out};
 use repl_store::StoreStatus;
 use std::alloc::Global;
@@ -65,7 +65,7 @@ fn lay_behind(
     if length > BODY_LIMIT {
         return Err(NodeFault::TooLong { len: length as u64 });
     }
-    if !has_room(status, length) {
+    if !has_room(status.written, status.ident.size, length) {
         return Err(NodeFault::LogFull);
     }
     match lay_out(alloc, status.written, prev, status.tli, &status.ident, item) {
@@ -74,11 +74,13 @@ fn lay_behind(
     }
 }
 
-/// Whether a record with a body of so many bytes ends within the log's limit.
-fn has_room(status: &StoreStatus, length: usize) -> bool
+/// Whether a record with a body of so many bytes, laid here, ends within the log's limit.
+fn has_room(at: Lsn, size: SegSize, length: usize) -> bool
     requires { length ≤ BODY_LIMIT }
-    ensures { IsTrue result ↔ (image_end status.now.ident.size status.now.written length ≤ 2 ^ 62) }
+    ensures { IsTrue result ↔ (image_end size at length ≤ 2 ^ 62) }
 {
-    status.written.0 <= LOG_LIMIT
-        && image_end(status.written, length, status.ident.size).0 <= LOG_LIMIT
+    if at.0 > LOG_LIMIT {
+        return false;
+    }
+    image_end(at, length, size).0 <= LOG_LIMIT
 }
