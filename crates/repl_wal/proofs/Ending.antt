@@ -310,3 +310,12 @@ pub broken_of : {A : Type 0} (f : StoreFault) (e : NodeFault) → e ≡ of_store
     → f ≡ store.Broken
 broken_of store.Broken e is broken = refl
 broken_of f e is broken = absurd cc
+
+-- a refusal by a rule that names none of the answers that may come to any call
+pub says_no : {A : Type 0} (Refuses : NodeFault → Type 0) (Passes : Type 0) (Done : A → LogState → Type 0) (Partly : LogState → Type 0) (n : LogState)
+    (e : NodeFault) → (Refuses fault.Broken → ⊥) → (Refuses fault.DiskFault → ⊥) → (Refuses fault.Memory → ⊥) → n.broken ≡ false → Refuses e
+    → Step {A = A} Refuses Passes Done Partly n (Err e) n × (e ≡ fault.DiskFault → ⊥)
+says_no Refuses Passes Done Partly n fault.Broken broken disk memory sound is = absurd (broken is)
+says_no Refuses Passes Done Partly n fault.DiskFault broken disk memory sound is = absurd (disk is)
+says_no Refuses Passes Done Partly n fault.Memory broken disk memory sound is = absurd (memory is)
+says_no Refuses Passes Done Partly n e broken disk memory sound is = ((sound, is, refl), λ no. absurd cc)

@@ -4,11 +4,11 @@ use Rattle.std.proofs.lemmas.Bool.{cond-false, le-ltb}
 use Rattle.std.proofs.lemmas.List.{drop-append-le, take-append-le}
 use Rattle.std.proofs.lemmas.List.Elements.{All-head, All-tail}
 use Rattle.repl_control.specs.declared.control.Control.{Control}
-use Rattle.repl_control.specs.declared.control.Role.TheVariants.{Primary}
+use Rattle.repl_control.specs.declared.control.Role.TheVariants.{Primary, Standby}
 use Rattle.repl_disk.specs.State.{DiskState}
 use Rattle.repl_log.proofs.Ends.{image_goes_on}
 use Rattle.repl_log.proofs.Timelines.{image_alike}
-use Rattle.repl_log.proofs.Walks.{begun_at_end}
+use Rattle.repl_log.proofs.Walks.{begun_at_end, walked_prefix}
 use Rattle.repl_log.specs.Timelines.{AreAlike}
 use Rattle.repl_log.specs.Walks.{HasWalked}
 use Rattle.repl_lsn.specs.Between.{AreBetween, IsBetween}
@@ -18,9 +18,9 @@ use Rattle.repl_lsn.specs.Segment.{IsSegSize}
 use Rattle.repl_lsn.specs.declared.history.Part.{Part}
 use Rattle.repl_page.specs.declared.ident.Ident.{Ident}
 use Rattle.repl_record.specs.Length.{image_end}
-use Rattle.repl_record.specs.Log.{IsWholeEnd, RecordEnd}
+use Rattle.repl_record.specs.Log.{IsPrefixOfRecords, IsWholeEnd, RecordEnd}
 use Rattle.repl_record.specs.Record.{HeadersAreSpelled, IsImage, start_of, total_length}
-use Rattle.repl_record.specs.Walker.{AreOn, Stands, identity, last_end, last_start}
+use Rattle.repl_record.specs.Walker.{AreOn, Stands, identity, last_end, last_start, position}
 use Rattle.repl_record.specs.declared.record.RecordIn.{RecordIn}
 use Rattle.repl_record.specs.declared.record.TheConstants.{BODY_LIMIT}
 use Rattle.repl_record.specs.declared.walker.Walker.{Walker}
@@ -30,9 +30,9 @@ use Rattle.repl_store.specs.Head.{Head, Held, IsAt, IsHead, status_of}
 use Rattle.repl_store.specs.declared.store.StoreStatus.{StoreStatus}
 use Rattle.repl_store.proofs.Chaining.{moments_more}
 use Rattle.repl_wal.specs.Holding.{Comes, HeldLog, Holds, Runs}
-use Rattle.repl_wal.specs.State.{EndsRecord, LogState, appended_log, own_timeline, status_of_log, floor_of, flushed_end, ident_of, last_start as start_kept, path_of, role_of, tail_of, timeline_of, whole_end, written_end}
+use Rattle.repl_wal.specs.State.{AreRecordsOn, EndsRecord, LogState, appended_log, own_timeline, status_of_log, floor_of, flushed_end, ident_of, last_start as start_kept, path_of, role_of, tail_of, timeline_of, whole_end, written_end}
 use Rattle.repl_wal.specs.Steps.{Old, Only, Step}
-use Rattle.repl_wal.specs.Writing.{Appends, CanAppend, IsAppended, IsAppendRefusal, IsUnlaid}
+use Rattle.repl_wal.specs.Writing.{Appends, CanAppend, CanReceive, GoesOn, IsReceiveRefusal, IsReceived, Receives, IsAppended, IsAppendRefusal, IsUnlaid}
 use Rattle.repl_wal.specs.declared.fault.NodeFault.{NodeFault}
 use Rattle.repl_wal.specs.declared.fault.NodeFault.TheVariants as fault
 use Rattle.repl_wal.proofs.Ending.{ok_sound, running, same_status}
@@ -225,3 +225,36 @@ unlaid n item status fault.LogFull told sound primary is = (
   λ no. absurd cc,
 )
 unlaid n item status e told sound primary is = absurd is
+
+-- ---- bytes of another node's log
+
+-- the pages that begin in a piece behind the written end are on the own timeline
+pub on_own : (head : Head) (w : Walker) (n : LogState) (tli count : ℕ) → IsHead head → Runs head w n → tli ≡ own_timeline n
+    → AreOn (timeline_of n) tli (position w) count
+on_own head w n tli count is runs own page is_page from below =
+    let m = marks head w n is runs in
+    let behind : head.control.whole ≡ whole_end n = ap (λ (k : Control). k.whole) runs.control in
+    ap (λ (p : Path). timeline_at p page) (sym runs.path)
+    ∙ own_from head page is (omega (arith, behind, m.flushed, m.position, from))
+    ∙ ap (λ (k : Control). k.tli) runs.control
+    ∙ sym own
+
+pub still_records : (w next : Walker) (n : LogState) (bytes : List ℕ) → identity next ≡ ident_of n
+    → HasWalked next (timeline_of n) (whole_end n) (start_kept n) (tail_of n ++ bytes) → AreRecordsOn n bytes
+still_records w next n bytes of_log walked = subst (λ (i : Ident). IsPrefixOfRecords i (timeline_of n) (whole_end n) (start_kept n) (tail_of n
+    ++ bytes)) of_log (walked_prefix next (timeline_of n) (whole_end n) (start_kept n) (tail_of n ++ bytes) walked)
+
+pub received_comes : {D : Type 0} (disk new : DiskState) (old : HeldLog D) (now : Held D) (next : Walker) (n : LogState) (tli start end : ℕ)
+    (bytes : List ℕ) → Holds disk old n → old.stopped ≡ None → IsHead old.store.head → GoesOn n tli start → start + length bytes ≤ 2 ^ 62
+    → end ≡ start + length bytes → identity next ≡ identity old.walker
+    → HasWalked next (timeline_of n) (whole_end n) (start_kept n) (tail_of n ++ bytes)
+    → IsAt old.store.head now.head (old.store.head.written + length bytes) → Breaks {A = Unit {0}} (Ok tt) old.store.broken now.broken
+    → ((s : State) → Backs disk old.store.head s → StoreComes {A = Unit {0}} (Ok tt) disk new now.head (Before s) (appended s bytes) (λ t. t ≡ s))
+    → Comes {A = ℕ} (Ok end) disk new (record { store = now; walker = next; stopped = old.stopped }) n (Receives n tli start bytes (Ok end)) (Old n)
+received_comes {D} disk new old now next n tli start end bytes holds none is goes room ends same walked at breaks comes =
+    let runs = running old n none holds.remembers in
+    let of_log : identity next ≡ ident_of n = same ∙ runs.2.of_log in
+    let end_is : end ≡ written_end (appended_log n bytes) = omega (arith, ends, goes.at_end, length-append n.kept.unflushed bytes) in
+    wrote (IsReceiveRefusal n tli start bytes) (CanReceive n tli start bytes) (IsReceived n bytes) (Only n) end disk new old now next n bytes holds
+    none is (goes, room, still_records old.walker next n bytes of_log walked) (end_is, refl) at (ok_sound tt old.store.broken now.broken runs.1 breaks)
+    of_log walked (λ primary. (let clash : Standby ≡ Primary = sym goes.standby ∙ primary in absurd cc)) comes
