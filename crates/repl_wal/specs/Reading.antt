@@ -1,6 +1,7 @@
 -- Reading the log (PostgreSQL 17 manual, section "Streaming Replication Protocol", START_REPLICATION): the bytes of a timeline
 -- of the path and of those before it, up to where that timeline was left, or to the flushed end of the own one.
-use Rattle.std.specs.Prelude.{◌≡◌, ℕ, ◌+◌, ◌-◌, ◌<◌, ◌≤◌, ◌⊎◌, true, List, length, take, drop, nat_le, nat_lt, if◌then◌else◌, Result}
+use Rattle.std.specs.Prelude.{◌≡◌, ℕ, ◌+◌, ◌-◌, ◌<◌, ◌≤◌, ◌⊎◌, true, List, length, take, drop, Option, Some, None, nat_le, nat_lt, if◌then◌else◌, Result}
+use Rattle.repl_lsn.specs.History.{Path}
 use Rattle.repl_lsn.specs.Path.{EndsAt, HasTimeline, IsNext}
 use Rattle.repl_page.specs.Page.{page_start}
 use Rattle.repl_store.specs.Backing.{log}
@@ -43,9 +44,14 @@ abbrev pub Reads : LogState → ℕ → ℕ → List ℕ → List ℕ → Result
 Reads n tli at before after result m = Step (IsReadRefusal n tli at) (CanRead n tli at) (λ read m. IsRead n tli at before after read × (m ≡ n))
     (Only n) n result m
 
+-- what can be read of the timeline ends here, and it was left for that one, or it is the own one. Private clauses cite this.
+abbrev pub IsEnd : Path → ℕ → ℕ → ℕ → Option ℕ → Type 0
+IsEnd path flushed tli end (Some next) = EndsAt path tli end × IsNext path tli next
+IsEnd path flushed tli end None = (tli ≡ path.own) × (end ≡ flushed)
+
 -- what there is to read, before it is read. Private clauses cite this.
 abbrev pub IsRange : LogState → ℕ → ℕ → Range → Type 0
-IsRange n tli at (range.UpTo end) = ReadsTo n tli end × (at < end) × (floor_of n ≤ at) × (end ≤ flushed_end n)
+IsRange n tli at (range.UpTo end) = ReadsTo n tli end × (at < end) × (floor_of n ≤ at)
 IsRange n tli at (range.Nothing (out.Bytes count)) = ⊥
 IsRange n tli at (range.Nothing out.AtEnd) = (tli ≡ (path_of n).own) × (at ≡ flushed_end n)
 IsRange n tli at (range.Nothing (out.Ended next switch)) = EndsAt (path_of n) tli switch × IsNext (path_of n) tli next × (at ≡ switch)

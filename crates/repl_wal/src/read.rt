@@ -1,7 +1,8 @@
 //! Reading the log along its path.
 ghost use Rattle.std.specs.Prelude.{◌≡◌, ◌<◌, ◌≤◌, ◌^◌, ◌+◌, length, Err, IfErr, IfOk, MatchOption};
+ghost use Rattle.repl_lsn.specs.Path.{HasTimeline};
 ghost use Rattle.repl_wal.specs.Holding.{Comes, Holds};
-ghost use Rattle.repl_wal.specs.Reading.{CanRead, IsRange, IsReadRefusal, Reads, read_count};
+ghost use Rattle.repl_wal.specs.Reading.{CanRead, IsEnd, IsRange, IsReadRefusal, Reads, read_count};
 ghost use Rattle.repl_wal.specs.State.{LogState, path_of, status_of_log};
 ghost use Rattle.repl_wal.specs.Steps.{Old};
 ghost use Rattle.repl_wal.specs.declared.fault.NodeFault.TheVariants as NodeFault;
@@ -30,6 +31,7 @@ pub enum ReadOut {
 }
 
 /// What there is to read from a position on.
+#[derive(Clone, Copy)]
 enum Range {
     /// Bytes up to this position.
     UpTo(Lsn),
@@ -57,7 +59,11 @@ impl<D: Disk> Wal<D> {
             return Err(NodeFault::Broken);
         }
         let before = self.store.status();
-        match range_of(self.store.path(), &before, tli, at)? {
+        let range = match range_of(self.store.path(), &before, tli, at) {
+            Ok(range) => range,
+            Err(fault) => return Err(fault),
+        };
+        match range {
             Range::Nothing(answer) => Ok(answer),
             Range::UpTo(end) => {
                 let count = read_count(at, end, room.len());
@@ -75,11 +81,9 @@ fn range_of(path: &History, status: &StoreStatus, tli: Tli, at: Lsn) -> Result<R
     ensures refused { IfErr result (λ e. (n : LogState) → path.now ≡ path_of n → status.now ≡ status_of_log n → IsReadRefusal n tli at e) }
     ensures range { IfOk result (λ range. (n : LogState) → path.now ≡ path_of n → status.now ≡ status_of_log n → CanRead n tli at × IsRange n tli at range) }
 {
-    let next = path.next_of(tli);
-    let end = match path.end_of(tli) {
-        Some(switch) => switch,
-        None if tli == path.own() => status.flushed,
-        None => return Err(NodeFault::NotInHistory(tli)),
+    let (end, next) = match end_of(path, status.flushed, tli) {
+        Ok(found) => found,
+        Err(fault) => return Err(fault),
     };
     if end < at {
         return Err(behind(next, end));
@@ -93,6 +97,24 @@ fn range_of(path: &History, status: &StoreStatus, tli: Tli, at: Lsn) -> Result<R
         return Ok(Range::Nothing(over(next, end)));
     }
     Ok(Range::UpTo(end))
+}
+
+/// Where what can be read of a timeline ends, and the timeline that it was left for there.
+fn end_of(path: &History, flushed: Lsn, tli: Tli) -> Result<(Lsn, Option<Tli>), NodeFault>
+    ensures end { IfOk result (λ found. IsEnd path.now flushed tli found.0 found.1) }
+    ensures none { IfErr result (λ e. (e ≡ NodeFault.NotInHistory tli) × ¬ HasTimeline path.now tli) }
+{
+    match (path.end_of(tli), path.next_of(tli)) {
+        (Some(switch), Some(next)) => Ok((switch, Some(next))),
+        (Some(_), None) => unreachable!(),
+        (None, _) => {
+            if tli == path.own() {
+                Ok((flushed, None))
+            } else {
+                Err(NodeFault::NotInHistory(tli))
+            }
+        }
+    }
 }
 
 /// Why nothing is read behind where the timeline ends, which the next one goes on from, or behind the flushed end.
