@@ -6,3 +6,5 @@ pub mod Running
 pub mod Ending
 -- what a written piece makes of a log
 pub mod Writing
+-- reading leaves the log as it is
+pub mod Reading
