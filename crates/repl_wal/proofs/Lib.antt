@@ -8,3 +8,5 @@ pub mod Ending
 pub mod Writing
 -- reading leaves the log as it is
 pub mod Reading
+-- where a log begins
+pub mod Beginning

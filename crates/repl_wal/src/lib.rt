@@ -17,6 +17,7 @@
 mod append;
 mod fault;
 mod flush;
+mod init;
 mod read;
 mod receive;
 mod wal;
