@@ -10,3 +10,5 @@ pub mod Writing
 pub mod Reading
 -- where a log begins
 pub mod Beginning
+-- going through what is flushed
+pub mod Mounting

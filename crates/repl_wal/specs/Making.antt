@@ -6,11 +6,15 @@ use Rattle.repl_disk.specs.State.{DiskState}
 use Rattle.repl_lsn.specs.Path.{timeline_at}
 use Rattle.repl_page.specs.declared.ident.Ident.{Ident}
 use Rattle.repl_log.specs.Faults.{IsFaultBehind}
+use Rattle.repl_log.specs.Walks.{HasWalked}
 use Rattle.repl_record.specs.Log.{RecordEnd}
+use Rattle.repl_record.specs.Walker.{identity, last_end, position}
+use Rattle.repl_record.specs.declared.walker.Walker.{Walker}
+use Rattle.repl_store.specs.Backing.{Backs, State, log}
 use Rattle.repl_store.specs.Creating.{IsUnmade as IsNoStore}
 use Rattle.repl_store.specs.Durable.{Durable, StandsFor}
 use Rattle.repl_store.specs.Head.{Head}
-use Rattle.repl_store.specs.Refusal.{IsRefusal}
+use Rattle.repl_store.specs.Refusal.{IsOfDisk, IsRefusal}
 use Rattle.repl_store.specs.declared.fault.StoreFault.{StoreFault}
 use Rattle.repl_wal.specs.Faults.{of_store}
 use Rattle.repl_wal.specs.State.{LogState}
@@ -54,20 +58,42 @@ ident_in size d = record { sysid = d.control.sysid; magic = d.control.magic; siz
 abbrev pub flushed_tail : Durable → List ℕ
 flushed_tail d = drop (d.control.whole - d.control.floor) d.bytes
 
--- Behind the whole end another record ends, so the control is wrong there; or right behind it stands what is no record.
+-- In these bytes behind the whole end another record ends, so that the control is wrong there; or right behind it stands what is
+-- no record.
+abbrev pub IsWrongBehind : Ident → (ℕ → ℕ) → ℕ → ℕ → List ℕ → NodeFault → Type 0
+IsWrongBehind ident timeline whole prev log (fault.BadControl place) = (place ≡ 32) × ((end : ℕ) × (last : ℕ) × (whole < end)
+    × RecordEnd ident timeline whole prev log end last)
+IsWrongBehind ident timeline whole prev log (fault.Damaged at why) = IsFaultBehind ident timeline whole prev log whole prev at why
+IsWrongBehind ident timeline whole prev log e = ⊥
+
 abbrev pub IsWrongTail : ℕ → Durable → NodeFault → Type 0
-IsWrongTail size d (fault.BadControl place) = (place ≡ 32) × ((end : ℕ) × (last : ℕ) × (d.control.whole < end)
-    × RecordEnd (ident_in size d) (timeline_at d.path) d.control.whole d.control.prev (flushed_tail d) end last)
-IsWrongTail size d (fault.Damaged at why) = IsFaultBehind (ident_in size d) (timeline_at d.path) d.control.whole d.control.prev (flushed_tail d)
-    d.control.whole d.control.prev at why
-IsWrongTail size d e = ⊥
+IsWrongTail size d e = IsWrongBehind (ident_in size d) (timeline_at d.path) d.control.whole d.control.prev (flushed_tail d) e
 
--- a failure of the disk, or want of memory, which may come over any files
-abbrev pub IsOfDisk : NodeFault → Type 0
-IsOfDisk e = (e ≡ fault.DiskFault) ⊎ (e ≡ fault.Memory)
-
--- The files stand for no store, or the store's tail is wrong. What stands in the segments is known where a crash leaves nothing
--- else than the files that read so.
+-- The files stand for no store, or a call of the disk failed or memory was wanting, which may come over any files; or what is
+-- flushed behind the whole end is wrong. What stands there is known where a crash leaves nothing else than the files that read so.
 abbrev pub IsMountRefusal : ℕ → Folder → (Folder → Type 0) → NodeFault → Type 0
 IsMountRefusal size folder leaves e = ((f : StoreFault) × (e ≡ of_store f) × IsRefusal size folder f)
-    ⊎ ((d : Durable) × StandsFor size folder d × (IsOfDisk e ⊎ (((image : Folder) → leaves image → StandsFor size image d) → IsWrongTail size d e)))
+    ⊎ ((d : Durable) × StandsFor size folder d × (((image : Folder) → leaves image → StandsFor size image d) → IsWrongTail size d e))
+
+-- ---- while it is walked. Private clauses cite this.
+
+-- the walker has gone through some bytes from the whole end on, and no further record ended
+pub record HasTaken (head : Head) (w : Walker) : Type 0 where
+  pub taken : List ℕ
+  pub walked : HasWalked w (timeline_at head.path) head.control.whole head.control.prev taken
+  pub behind : position w ≡ head.control.whole + length taken
+  pub none : last_end w ≡ head.control.whole
+  pub ident : identity w ≡ record { sysid = head.control.sysid; magic = head.control.magic; size = head.size }
+
+-- these are the log's
+abbrev pub TakenOf : State → Head → Walker → Type 0
+TakenOf s head w = HasWalked w (timeline_at head.path) head.control.whole head.control.prev (take (position w - head.control.whole)
+    (drop (head.control.whole - head.control.floor) (log s)))
+
+-- a call failed
+abbrev pub IsFailure : NodeFault → Type 0
+IsFailure e = (f : StoreFault) × (e ≡ of_store f) × IsOfDisk f
+
+-- that, or what was read is wrong
+abbrev pub IsWalkRefusal : DiskState → Head → Walker → NodeFault → Type 0
+IsWalkRefusal disk head w e = IsFailure e ⊎ ((s : State) → Backs disk head s → TakenOf s head w → IsWrongTail head.size s.durable e)

@@ -18,6 +18,7 @@ mod append;
 mod fault;
 mod flush;
 mod init;
+mod mount;
 mod read;
 mod receive;
 mod wal;
