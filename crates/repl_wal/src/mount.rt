@@ -14,6 +14,7 @@ use crate::fault::{NodeFault, of_store};
 use crate::wal::Wal;
 use repl_disk::Disk;
 use repl_log::walk;
+use repl_lsn::Lsn;
 use repl_record::Walker;
 use repl_store::{Store, StoreStatus};
 use std::alloc::Global;
@@ -86,10 +87,40 @@ fn walk_flushed<D: Disk>(
     ensures refused { IfErr result (IsWalkRefusal (D.state store.old.disk) store.old.head walker.old) }
     ensures keeps { D.keeps store.old.disk store.new.disk }
 {
-    let mut room = vec![in alloc; 0; PIECE]?;
+    let mut room = match vec![in alloc; 0; PIECE] {
+        Ok(room) => room,
+        Err(_) => return Err(NodeFault::Memory),
+    };
+    walk_pieces(alloc, store, walker, status, status.flushed, &mut room)
+}
+
+/// Walks it piece by piece, which the room takes.
+fn walk_pieces<D: Disk>(
+    alloc: Global,
+    store: &mut Store<D>,
+    walker: &mut Walker,
+    status: &StoreStatus,
+    end: Lsn,
+    room: &mut [u8],
+) -> Result<(), NodeFault>
+    requires unbroken { store.old.broken ≡ false }
+    requires right { IsHead store.old.head }
+    requires status { status.now ≡ status_of store.old.head }
+    requires taken { HasTaken store.old.head walker.old }
+    requires within { position walker.old ≤ store.old.head.control.flushed }
+    requires some { 0 < length room.old }
+    requires end { end ≡ store.old.head.control.flushed }
+    ensures head { store.new.head ≡ store.old.head }
+    ensures sound { OnOk result (store.new.broken ≡ false) }
+    ensures taken { OnOk result (HasTaken store.old.head walker.new × (position walker.new ≡ store.old.head.control.flushed)) }
+    ensures of_state { OnOk result ((s : State) → Backs (D.state store.old.disk) store.old.head s → TakenOf s store.old.head walker.old
+        → TakenOf s store.old.head walker.new × Backs (D.state store.new.disk) store.old.head s) }
+    ensures refused { IfErr result (IsWalkRefusal (D.state store.old.disk) store.old.head walker.old) }
+    ensures keeps { D.keeps store.old.disk store.new.disk }
+{
     let mut at = walker.position();
-    'pieces: while at < status.flushed {
-        match walk_piece(alloc, store, walker, status, &mut room) {
+    'pieces: while at < end {
+        match walk_piece(alloc, store, walker, status, room) {
             Ok(()) => {}
             Err(fault) => return Err(fault),
         }

@@ -3,7 +3,7 @@ use Rattle.std.proofs.Common.{◌≡◌, ℕ, ◌-◌, ◌<◌, ◌≤◌, false
 use Rattle.repl_record.specs.Walker.{position}
 use Rattle.repl_store.specs.Backing.{Backs, State}
 use Rattle.repl_wal.specs.Making.{HasTaken, TakenOf}
-use Rattle.repl_wal.proofs.mount.walk_flushed.Given as goal
+use Rattle.repl_wal.proofs.mount.walk_pieces.Given as goal
 
 abbrev pub invariant-pieces : goal.invariant-pieces
 invariant-pieces g l =
