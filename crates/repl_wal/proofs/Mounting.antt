@@ -175,6 +175,11 @@ module _ (head : Head) (status : StoreStatus) (w : Walker) (is : IsHead head) (t
         ident = of_log ∙ ap (λ (s : StoreStatus). s.ident) told;
       }
 
+  pub stood_at : position w ≡ head.control.whole
+  stood_at =
+      let at : position w ≡ head.control.whole + length {A = ℕ} [] = (stood (timeline_at head.path)).keeps.behind in
+      omega (arith, at)
+
   pub taken_of_none : (s : State) → TakenOf s head w
   taken_of_none s =
       let here = stood (timeline_at head.path) in

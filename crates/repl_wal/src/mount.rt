@@ -38,7 +38,10 @@ impl<D: Disk> Wal<D> {
         ensures keeps { MatchResult result (λ wal. D.keeps disk wal.store.disk) (λ e. D.keeps disk e.1) }
     {
         match Store::mount(alloc, disk) {
-            Ok(store) => walk_on(alloc, store),
+            Ok(store) => match walk_on(alloc, store) {
+                Ok(wal) => Ok(wal),
+                Err(refused) => Err(refused),
+            },
             Err((fault, disk)) => Err((of_store(fault), disk)),
         }
     }
