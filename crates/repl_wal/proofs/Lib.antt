@@ -12,3 +12,5 @@ pub mod Reading
 pub mod Beginning
 -- going through what is flushed
 pub mod Mounting
+-- a log that runs is right
+pub mod Lawful

@@ -4,6 +4,4 @@ pub mod Steps
 pub mod Faults
 pub mod Writing
 pub mod Reading
-pub mod Timelines
-pub mod Keeping
 pub mod Making

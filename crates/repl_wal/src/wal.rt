@@ -1,8 +1,8 @@
 //! A log, and what it tells of itself.
-ghost use Rattle.std.specs.Prelude.{◌≡◌, ◌↔◌, IsTrue};
+ghost use Rattle.std.specs.Prelude.{◌≡◌, ◌↔◌, false, IsTrue};
 ghost use Rattle.repl_control.specs.declared.control.Role.TheVariants as Role;
 ghost use Rattle.repl_wal.specs.Holding.{Remembers};
-ghost use Rattle.repl_wal.specs.State.{LogState, identity_in, path_of, status_of_log};
+ghost use Rattle.repl_wal.specs.State.{IsLog, LogState, identity_in, path_of, status_of_log};
 
 use repl_control::Role;
 use repl_disk::Disk;
@@ -58,24 +58,32 @@ pub struct Identity {
     pub written: Lsn,
 }
 
+/// What peers are told of it.
+fn identity_in(status: &StoreStatus) -> Identity
+    ensures { result ≡ identity_in status.now }
+{
+    Identity {
+        sysid: status.sysid,
+        role: status.role,
+        tli: status.tli,
+        floor: status.floor,
+        whole: status.whole,
+        flushed: status.flushed,
+        written: status.written,
+    }
+}
+
 impl<D: Disk> Wal<D> {
     /// What the node is, and how far its log stands. After a failure of the disk that is the state from before the call that
     /// failed.
     pub fn identify(&self) -> Identity
-        ensures { (n : LogState) → Remembers self.now n → result ≡ identity_in (status_of_log n) }
+        ensures told { (n : LogState) → Remembers self.now n → result ≡ identity_in (status_of_log n) }
+        // While no call of the disk failed, the log is right.
+        ensures right { (n : LogState) → Remembers self.now n → n.broken ≡ false → IsLog n }
     {
-        let status = match self.stopped {
-            Some(before) => before,
-            None => self.store.status(),
-        };
-        Identity {
-            sysid: status.sysid,
-            role: status.role,
-            tli: status.tli,
-            floor: status.floor,
-            whole: status.whole,
-            flushed: status.flushed,
-            written: status.written,
+        match self.stopped {
+            Some(before) => identity_in(&before),
+            None => identity_in(&self.store.status()),
         }
     }
 
