@@ -83,7 +83,7 @@ refused_comes {A} few many f old new head done n size more comes =
     }
 
 -- a failure of the disk stops the log, and nothing else does
-still_sound : (f : StoreFault) (was now : Bool) → f ≡ store.Memory → was ≡ false → Breaks {A = Unit {0}} (Err f) was now → now ≡ false
+pub still_sound : (f : StoreFault) (was now : Bool) → f ≡ store.Memory → was ≡ false → Breaks {A = Unit {0}} (Err f) was now → now ≡ false
 still_sound f was now memory sound breaks =
     elim (cases_Bool now) [
       | inl broke ↦ elim (breaks.0 broke) [

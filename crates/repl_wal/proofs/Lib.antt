@@ -14,3 +14,7 @@ pub mod Beginning
 pub mod Mounting
 -- a log that runs is right
 pub mod Lawful
+-- how far a log is kept
+pub mod Keeping
+-- how a trim ends
+pub mod Trimming

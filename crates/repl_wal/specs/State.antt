@@ -11,7 +11,7 @@ use Rattle.repl_lsn.specs.Path.{timeline_at}
 use Rattle.repl_lsn.specs.Segment.{IsSegSize}
 use Rattle.repl_page.specs.declared.ident.Ident.{Ident}
 use Rattle.repl_record.specs.Log.{IsPrefixOfRecords, IsWholeEnd, RecordEnd}
-use Rattle.repl_store.specs.Backing.{State, appended, flushed, log}
+use Rattle.repl_store.specs.Backing.{State, appended, flushed, log, raised}
 use Rattle.repl_store.specs.declared.store.StoreStatus.{StoreStatus}
 use Rattle.repl_wal.specs.declared.wal.Identity.{Identity}
 
@@ -112,6 +112,10 @@ appended_log n bytes = having n (appended n.kept bytes)
 -- all written bytes are flushed; whole records end here, and the last of them starts there
 abbrev pub flushed_log : LogState → Role → ℕ → ℕ → LogState
 flushed_log n role whole last = having n (flushed n.kept role whole last)
+
+-- bytes below the floor are gone
+abbrev pub raised_log : LogState → ℕ → LogState
+raised_log n floor = having n (record { durable = raised n.kept.durable floor; unflushed = n.kept.unflushed })
 
 -- what a log tells of itself
 abbrev pub status_of_log : LogState → StoreStatus

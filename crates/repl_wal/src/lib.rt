@@ -21,6 +21,7 @@ mod init;
 mod mount;
 mod read;
 mod receive;
+mod trim;
 mod wal;
 
 pub use fault::NodeFault;
