@@ -6,3 +6,4 @@ pub mod Writing
 pub mod Reading
 pub mod Making
 pub mod Keeping
+pub mod Telling

@@ -17,6 +17,7 @@
 mod append;
 mod fault;
 mod flush;
+mod history;
 mod init;
 mod mount;
 mod read;
