@@ -1,9 +1,8 @@
 -- A log begins to run where it was made or mounted.
-use Rattle.std.proofs.Common.{◌≡◌, ℕ, ◌+◌, ◌-◌, ◌%◌, ◌<◌, ◌≤◌, List, [], ◌++◌, length, take, drop, replicate, refl, sym, ap, ◌∙◌, subst, arith, length-append, length-drop}
+use Rattle.std.proofs.Common.{◌≡◌, ℕ, ◌+◌, ◌-◌, ◌%◌, List, [], length, replicate, sym, ap, ◌∙◌, subst, arith, length-append, length-drop}
 use Rattle.std.proofs.Math.Nat.{div-mul-le_self}
 use Rattle.std.proofs.lemmas.List.{drop_all, length-replicate, take_all}
 use Rattle.repl_control.specs.declared.control.Control.{Control}
-use Rattle.repl_control.specs.declared.control.Role.TheVariants.{Primary}
 use Rattle.repl_log.proofs.Walks.{begun_at_end, walked_whole}
 use Rattle.repl_log.specs.Walks.{HasWalked}
 use Rattle.repl_lsn.specs.Segment.{IsSegSize}
@@ -17,7 +16,7 @@ use Rattle.repl_store.specs.Head.{Head, IsHead, status_of}
 use Rattle.repl_store.specs.declared.store.StoreStatus.{StoreStatus}
 use Rattle.repl_wal.specs.Holding.{Runs}
 use Rattle.repl_wal.specs.Making.{BeginsAs}
-use Rattle.repl_wal.specs.State.{LogState, floor_of, flushed_end, ident_of, last_start as start_kept, role_of, tail_of, timeline_of, whole_end, written_end}
+use Rattle.repl_wal.specs.State.{LogState, floor_of, flushed_end, ident_of, last_start as start_kept, tail_of, timeline_of, whole_end, written_end}
 
 -- the store has such a state
 pub some_bytes : (head : Head) → IsHead head → head.control.floor + length {A = ℕ} (replicate (head.control.flushed - head.control.floor) 0) ≡ head.control.flushed

@@ -7,7 +7,6 @@ use Rattle.repl_control.specs.declared.control.Role.TheVariants.{Primary, Standb
 use Rattle.repl_counts.specs.Counts.{Rose}
 use Rattle.repl_disk.specs.Folder.{Folder}
 use Rattle.repl_disk.specs.State.{DiskState}
-use Rattle.repl_lsn.specs.History.{Path}
 use Rattle.repl_record.specs.Walker.{last_end, last_start}
 use Rattle.repl_record.specs.declared.walker.Walker.{Walker}
 use Rattle.repl_store.specs.Backing.{Backs, Breaks, Either, IsAnswer, IsCaused, LeavesOne, State, flushed, flushed_control, Comes as StoreComes}

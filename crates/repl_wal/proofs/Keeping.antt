@@ -1,5 +1,5 @@
 -- A floor that a trim raises is right, and the log goes on behind it.
-use Rattle.std.proofs.Common.{◌≡◌, ℕ, ◌+◌, ◌-◌, ◌*◌, ◌/◌, ◌%◌, ◌<◌, ◌≤◌, ◌⊎◌, max, min, Option, Some, None, List, ◌++◌, length, take, drop, refl, sym, ap, ◌∙◌, subst, inl, inr, arith, length-append, length-drop}
+use Rattle.std.proofs.Common.{◌≡◌, ℕ, ◌+◌, ◌-◌, ◌*◌, ◌/◌, ◌%◌, ◌<◌, ◌≤◌, max, min, Option, Some, None, List, length, take, drop, sym, ap, ◌∙◌, subst, inl, inr, arith, length-drop}
 use Rattle.std.proofs.Math.Nat.{div-mul-le_self, mod_self, mul-le-mul_right, mul-mod_left}
 use Rattle.std.proofs.lemmas.Bool.{cases_lt}
 use Rattle.std.proofs.lemmas.List.{drop-append-le, drop-drop}
@@ -9,7 +9,7 @@ use Rattle.repl_control.specs.declared.control.Control.{Control}
 use Rattle.repl_log.specs.Walks.{HasWalked}
 use Rattle.repl_record.specs.Log.{IsWholeEnd}
 use Rattle.repl_record.specs.declared.walker.Walker.{Walker}
-use Rattle.repl_store.specs.Backing.{CanRaise, State, log, raised, raised_control}
+use Rattle.repl_store.specs.Backing.{CanRaise, log, raised_control}
 use Rattle.repl_store.specs.Head.{Head, IsHead, Stands}
 use Rattle.repl_wal.specs.Holding.{Runs}
 use Rattle.repl_wal.specs.Keeping.{held_back, trimmed_floor}

@@ -1,14 +1,13 @@
 -- A log that runs is right.
-use Rattle.std.proofs.Common.{◌≡◌, ℕ, ◌+◌, ◌≤◌, ◌^◌, List, length, sym, ap, ◌∙◌, subst}
+use Rattle.std.proofs.Common.{ℕ, sym, ap, ◌∙◌, subst}
 use Rattle.repl_control.specs.Control.{FitsFields, IsControl}
 use Rattle.repl_control.specs.declared.control.Control.{Control}
 use Rattle.repl_log.proofs.Walks.{walked_prefix}
 use Rattle.repl_lsn.specs.Between.{AreBetween}
 use Rattle.repl_lsn.specs.History.{IsPath, Path}
-use Rattle.repl_lsn.specs.Segment.{IsSegSize}
 use Rattle.repl_page.specs.declared.ident.Ident.{Ident}
 use Rattle.repl_record.specs.Log.{IsPrefixOfRecords}
-use Rattle.repl_record.specs.Walker.{last_end, last_start}
+use Rattle.repl_record.specs.Walker.{last_start}
 use Rattle.repl_record.specs.declared.walker.Walker.{Walker}
 use Rattle.repl_store.specs.Head.{Head, IsHead}
 use Rattle.repl_wal.specs.Holding.{Runs}

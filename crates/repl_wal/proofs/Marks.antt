@@ -1,5 +1,5 @@
 -- Where whole records end and start in a log, in numbers.
-use Rattle.std.proofs.Common.{◌≡◌, ℕ, ◌+◌, ◌-◌, ◌*◌, ◌/◌, ◌%◌, ◌<◌, ◌≤◌, zero, suc, List, length, take, drop, refl, sym, ap, ◌∙◌, subst, arith, length-drop, length-take}
+use Rattle.std.proofs.Common.{◌≡◌, ℕ, ◌+◌, ◌-◌, ◌%◌, ◌<◌, ◌≤◌, suc, List, length, take, drop, subst, arith, length-drop, length-take}
 use Rattle.std.specs.Int.{next_multiple_of}
 use Rattle.repl_lsn.specs.Segment.{IsSegSize}
 use Rattle.repl_page.specs.declared.ident.Ident.{Ident}

@@ -1,5 +1,5 @@
 -- Going through what is flushed behind the whole end.
-use Rattle.std.proofs.Common.{◌≡◌, ℕ, ◌+◌, ◌-◌, ◌%◌, ◌<◌, ◌≤◌, ◌⊎◌, List, [], ◌++◌, length, take, drop, replicate, false, Result, Err, refl, sym, ap, ◌∙◌, subst, inl, inr, arith, append-nil, length-append, length-drop, length-take}
+use Rattle.std.proofs.Common.{◌≡◌, ℕ, ◌+◌, ◌-◌, ◌%◌, ◌≤◌, List, [], ◌++◌, length, take, drop, replicate, false, refl, sym, ap, ◌∙◌, subst, inl, inr, arith, append-nil, length-append, length-drop}
 use Rattle.std.proofs.Math.Nat.{div-mul-le_self}
 use Rattle.std.proofs.Math.Seq.{drop-append_seam, take-add}
 use Rattle.std.proofs.lemmas.List.{drop-append-le, drop-drop, length-replicate, take-append-drop, take-append-le, take_all}
@@ -23,7 +23,7 @@ use Rattle.repl_store.specs.declared.fault.StoreFault.{StoreFault}
 use Rattle.repl_store.specs.declared.fault.StoreFault.TheVariants as store
 use Rattle.repl_store.specs.declared.store.StoreStatus.{StoreStatus}
 use Rattle.repl_wal.specs.Holding.{Runs}
-use Rattle.repl_wal.specs.Making.{BeginsAs, HasTaken, IsWrongBehind, IsWrongTail, TakenOf, flushed_tail, mounted_log}
+use Rattle.repl_wal.specs.Making.{BeginsAs, HasTaken, IsWrongBehind, IsWrongTail, TakenOf, mounted_log}
 use Rattle.repl_wal.specs.State.{LogState, ident_of, tail_of}
 use Rattle.repl_wal.specs.declared.fault.NodeFault.{NodeFault}
 use Rattle.repl_wal.specs.declared.fault.NodeFault.TheVariants as fault

@@ -1,19 +1,18 @@
 -- Reading leaves the log as it is, and lies within what is flushed.
-use Rattle.std.proofs.Common.{◌≡◌, ℕ, ◌+◌, ◌-◌, ◌<◌, ◌≤◌, ◌⊎◌, Bool, true, false, Option, Some, None, List, [], ◌∷◌, ◌++◌, length, take, drop, Result, Ok, Err, refl, sym, ap, ◌∙◌, subst, inl, inr, arith, length-append, length-drop, length-take}
+use Rattle.std.proofs.Common.{◌≡◌, ℕ, ◌≤◌, None, List, [], ◌∷◌, ◌++◌, length, take, Ok, sym, ap, ◌∙◌, subst, inl, inr, arith, length-take}
 use Rattle.std.proofs.lemmas.List.{take-append-le, take_all}
 use Rattle.std.proofs.lemmas.List.Elements.{All-head, All-tail}
 use Rattle.repl_control.specs.declared.control.Control.{Control}
 use Rattle.repl_disk.specs.State.{DiskState}
 use Rattle.repl_lsn.specs.Between.{AreBetween, IsBetween}
 use Rattle.repl_lsn.specs.History.{Path}
-use Rattle.repl_lsn.specs.Path.{EndsAt}
 use Rattle.repl_lsn.specs.declared.history.Part.{Part}
 use Rattle.repl_record.specs.declared.walker.Walker.{Walker}
-use Rattle.repl_store.specs.Backing.{Backs, Before, Breaks, LeavesOne, State, log, Comes as StoreComes}
+use Rattle.repl_store.specs.Backing.{Backs, Before, Breaks, LeavesOne, State, Comes as StoreComes}
 use Rattle.repl_store.specs.Head.{Head, Held, IsAt, IsHead}
 use Rattle.repl_wal.specs.Holding.{Comes, HeldLog, Holds, Runs}
 use Rattle.repl_wal.specs.Reading.{ReadsTo}
-use Rattle.repl_wal.specs.State.{LogState, flushed_end, path_of, whole_end}
+use Rattle.repl_wal.specs.State.{LogState, flushed_end, whole_end}
 use Rattle.repl_wal.specs.Steps.{Old, Step}
 use Rattle.repl_wal.specs.declared.fault.NodeFault.{NodeFault}
 use Rattle.repl_wal.proofs.Ending.{ok_sound, running}

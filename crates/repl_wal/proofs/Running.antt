@@ -1,31 +1,27 @@
 -- What a log has in memory through a call.
-use Rattle.std.proofs.Common.{◌≡◌, ℕ, ◌+◌, ◌-◌, ◌*◌, ◌/◌, ◌%◌, ◌^◌, ◌<◌, ◌≤◌, ◌⊎◌, List, [], ◌++◌, length, take, drop, refl, sym, ap, ◌∙◌, subst, inl, inr, arith, append-nil, length-append, length-drop}
+use Rattle.std.proofs.Common.{◌≡◌, ℕ, ◌+◌, ◌-◌, ◌*◌, ◌/◌, ◌%◌, ◌^◌, ◌<◌, ◌≤◌, List, length, take, drop, sym, ap, ◌∙◌, subst, arith, append-nil, length-append, length-drop}
 use Rattle.std.proofs.Math.Nat.{div-mul-le_self, mul-le-mul_right}
 use Rattle.std.proofs.lemmas.List.{drop-drop, take_all}
 use Rattle.std.proofs.lemmas.Nat.{le-div}
-use Rattle.std.specs.List.{All}
 use Rattle.repl_control.specs.Control.{IsControl}
 use Rattle.repl_control.specs.declared.control.Control.{Control}
 use Rattle.repl_control.specs.declared.control.Role.{Role}
 use Rattle.repl_control.specs.declared.control.Role.TheVariants.{Primary}
 use Rattle.repl_log.proofs.Ends.{ends_within}
-use Rattle.repl_log.proofs.Walks.{from_its_end, walked_prefix, walked_whole}
+use Rattle.repl_log.proofs.Walks.{from_its_end, walked_whole}
 use Rattle.repl_log.specs.Walks.{HasWalked}
-use Rattle.repl_lsn.specs.Between.{AreBetween, IsBetween}
-use Rattle.repl_lsn.specs.History.{Path}
-use Rattle.repl_lsn.specs.Path.{timeline_at}
+use Rattle.repl_lsn.specs.Between.{AreBetween}
 use Rattle.repl_lsn.specs.Segment.{IsSegSize}
 use Rattle.repl_lsn.specs.declared.history.Part.{Part}
 use Rattle.repl_page.specs.declared.ident.Ident.{Ident}
-use Rattle.repl_record.proofs.LogChains.{greatest_end}
 use Rattle.repl_record.proofs.LogEnds.{from_le}
-use Rattle.repl_record.specs.Log.{IsWholeEnd, RecordEnd, origin}
+use Rattle.repl_record.specs.Log.{IsWholeEnd}
 use Rattle.repl_record.specs.Walker.{identity, last_end, last_start, position}
 use Rattle.repl_record.specs.declared.walker.Walker.{Walker}
-use Rattle.repl_store.specs.Backing.{CanFlush, State, flushed, flushed_control, log}
+use Rattle.repl_store.specs.Backing.{CanFlush, flushed_control, log}
 use Rattle.repl_store.specs.Head.{Head, IsAt, IsHead, Stands}
 use Rattle.repl_wal.specs.Holding.{Runs}
-use Rattle.repl_wal.specs.State.{EndsLast, LogState, floor_of, flushed_end, flushed_log, ident_of, last_start as start_kept, role_of, tail_of, timeline_of, whole_end, written_end}
+use Rattle.repl_wal.specs.State.{EndsLast, LogState, floor_of, flushed_end, flushed_log, ident_of, last_start as start_kept, tail_of, timeline_of, whole_end, written_end}
 use Rattle.repl_wal.proofs.Marks.{one_greatest, starts_before}
 
 -- ---- numbers

@@ -1,12 +1,11 @@
 -- How a trim ends.
-use Rattle.std.proofs.Common.{◌≡◌, ℕ, ◌-◌, ◌≤◌, ◌⊎◌, ◌↔◌, Bool, true, false, Option, Some, None, Result, Ok, Err, drop, refl, sym, ap, ◌∙◌, subst, inl, inr, arith}
+use Rattle.std.proofs.Common.{◌≡◌, ℕ, ◌-◌, ◌≤◌, ◌⊎◌, true, false, Option, Some, None, Result, Ok, Err, drop, refl, sym, ap, ◌∙◌, subst, inl, inr, arith}
 use Rattle.std.proofs.Math.Nat.{div-mul-le_self}
 use Rattle.std.proofs.lemmas.Bool.{cases_Bool}
 use Rattle.repl_control.specs.declared.control.Control.{Control}
-use Rattle.repl_counts.specs.Counts.{Rose}
 use Rattle.repl_disk.specs.State.{DiskState}
 use Rattle.repl_record.specs.declared.walker.Walker.{Walker}
-use Rattle.repl_store.specs.Backing.{Backs, Breaks, Either, IsAnswer, IsCaused, LeavesOne, State, raised, raised_control, Comes as StoreComes}
+use Rattle.repl_store.specs.Backing.{Backs, Breaks, Either, IsCaused, LeavesOne, State, raised, raised_control, Comes as StoreComes}
 use Rattle.repl_store.specs.Durable.{Durable}
 use Rattle.repl_store.specs.Head.{Head, Held, IsHead, Stands, status_of}
 use Rattle.repl_store.specs.declared.fault.StoreFault.{StoreFault}
@@ -15,15 +14,12 @@ use Rattle.repl_store.specs.declared.store.StoreStatus.{StoreStatus}
 use Rattle.repl_store.proofs.Chaining.{moments_more}
 use Rattle.repl_wal.specs.Faults.{of_store, stopped_by}
 use Rattle.repl_wal.specs.Holding.{Comes, HeldLog, Holds, Runs}
-use Rattle.repl_wal.specs.Keeping.{IsTrimmed, PartlyTrims, TrimLeaves, Trims, trimmed_floor}
-use Rattle.repl_wal.specs.State.{LogState, breaking, floor_of, raised_log, status_of_log, whole_end}
-use Rattle.repl_wal.specs.Steps.{Never, OldOr}
-use Rattle.repl_wal.specs.declared.fault.NodeFault.{NodeFault}
-use Rattle.repl_wal.specs.declared.fault.NodeFault.TheVariants as fault
-use Rattle.repl_wal.proofs.Ending.{not_broken, ok_sound, running, same_status, still_sound}
+use Rattle.repl_wal.specs.Keeping.{TrimLeaves, Trims, trimmed_floor}
+use Rattle.repl_wal.specs.State.{LogState, breaking, floor_of, raised_log, whole_end}
+use Rattle.repl_wal.proofs.Ending.{ok_sound, running, same_status, still_sound}
 use Rattle.repl_wal.proofs.Keeping.{raised_right, raised_runs}
 use Rattle.repl_wal.proofs.Reading.{at_same}
-use Rattle.repl_wal.proofs.Running.{marks, still_runs}
+use Rattle.repl_wal.proofs.Running.{still_runs}
 
 -- the store's state with another floor
 abbrev pub lifted : State → ℕ → State

@@ -1,5 +1,5 @@
 -- What a written piece of the log makes of it.
-use Rattle.std.proofs.Common.{◌≡◌, ℕ, ◌+◌, ◌-◌, ◌%◌, ◌^◌, ◌<◌, ◌≤◌, ◌⊎◌, Bool, true, false, Option, None, List, [], ◌∷◌, ◌++◌, length, take, drop, Result, Ok, Err, nat_lt, refl, sym, ap, ◌∙◌, subst, inl, inr, arith, append_assoc, length-append, length-drop, suc}
+use Rattle.std.proofs.Common.{◌≡◌, ℕ, ◌+◌, ◌-◌, ◌^◌, ◌<◌, ◌≤◌, false, None, List, [], ◌∷◌, ◌++◌, length, take, drop, Ok, Err, nat_lt, refl, sym, ap, ◌∙◌, subst, inl, arith, append_assoc, length-append}
 use Rattle.std.proofs.lemmas.Bool.{cond-false, le-ltb}
 use Rattle.std.proofs.lemmas.List.{drop-append-le, take-append-le}
 use Rattle.std.proofs.lemmas.List.Elements.{All-head, All-tail}
@@ -14,7 +14,6 @@ use Rattle.repl_log.specs.Walks.{HasWalked}
 use Rattle.repl_lsn.specs.Between.{AreBetween, IsBetween}
 use Rattle.repl_lsn.specs.History.{Path}
 use Rattle.repl_lsn.specs.Path.{holder, timeline_at}
-use Rattle.repl_lsn.specs.Segment.{IsSegSize}
 use Rattle.repl_lsn.specs.declared.history.Part.{Part}
 use Rattle.repl_page.specs.declared.ident.Ident.{Ident}
 use Rattle.repl_record.specs.Length.{image_end}
@@ -25,18 +24,16 @@ use Rattle.repl_record.specs.declared.record.RecordIn.{RecordIn}
 use Rattle.repl_record.specs.declared.record.TheConstants.{BODY_LIMIT}
 use Rattle.repl_record.specs.declared.walker.Walker.{Walker}
 use Rattle.repl_store.specs.Backing.{Backs, Before, Breaks, LeavesOne, State, appended, log, Comes as StoreComes}
-use Rattle.repl_store.specs.Durable.{Durable}
 use Rattle.repl_store.specs.Head.{Head, Held, IsAt, IsHead, status_of}
 use Rattle.repl_store.specs.declared.store.StoreStatus.{StoreStatus}
-use Rattle.repl_store.proofs.Chaining.{moments_more}
 use Rattle.repl_wal.specs.Holding.{Comes, HeldLog, Holds, Runs}
-use Rattle.repl_wal.specs.State.{AreRecordsOn, EndsRecord, LogState, appended_log, own_timeline, status_of_log, floor_of, flushed_end, ident_of, last_start as start_kept, path_of, role_of, tail_of, timeline_of, whole_end, written_end}
+use Rattle.repl_wal.specs.State.{AreRecordsOn, EndsRecord, LogState, appended_log, own_timeline, status_of_log, floor_of, flushed_end, ident_of, last_start as start_kept, role_of, tail_of, timeline_of, whole_end, written_end}
 use Rattle.repl_wal.specs.Steps.{Old, Only, Step}
 use Rattle.repl_wal.specs.Writing.{Appends, CanAppend, CanReceive, GoesOn, IsReceiveRefusal, IsReceived, Receives, IsAppended, IsAppendRefusal, IsUnlaid}
 use Rattle.repl_wal.specs.declared.fault.NodeFault.{NodeFault}
 use Rattle.repl_wal.specs.declared.fault.NodeFault.TheVariants as fault
 use Rattle.repl_wal.proofs.Ending.{ok_sound, running, same_status}
-use Rattle.repl_wal.proofs.Running.{Marks, marks, walked_last}
+use Rattle.repl_wal.proofs.Running.{marks, walked_last}
 
 -- ---- timelines
 

@@ -1,5 +1,5 @@
 -- What a store's faults are to whoever works on a log.
-use Rattle.std.specs.Prelude.{Option, Some, None}
+use Rattle.std.specs.Prelude.{Option, Some}
 use Rattle.repl_store.specs.declared.fault.StoreFault.{StoreFault}
 use Rattle.repl_store.specs.declared.fault.StoreFault.TheVariants as store
 use Rattle.repl_store.specs.declared.store.StoreStatus.{StoreStatus}

@@ -1,5 +1,5 @@
 -- How far the log is kept (PostgreSQL 17 manual, section "Replication Slots", and `wal_keep_size`).
-use Rattle.std.specs.Prelude.{◌≡◌, ℕ, ◌-◌, ◌≤◌, ◌⊎◌, max, min, Option, Some, None, Result}
+use Rattle.std.specs.Prelude.{◌≡◌, ℕ, ◌-◌, ◌⊎◌, max, min, Option, Some, None, Result}
 use Rattle.repl_control.specs.Control.{segment_start}
 use Rattle.repl_store.specs.Durable.{Durable}
 use Rattle.repl_wal.specs.State.{LogState, floor_of, flushed_end, raised_log, whole_end}

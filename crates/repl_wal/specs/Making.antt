@@ -1,5 +1,5 @@
 -- Making a log, and opening one again.
-use Rattle.std.specs.Prelude.{◌≡◌, ◌≢◌, ℕ, ◌+◌, ◌-◌, ◌<◌, ◌≤◌, ◌⊎◌, false, true, List, [], length, take, drop, None, Result, Err, OnOk}
+use Rattle.std.specs.Prelude.{◌≡◌, ℕ, ◌+◌, ◌-◌, ◌<◌, ◌⊎◌, false, true, List, [], length, take, drop, None, Result, Err, OnOk}
 use Rattle.repl_counts.specs.Counts.{Rose, Stood}
 use Rattle.repl_disk.specs.Folder.{Folder, ToldFiles}
 use Rattle.repl_disk.specs.State.{DiskState}

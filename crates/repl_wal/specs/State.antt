@@ -1,7 +1,7 @@
 -- A node's write-ahead log (PostgreSQL 17 manual, chapter "Reliability and the Write-Ahead Log"): one list of bytes, from
 -- the floor to the written end, on a path of timelines. Of these bytes some are flushed, and of those some are whole
 -- records.
-use Rattle.std.specs.Prelude.{◌≡◌, ℕ, ◌+◌, ◌-◌, ◌^◌, ◌≤◌, Bool, true, List, [], ◌++◌, length, take, drop}
+use Rattle.std.specs.Prelude.{◌≡◌, ℕ, ◌+◌, ◌-◌, ◌^◌, ◌≤◌, Bool, true, List, ◌++◌, length, take, drop}
 use Rattle.repl_control.specs.Control.{FitsFields, IsControl}
 use Rattle.repl_control.specs.declared.control.Role.{Role}
 use Rattle.repl_control.specs.declared.control.Role.TheVariants.{Primary}

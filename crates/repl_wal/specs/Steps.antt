@@ -1,5 +1,5 @@
 -- How any call on a log ends.
-use Rattle.std.specs.Prelude.{◌≡◌, ℕ, ◌⊎◌, true, false, Result, Ok, Err}
+use Rattle.std.specs.Prelude.{◌≡◌, ◌⊎◌, true, false, Result, Ok, Err}
 use Rattle.repl_store.specs.Durable.{Durable}
 use Rattle.repl_wal.specs.State.{LogState, breaking}
 use Rattle.repl_wal.specs.declared.fault.NodeFault.{NodeFault}

@@ -1,5 +1,5 @@
 -- The history that a node tells a peer (PostgreSQL 17 manual, section "Streaming Replication Protocol", TIMELINE_HISTORY).
-use Rattle.std.specs.Prelude.{◌≡◌, ◌≢◌, ℕ, ◌-◌, ◌^◌, ◌<◌, ◌⊎◌, min, List, length, Result, Ok, Err}
+use Rattle.std.specs.Prelude.{◌≡◌, ◌≢◌, ℕ, ◌-◌, ◌^◌, ◌<◌, ◌⊎◌, min, List, length}
 use Rattle.repl_lsn.specs.History.{Path, canonical}
 use Rattle.repl_lsn.specs.Path.{HasTimeline, IsUpTo}
 use Rattle.repl_lsn.specs.declared.history.TheConstants.{HISTORY_LIMIT}

@@ -1,7 +1,6 @@
 -- Behind the limit no record ends within it.
-use Rattle.std.proofs.Common.{◌≡◌, ◌≤◌, ℕ, true, false, arith}
+use Rattle.std.proofs.Common.{◌≡◌, true, false, arith}
 use Rattle.repl_record.proofs.ImageLength.{end_least}
-use Rattle.repl_record.specs.Length.{image_end}
 use Rattle.repl_wal.proofs.append.has_room.Goals as goal
 
 pub returns-then-at-gt-LOG_LIMIT : goal.returns-then-at-gt-LOG_LIMIT

@@ -1,5 +1,5 @@
 -- What has room begins within the limit.
-use Rattle.std.proofs.Common.{rules, ◌≡◌, ◌≤◌, ◌^◌, ℕ, length, true, false, arith}
+use Rattle.std.proofs.Common.{rules, ◌≤◌, ◌^◌, length, arith}
 use Rattle.repl_record.proofs.ImageLength.{end_least}
 use Rattle.repl_record.specs.Length.{image_end}
 use Rattle.repl_wal.proofs.append.lay_behind.Goals as goal

@@ -1,5 +1,5 @@
 -- The log runs.
-use Rattle.std.proofs.Common.{◌≡◌, ℕ, ◌-◌, None, [], replicate, false, refl, inl}
+use Rattle.std.proofs.Common.{◌-◌, [], replicate, false, refl, inl}
 use Rattle.repl_wal.specs.Making.{BeginsAs}
 use Rattle.repl_wal.specs.State.{LogState}
 use Rattle.repl_wal.proofs.Beginning.{begun_runs, some_bytes}

@@ -1,5 +1,5 @@
 -- What is wrong behind the whole end: a record's end, or the first fault.
-use Rattle.std.proofs.Common.{rules, ◌≡◌, ℕ, ◌%◌, ◌<◌, ◌≤◌, ◌++◌, List, refl, sym, ap, ◌∙◌, subst, arith}
+use Rattle.std.proofs.Common.{rules, ◌≡◌, ℕ, ◌%◌, ◌<◌, ◌++◌, List, refl, sym, ap, ◌∙◌, subst}
 use Rattle.repl_lsn.specs.Segment.{IsSegSize}
 use Rattle.repl_log.specs.Faults.{IsFaultBehind}
 use Rattle.repl_page.specs.declared.ident.Ident.{Ident}

@@ -1,12 +1,10 @@
 -- What was walked is the log that runs.
-use Rattle.std.proofs.Common.{◌≡◌, ℕ, ◌+◌, ◌≤◌, ◌⊎◌, None, [], length, false, refl, sym, ap, ◌∙◌, subst, inl, inr, arith}
-use Rattle.repl_record.specs.Walker.{position}
+use Rattle.std.proofs.Common.{◌⊎◌, [], refl, sym, subst, inl, inr, arith}
 use Rattle.repl_record.specs.declared.walker.Walker.{Walker}
 use Rattle.repl_store.specs.Backing.{Backs, State}
-use Rattle.repl_store.specs.Head.{Head, Held}
-use Rattle.repl_wal.specs.Holding.{HeldLog, Holds, Runs}
-use Rattle.repl_wal.specs.Making.{HasTaken, IsFailure, IsWalkRefusal, IsWrongTail, TakenOf, mounted_log}
-use Rattle.repl_wal.specs.State.{LogState}
+use Rattle.repl_store.specs.Head.{Head}
+use Rattle.repl_wal.specs.Holding.{Runs}
+use Rattle.repl_wal.specs.Making.{IsFailure, IsWalkRefusal, IsWrongTail, TakenOf, mounted_log}
 use Rattle.repl_disk.specs.State.{DiskState}
 use Rattle.repl_wal.specs.declared.fault.NodeFault.{NodeFault}
 use Rattle.repl_wal.proofs.Mounting.{stood_at, taken_none, taken_of_none, walked_log, walked_state}

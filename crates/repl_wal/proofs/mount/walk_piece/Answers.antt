@@ -1,13 +1,12 @@
 -- The next piece of the log was read and walked.
-use Rattle.std.proofs.Common.{rules, ◌≡◌, ℕ, ◌+◌, ◌-◌, ◌<◌, ◌≤◌, ◌++◌, length, take, drop, min, List, Result, Ok, Err, refl, sym, ap, ◌∙◌, subst, inl, inr, arith, length-append, length-drop, length-take}
+use Rattle.std.proofs.Common.{◌≡◌, ℕ, ◌+◌, ◌-◌, ◌<◌, ◌≤◌, ◌++◌, length, take, drop, min, List, sym, ap, ◌∙◌, subst, inl, inr, arith, length-append, length-drop, length-take}
 use Rattle.std.proofs.Math.Nat.{div-mul-le_self}
 use Rattle.repl_disk.specs.State.{DiskState}
 use Rattle.repl_record.specs.Walker.{position}
 use Rattle.repl_store.specs.Backing.{Backs, State, log}
-use Rattle.repl_store.specs.Head.{Head, IsHead, status_of}
-use Rattle.repl_store.specs.declared.fault.StoreFault.{StoreFault}
+use Rattle.repl_store.specs.Head.{Head, IsHead}
 use Rattle.repl_store.specs.declared.store.StoreStatus.{StoreStatus}
-use Rattle.repl_wal.specs.Making.{HasTaken, IsWrongTail, TakenOf}
+use Rattle.repl_wal.specs.Making.{IsWrongTail, TakenOf}
 use Rattle.repl_wal.proofs.Ending.{not_broken}
 use Rattle.repl_wal.proofs.Mounting.{of_disk, taken_of_on, taken_on, wrong_on}
 use Rattle.repl_wal.proofs.Reading.{read_front}

@@ -1,11 +1,11 @@
 -- Piece by piece the walker goes through the log.
-use Rattle.std.proofs.Common.{rules, ◌≡◌, ℕ, ◌<◌, ◌≤◌, length, is_lt, nat_cmp, Result, Ok, Err, false, refl, sym, ap, ◌∙◌, subst, inl, inr, arith}
+use Rattle.std.proofs.Common.{rules, ◌≡◌, ℕ, ◌≤◌, is_lt, nat_cmp, false, ◌∙◌, subst, inl, inr, arith}
 use Rattle.repl_disk.specs.State.{DiskState}
 use Rattle.repl_record.specs.Walker.{position}
 use Rattle.repl_record.specs.declared.walker.Walker.{Walker}
 use Rattle.repl_store.specs.Backing.{Backs, State}
-use Rattle.repl_store.specs.Head.{Head, IsHead, status_of}
-use Rattle.repl_wal.specs.Making.{HasTaken, IsFailure, IsWalkRefusal, IsWrongTail, TakenOf}
+use Rattle.repl_store.specs.Head.{Head}
+use Rattle.repl_wal.specs.Making.{HasTaken, IsWalkRefusal, IsWrongTail, TakenOf}
 use Rattle.repl_wal.specs.declared.fault.NodeFault.{NodeFault}
 use Rattle.repl_wal.proofs.mount.walk_pieces.Goals as goal
 

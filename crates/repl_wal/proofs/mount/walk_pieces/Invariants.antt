@@ -1,5 +1,5 @@
 -- The walker has gone through the log up to its position, and the reads left the store as it was.
-use Rattle.std.proofs.Common.{◌≡◌, ℕ, ◌-◌, ◌<◌, ◌≤◌, false, length}
+use Rattle.std.proofs.Common.{◌≡◌, ◌-◌, ◌<◌, ◌≤◌, false, length}
 use Rattle.repl_record.specs.Walker.{position}
 use Rattle.repl_store.specs.Backing.{Backs, State}
 use Rattle.repl_wal.specs.Making.{HasTaken, TakenOf}

@@ -1,6 +1,6 @@
 -- A timeline that was left was left for one, and what is no parent and not the own one is not on the path.
-use Rattle.std.proofs.Common.{rules, ◌≡◌, ℕ, Option, Some, None, true, false, refl, sym, ap, ◌∙◌, subst, inl, inr}
-use Rattle.repl_lsn.specs.Path.{EndsAt, HasTimeline, IsEndOf, IsNextOf, first_of}
+use Rattle.std.proofs.Common.{refl, subst, inl, inr}
+use Rattle.repl_lsn.specs.Path.{IsEndOf, first_of}
 use Rattle.repl_store.proofs.Backed.{apart_by}
 use Rattle.repl_wal.proofs.read.end_of.Goals as goal
 

@@ -1,11 +1,11 @@
 -- Where the timeline ends says what there is to read.
-use Rattle.std.proofs.Common.{rules, ◌≡◌, ℕ, ◌<◌, ◌≤◌, Option, Some, None, MatchOption, true, false, refl, sym, ap, ◌∙◌, subst, inl, inr, arith}
+use Rattle.std.proofs.Common.{rules, ◌≡◌, ℕ, ◌<◌, ◌≤◌, Option, Some, None, MatchOption, sym, ap, ◌∙◌, subst, inl, inr}
 use Rattle.repl_lsn.specs.History.{Path}
 use Rattle.repl_lsn.specs.Path.{EndsAt, IsNext}
 use Rattle.repl_store.proofs.Backed.{below_by}
 use Rattle.repl_store.specs.declared.store.StoreStatus.{StoreStatus}
 use Rattle.repl_wal.specs.Reading.{IsEnd, IsReadRefusal, ReadsTo}
-use Rattle.repl_wal.specs.State.{LogState, floor_of, flushed_end, path_of, status_of_log}
+use Rattle.repl_wal.specs.State.{LogState, floor_of, path_of, status_of_log}
 use Rattle.repl_wal.specs.declared.fault.NodeFault.{NodeFault}
 use Rattle.repl_wal.specs.declared.fault.NodeFault.TheVariants as fault
 use Rattle.repl_wal.proofs.read.range_of.Goals as goal

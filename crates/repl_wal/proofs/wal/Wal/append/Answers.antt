@@ -1,18 +1,15 @@
 -- The record is appended, or the log stays or stops.
-use Rattle.std.proofs.Common.{rules, ◌≡◌, ℕ, ◌^◌, ◌≤◌, length, Option, Some, None, Result, Ok, Err, true, false, refl, sym, ap, ◌∙◌, subst, inl, inr}
-use Rattle.repl_control.specs.declared.control.Role.{Role}
+use Rattle.std.proofs.Common.{◌≡◌, ℕ, ◌^◌, ◌≤◌, length, Result, Ok, Err, refl, sym, ap, ◌∙◌, subst}
 use Rattle.repl_control.specs.declared.control.Role.TheVariants.{Primary, Standby}
 use Rattle.repl_record.specs.Length.{image_end}
 use Rattle.repl_store.specs.Backing.{Before, appended}
-use Rattle.repl_store.specs.Durable.{Durable}
-use Rattle.repl_store.specs.Head.{Head, Held, IsHead, status_of}
+use Rattle.repl_store.specs.Head.{Head, status_of}
 use Rattle.repl_store.specs.declared.fault.StoreFault.{StoreFault}
 use Rattle.repl_store.specs.declared.store.StoreStatus.{StoreStatus}
-use Rattle.repl_wal.specs.Holding.{Comes, HeldLog, Holds, Remembers, Runs}
+use Rattle.repl_wal.specs.Holding.{Comes, HeldLog, Holds}
 use Rattle.repl_wal.specs.State.{LogState, role_of, status_of_log}
 use Rattle.repl_wal.specs.Steps.{Never, Old, Only}
 use Rattle.repl_wal.specs.Writing.{Appends, CanAppend, IsAppendRefusal, IsAppended, append_end}
-use Rattle.repl_wal.specs.declared.fault.NodeFault.{NodeFault}
 use Rattle.repl_wal.specs.declared.fault.NodeFault.TheVariants as fault
 use Rattle.repl_wal.proofs.Ending.{broken_of, failure, none_of, refused_at, refused_comes, role_told, running, same_status, standby_not, untold, untold_holds, untouched}
 use Rattle.repl_wal.proofs.Writing.{appended_comes, unlaid}

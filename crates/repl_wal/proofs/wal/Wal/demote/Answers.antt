@@ -1,16 +1,14 @@
 -- What is written is flushed under a control of a standby, or the log stays or stops.
-use Rattle.std.proofs.Common.{rules, ◌≡◌, ℕ, Option, Some, None, Result, Ok, Err, true, false, refl, sym, ap, ◌∙◌, subst, inl, inr}
-use Rattle.repl_control.specs.declared.control.Role.{Role}
+use Rattle.std.proofs.Common.{◌≡◌, ℕ, Ok, Err, refl, sym, ◌∙◌, subst, inl, inr}
 use Rattle.repl_control.specs.declared.control.Role.TheVariants.{Primary, Standby}
 use Rattle.repl_record.specs.Walker.{last_end, last_start}
 use Rattle.repl_store.specs.Backing.{CanFlush, Either, flushed}
 use Rattle.repl_store.specs.Durable.{Durable}
-use Rattle.repl_store.specs.Head.{Head, Held, IsHead}
-use Rattle.repl_wal.specs.Holding.{Comes, HeldLog, Holds, Remembers, Runs}
-use Rattle.repl_wal.specs.State.{EndsLast, LogState, flushed_log, role_of, written_end}
+use Rattle.repl_store.specs.Head.{IsHead}
+use Rattle.repl_wal.specs.Holding.{Comes, HeldLog, Holds, Runs}
+use Rattle.repl_wal.specs.State.{EndsLast, LogState, flushed_log, role_of}
 use Rattle.repl_wal.specs.Steps.{Never, Old, Only}
 use Rattle.repl_wal.specs.Writing.{DemoteLeaves, Demotes, IsDemoteRefusal, IsDemoted}
-use Rattle.repl_wal.specs.declared.fault.NodeFault.{NodeFault}
 use Rattle.repl_wal.specs.declared.fault.NodeFault.TheVariants as fault
 use Rattle.repl_wal.proofs.Ending.{certain_at, none_of, refused_at, refused_comes, role_told, running, standby_not, untold, untold_holds, untouched}
 use Rattle.repl_wal.proofs.Running.{can_flush, walked_last}

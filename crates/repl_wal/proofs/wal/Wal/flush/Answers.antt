@@ -1,5 +1,5 @@
 -- What is written is flushed, or the log stays or stops.
-use Rattle.std.proofs.Common.{rules, ◌≡◌, ℕ, Option, Some, None, Result, Ok, Err, true, false, refl, sym, ap, ◌∙◌, subst, inl, inr}
+use Rattle.std.proofs.Common.{◌≡◌, ℕ, Ok, Err, refl, sym, ap, ◌∙◌, subst, inl, inr}
 use Rattle.repl_control.specs.declared.control.Control.{Control}
 use Rattle.repl_control.specs.declared.control.Role.{Role}
 use Rattle.repl_control.specs.declared.control.Role.TheVariants.{Primary}
@@ -7,12 +7,11 @@ use Rattle.repl_record.specs.Walker.{last_end, last_start}
 use Rattle.repl_record.specs.declared.walker.Walker.{Walker}
 use Rattle.repl_store.specs.Backing.{CanFlush, Either, flushed, flushed_control}
 use Rattle.repl_store.specs.Durable.{Durable}
-use Rattle.repl_store.specs.Head.{Head, Held, IsHead}
+use Rattle.repl_store.specs.Head.{Head, IsHead}
 use Rattle.repl_wal.specs.Holding.{Comes, HeldLog, Holds, Remembers, Runs}
-use Rattle.repl_wal.specs.State.{EndsLast, LogState, flushed_end, flushed_log, role_of, whole_end, written_end}
+use Rattle.repl_wal.specs.State.{EndsLast, LogState, flushed_end, flushed_log, role_of, written_end}
 use Rattle.repl_wal.specs.Steps.{Never, Old, Only}
 use Rattle.repl_wal.specs.Writing.{FlushLeaves, Flushes, IsFlushed}
-use Rattle.repl_wal.specs.declared.fault.NodeFault.{NodeFault}
 use Rattle.repl_wal.proofs.Ending.{certain_at, none_of, refused_at, refused_comes, running, untold, untold_holds}
 use Rattle.repl_wal.proofs.Running.{can_flush, nothing_new, walked_last}
 use Rattle.repl_wal.proofs.wal.Wal.flush.Goals as goal

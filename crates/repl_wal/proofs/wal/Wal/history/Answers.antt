@@ -2,7 +2,7 @@
 use Rattle.std.proofs.Common.{◌≡◌, ◌≢◌, List, ℕ, false, refl, sym, ◌∙◌, subst}
 use Rattle.repl_lsn.specs.History.{Path}
 use Rattle.repl_wal.specs.Holding.{HeldLog, Remembers}
-use Rattle.repl_wal.specs.State.{LogState, path_of}
+use Rattle.repl_wal.specs.State.{path_of}
 use Rattle.repl_wal.specs.Telling.{IsHistoryOf}
 use Rattle.repl_wal.proofs.Ending.{none_of, running}
 use Rattle.repl_wal.proofs.wal.Wal.history.Goals as goal

@@ -1,7 +1,7 @@
 -- A log that runs is right.
 use Rattle.std.proofs.Common.{◌≡◌, false, subst}
 use Rattle.repl_wal.specs.Holding.{HeldLog, Remembers}
-use Rattle.repl_wal.specs.State.{IsLog, LogState}
+use Rattle.repl_wal.specs.State.{IsLog}
 use Rattle.repl_wal.proofs.Ending.{running}
 use Rattle.repl_wal.proofs.Lawful.{is_log}
 use Rattle.repl_wal.proofs.wal.Wal.identify.Goals as goal

@@ -1,13 +1,10 @@
 -- The new store's log begins, and its files are known where the store's are.
-use Rattle.std.proofs.Common.{◌≡◌, ℕ, ◌+◌, [], length, refl, sym, subst, arith}
-use Rattle.repl_control.specs.declared.control.Role.{Role}
+use Rattle.std.proofs.Common.{[], refl, sym, subst, arith}
 use Rattle.repl_control.specs.declared.control.TheConstants.{VERSION_1_SIZE}
-use Rattle.repl_page.specs.declared.ident.Ident.{Ident}
 use Rattle.repl_store.specs.Backing.{Backs, State}
 use Rattle.repl_store.specs.Creating.{fresh}
-use Rattle.repl_store.specs.Head.{Head, Held, IsMounted}
-use Rattle.repl_wal.specs.Making.{BeginsAs, mounted_log, untold_log}
-use Rattle.repl_wal.specs.State.{LogState}
+use Rattle.repl_store.specs.Head.{Held}
+use Rattle.repl_wal.specs.Making.{mounted_log, untold_log}
 use Rattle.repl_wal.proofs.wal.Wal.init.Goals as goal
 
 pub returns-in-Ok-clause-made : goal.returns-in-Ok-clause-made

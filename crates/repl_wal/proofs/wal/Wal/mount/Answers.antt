@@ -1,5 +1,5 @@
 -- The log of the store that was mounted.
-use Rattle.std.proofs.Common.{◌≡◌, ℕ, ◌⊎◌, Option, Some, None, [], refl, sym, ap, ◌∙◌, subst, inl, inr}
+use Rattle.std.proofs.Common.{◌≡◌, ℕ, ◌⊎◌, Some, None, [], refl, subst, inl, inr}
 use Rattle.repl_control.specs.declared.control.TheConstants.{VERSION_1_SIZE}
 use Rattle.repl_disk.specs.Folder.{Folder, IfTold, ToldFiles}
 use Rattle.repl_disk.specs.State.{DiskState}

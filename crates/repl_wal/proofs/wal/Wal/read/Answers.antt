@@ -1,25 +1,20 @@
 -- What was read is the log's, and the log stays, or stops.
-use Rattle.std.proofs.Common.{rules, ◌≡◌, ℕ, ◌+◌, ◌-◌, ◌<◌, ◌≤◌, ◌++◌, length, take, drop, List, Option, Some, None, Result, Ok, Err, true, false, refl, sym, ap, ◌∙◌, subst, inl, inr, arith, length-append, length-drop, length-take}
+use Rattle.std.proofs.Common.{◌≡◌, ℕ, ◌+◌, ◌-◌, ◌≤◌, ◌++◌, length, take, drop, List, Result, Ok, Err, refl, sym, ap, ◌∙◌, subst, arith, length-append, length-drop, length-take}
 use Rattle.repl_control.specs.declared.control.Control.{Control}
-use Rattle.repl_lsn.specs.History.{Path}
 use Rattle.repl_record.specs.declared.walker.Walker.{Walker}
-use Rattle.repl_store.specs.Backing.{Backs, Before, State, log}
-use Rattle.repl_store.specs.Head.{Head, Held, IsHead, status_of}
+use Rattle.repl_store.specs.Backing.{Before, log}
+use Rattle.repl_store.specs.Head.{Head}
 use Rattle.repl_store.specs.declared.fault.StoreFault.{StoreFault}
-use Rattle.repl_store.specs.declared.store.StoreStatus.{StoreStatus}
-use Rattle.repl_wal.specs.Holding.{Comes, HeldLog, Holds, Remembers, Runs}
-use Rattle.repl_wal.specs.Reading.{CanRead, IsRange, IsRead, IsReadRefusal, Reads, ReadsTo}
-use Rattle.repl_wal.specs.State.{LogState, floor_of, flushed_end, path_of, status_of_log}
+use Rattle.repl_wal.specs.Holding.{Comes, HeldLog, Holds, Runs}
+use Rattle.repl_wal.specs.Reading.{CanRead, IsRange, IsRead, IsReadRefusal, Reads}
+use Rattle.repl_wal.specs.State.{LogState, floor_of, flushed_end, status_of_log}
 use Rattle.repl_wal.specs.Steps.{Never, Old, Only}
-use Rattle.repl_wal.specs.declared.fault.NodeFault.{NodeFault}
-use Rattle.repl_wal.specs.declared.fault.NodeFault.TheVariants as fault
-use Rattle.repl_wal.specs.declared.read.Range.{Range}
 use Rattle.repl_wal.specs.declared.read.Range.TheVariants as range
 use Rattle.repl_wal.specs.declared.read.ReadOut.{ReadOut}
 use Rattle.repl_wal.specs.declared.read.ReadOut.TheVariants as out
 use Rattle.repl_wal.proofs.Ending.{broken_of, failure, none_of, refused_at, refused_comes, running, same_status, says_no, untold, untold_holds, untouched}
 use Rattle.repl_wal.proofs.Reading.{at_same, kept_comes, read_front, reads_low}
-use Rattle.repl_wal.proofs.Running.{Marks, marks}
+use Rattle.repl_wal.proofs.Running.{marks}
 use Rattle.repl_wal.proofs.wal.Wal.read.Goals as goal
 
 -- a read of the log, as a rule

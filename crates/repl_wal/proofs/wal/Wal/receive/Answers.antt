@@ -1,21 +1,16 @@
 -- The bytes are added, or the log stays or stops.
-use Rattle.std.proofs.Common.{rules, ◌≡◌, ℕ, ◌+◌, ◌^◌, ◌≤◌, ◌++◌, length, List, Option, Some, None, Result, Ok, Err, true, false, refl, sym, ap, ◌∙◌, subst, inl, inr, arith}
+use Rattle.std.proofs.Common.{◌≡◌, ℕ, ◌+◌, ◌++◌, length, List, Ok, Err, refl, sym, ap, ◌∙◌, subst, arith}
 use Rattle.repl_log.specs.Faults.{HasFault, IsFaultBehind}
-use Rattle.repl_log.specs.Walks.{HasWalked}
 use Rattle.repl_page.specs.declared.ident.Ident.{Ident}
 use Rattle.repl_record.specs.declared.answer.WalkReason.{WalkReason}
 use Rattle.repl_record.specs.Walker.{identity, last_end, last_start}
 use Rattle.repl_store.specs.Backing.{Before, appended}
-use Rattle.repl_store.specs.Head.{Head, Held, IsHead, status_of}
-use Rattle.repl_store.specs.declared.fault.StoreFault.{StoreFault}
-use Rattle.repl_store.specs.declared.store.StoreStatus.{StoreStatus}
-use Rattle.repl_wal.specs.Holding.{Comes, HeldLog, Holds, Remembers, Runs}
-use Rattle.repl_wal.specs.State.{LogState, ident_of, last_start as start_kept, status_of_log, tail_of, timeline_of, whole_end}
+use Rattle.repl_wal.specs.Holding.{Comes, HeldLog, Holds}
+use Rattle.repl_wal.specs.State.{ident_of, last_start as start_kept, status_of_log, tail_of, timeline_of, whole_end}
 use Rattle.repl_wal.specs.Steps.{Never, Old, Only}
-use Rattle.repl_wal.specs.Writing.{CanReceive, GoesOn, IsReceiveRefusal, IsReceived, Receives}
-use Rattle.repl_wal.specs.declared.fault.NodeFault.{NodeFault}
+use Rattle.repl_wal.specs.Writing.{CanReceive, IsReceiveRefusal, IsReceived, Receives}
 use Rattle.repl_wal.specs.declared.fault.NodeFault.TheVariants as fault
-use Rattle.repl_wal.proofs.Ending.{broken_of, failure, none_of, refused_at, refused_comes, running, same_status, says_no, untold, untold_holds, untouched}
+use Rattle.repl_wal.proofs.Ending.{failure, none_of, refused_at, refused_comes, running, same_status, says_no, untold, untold_holds, untouched}
 use Rattle.repl_wal.proofs.Running.{marks}
 use Rattle.repl_wal.proofs.Writing.{on_own, received_comes, still_records}
 use Rattle.repl_wal.proofs.wal.Wal.receive.Goals as goal

@@ -1,11 +1,10 @@
 -- The floor is raised, or the log stays or stops.
-use Rattle.std.proofs.Common.{◌≡◌, ℕ, ◌⊎◌, Option, Some, None, Result, Ok, Err, false, refl, sym, ap, ◌∙◌, subst, inl, inr}
+use Rattle.std.proofs.Common.{◌≡◌, ℕ, Option, Ok, Err, sym, ◌∙◌, subst}
 use Rattle.repl_store.specs.Backing.{CanRaise}
-use Rattle.repl_store.specs.Head.{Head, Held, status_of}
 use Rattle.repl_store.specs.declared.store.StoreStatus.{StoreStatus}
-use Rattle.repl_wal.specs.Faults.{of_store, stopped_by}
+use Rattle.repl_wal.specs.Faults.{of_store}
 use Rattle.repl_wal.specs.Holding.{Comes, HeldLog, Holds, Remembers}
-use Rattle.repl_wal.specs.Keeping.{TrimLeaves, Trims, trimmed_floor}
+use Rattle.repl_wal.specs.Keeping.{TrimLeaves, Trims}
 use Rattle.repl_wal.specs.State.{LogState, status_of_log}
 use Rattle.repl_wal.specs.declared.fault.NodeFault.{NodeFault}
 use Rattle.repl_wal.proofs.Ending.{none_of, not_broken, running, same_status, untold, untold_holds}
