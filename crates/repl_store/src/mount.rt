@@ -33,6 +33,8 @@ impl<D: Disk> Store<D> {
         // What is mounted is what the files stand for.
         ensures mounted { IfOk result (λ store. (store.broken ≡ false) × IfTold (D.state disk).files (λ folder.
             (d : Durable) × StandsFor VERSION_1_SIZE folder d × IsMounted store.head VERSION_1_SIZE d)) }
+        // Nothing is written behind the flushed end, whatever the disk tells.
+        ensures no_more { IfOk result (λ store. (store.broken ≡ false) × (store.head.written ≡ store.head.control.flushed)) }
         // Where a crash leaves nothing else, the store and its files hang together from here on.
         ensures backs { IfOk result (λ store. (folder : Folder) (d : Durable) → (D.state disk).files ≡ Some folder → StandsFor VERSION_1_SIZE folder d
             → ((image : Folder) → (D.state disk).may_leave image → StandsFor VERSION_1_SIZE image d)
@@ -57,6 +59,7 @@ impl<D: Disk> Store<D> {
 /// What the files of the disk say that a store is.
 fn read_head<D: Disk>(alloc: Global, disk: &mut D) -> Result<Head, StoreFault>
     ensures read { IfOk result (λ head. IfTold (D.state disk.old).files (λ folder. (d : Durable) × StandsFor VERSION_1_SIZE folder d × IsMounted head VERSION_1_SIZE d)) }
+    ensures no_more { IfOk result (λ head. head.written ≡ head.control.flushed) }
     ensures refused { IfErr result (λ e. IfTold (D.state disk.old).files (λ folder. IsRefusal VERSION_1_SIZE folder e)) }
     ensures answers { IfErr result IsOfMount }
     ensures asks { Asks result (D.state disk.old) (D.state disk.new) }

@@ -1,0 +1,99 @@
+-- Making a log, and opening one again.
+use Rattle.std.specs.Prelude.{◌≡◌, ℕ, ◌+◌, ◌-◌, ◌<◌, ◌⊎◌, false, true, List, [], length, take, drop, None, Result, Err, OnOk}
+use Rattle.repl_counts.specs.Counts.{Rose, Stood}
+use Rattle.repl_disk.specs.Folder.{Folder, ToldFiles}
+use Rattle.repl_disk.specs.State.{DiskState}
+use Rattle.repl_lsn.specs.Path.{timeline_at}
+use Rattle.repl_page.specs.declared.ident.Ident.{Ident}
+use Rattle.repl_log.specs.Faults.{IsFaultBehind}
+use Rattle.repl_log.specs.Walks.{HasWalked}
+use Rattle.repl_record.specs.Log.{RecordEnd}
+use Rattle.repl_record.specs.Walker.{identity, last_end, position}
+use Rattle.repl_record.specs.declared.walker.Walker.{Walker}
+use Rattle.repl_store.specs.Backing.{Backs, State, log}
+use Rattle.repl_store.specs.Creating.{IsUnmade as IsNoStore}
+use Rattle.repl_store.specs.Durable.{Durable, StandsFor}
+use Rattle.repl_store.specs.Head.{Head}
+use Rattle.repl_store.specs.Refusal.{IsOfDisk, IsRefusal}
+use Rattle.repl_store.specs.declared.fault.StoreFault.{StoreFault}
+use Rattle.repl_wal.specs.Faults.{of_store}
+use Rattle.repl_wal.specs.State.{LogState}
+use Rattle.repl_wal.specs.declared.fault.NodeFault.{NodeFault}
+use Rattle.repl_wal.specs.declared.fault.NodeFault.TheVariants as fault
+
+-- the log that was just made or mounted
+abbrev pub mounted_log : ℕ → Durable → LogState
+mounted_log size d = record { size = size; kept = record { durable = d; unflushed = [] }; broken = false; told = true }
+
+-- the same, of which nothing is known on the disk
+abbrev pub untold_log : ℕ → Durable → LogState
+untold_log size d = record { size = size; kept = record { durable = d; unflushed = [] }; broken = false; told = false }
+
+-- ---- making
+
+-- no log is made, since no store is
+abbrev pub IsUnmade : ToldFiles → NodeFault → Type 0
+IsUnmade told e = (f : StoreFault) × (e ≡ of_store f) × IsNoStore told f
+
+-- Each failure of the disk is told, and none is told without one, or, where the disk does not tell its files, without a lack.
+pub record IsMadeOf {A : Type 0} (result : Result A NodeFault) (old new : DiskState) : Type 0 where
+  pub ok : OnOk result (Stood old.faults new.faults × Stood old.wants new.wants)
+  pub failed : result ≡ Err fault.DiskFault → Rose old.faults new.faults ⊎ ((old.files ≡ None) × Rose old.lacks new.lacks)
+
+-- the state of a log that has nothing behind its last whole record, in such a store. Private clauses cite this.
+pub record BeginsAs (head : Head) (n : LogState) : Type 0 where
+  pub size : head.size ≡ n.size
+  pub control : head.control ≡ n.kept.durable.control
+  pub path : head.path ≡ n.kept.durable.path
+  pub counted : n.kept.durable.control.floor + length n.kept.durable.bytes ≡ n.kept.durable.control.flushed
+  pub flushed : n.kept.unflushed ≡ []
+  pub sound : n.broken ≡ false
+
+-- ---- opening
+
+abbrev pub ident_in : ℕ → Durable → Ident
+ident_in size d = record { sysid = d.control.sysid; magic = d.control.magic; size = size }
+
+-- what is flushed behind the whole end
+abbrev pub flushed_tail : Durable → List ℕ
+flushed_tail d = drop (d.control.whole - d.control.floor) d.bytes
+
+-- In these bytes behind the whole end another record ends, so that the control is wrong there; or right behind it stands what is
+-- no record.
+abbrev pub IsWrongBehind : Ident → (ℕ → ℕ) → ℕ → ℕ → List ℕ → NodeFault → Type 0
+IsWrongBehind ident timeline whole prev log (fault.BadControl place) = (place ≡ 32) × ((end : ℕ) × (last : ℕ) × (whole < end)
+    × RecordEnd ident timeline whole prev log end last)
+IsWrongBehind ident timeline whole prev log (fault.Damaged at why) = IsFaultBehind ident timeline whole prev log whole prev at why
+IsWrongBehind ident timeline whole prev log e = ⊥
+
+abbrev pub IsWrongTail : ℕ → Durable → NodeFault → Type 0
+IsWrongTail size d e = IsWrongBehind (ident_in size d) (timeline_at d.path) d.control.whole d.control.prev (flushed_tail d) e
+
+-- The files stand for no store, or a call of the disk failed or memory was wanting, which may come over any files; or what is
+-- flushed behind the whole end is wrong. What stands there is known where a crash leaves nothing else than the files that read so.
+abbrev pub IsMountRefusal : ℕ → Folder → (Folder → Type 0) → NodeFault → Type 0
+IsMountRefusal size folder leaves e = ((f : StoreFault) × (e ≡ of_store f) × IsRefusal size folder f)
+    ⊎ ((d : Durable) × StandsFor size folder d × (((image : Folder) → leaves image → StandsFor size image d) → IsWrongTail size d e))
+
+-- ---- while it is walked. Private clauses cite this.
+
+-- the walker has gone through some bytes from the whole end on, and no further record ended
+pub record HasTaken (head : Head) (w : Walker) : Type 0 where
+  pub taken : List ℕ
+  pub walked : HasWalked w (timeline_at head.path) head.control.whole head.control.prev taken
+  pub behind : position w ≡ head.control.whole + length taken
+  pub none : last_end w ≡ head.control.whole
+  pub ident : identity w ≡ record { sysid = head.control.sysid; magic = head.control.magic; size = head.size }
+
+-- these are the log's
+abbrev pub TakenOf : State → Head → Walker → Type 0
+TakenOf s head w = HasWalked w (timeline_at head.path) head.control.whole head.control.prev (take (position w - head.control.whole)
+    (drop (head.control.whole - head.control.floor) (log s)))
+
+-- a call failed
+abbrev pub IsFailure : NodeFault → Type 0
+IsFailure e = (f : StoreFault) × (e ≡ of_store f) × IsOfDisk f
+
+-- that, or what was read is wrong
+abbrev pub IsWalkRefusal : DiskState → Head → Walker → NodeFault → Type 0
+IsWalkRefusal disk head w e = IsFailure e ⊎ ((s : State) → Backs disk head s → TakenOf s head w → IsWrongTail head.size s.durable e)

@@ -1,0 +1,64 @@
+//! Making certain what was written, and a primary into a standby.
+ghost use Rattle.std.specs.Prelude.{◌≡◌, Err};
+ghost use Rattle.repl_counts.specs.Counts.{Rose};
+ghost use Rattle.repl_wal.specs.Holding.{Comes, Holds, Remembers};
+ghost use Rattle.repl_wal.specs.State.{LogState, flushed_end, written_end};
+ghost use Rattle.repl_wal.specs.Writing.{DemoteLeaves, Demotes, FlushLeaves, Flushes};
+ghost use Rattle.repl_wal.specs.declared.fault.NodeFault.TheVariants as NodeFault;
+
+use crate::fault::{NodeFault, stop};
+use crate::wal::{Wal, is_standby};
+use repl_control::Role;
+use repl_disk::Disk;
+use repl_lsn::Lsn;
+
+impl<D: Disk> Wal<D> {
+    /// Makes all written bytes certain, and answers where they end. Where nothing was written since the last flush it makes
+    /// no call of the disk. Takes no memory but the disk's.
+    pub fn flush(&mut self) -> Result<Lsn, NodeFault>
+        ensures steps { (n : LogState) → Holds (D.state self.old.store.disk) self.old n →
+            Comes result (D.state self.old.store.disk) (D.state self.new.store.disk) self.new n (Flushes n result) (FlushLeaves n) }
+        ensures still { (n : LogState) → Remembers self.old n → written_end n ≡ flushed_end n → self.new.store.disk ≡ self.old.store.disk }
+        ensures idle { result ≡ Err NodeFault.Broken → self.new.store.disk ≡ self.old.store.disk }
+        ensures wants { result ≡ Err NodeFault.Memory → Rose (D.state self.old.store.disk).wants (D.state self.new.store.disk).wants }
+        ensures keeps { D.keeps self.old.store.disk self.new.store.disk }
+    {
+        if self.stopped.is_some() {
+            return Err(NodeFault::Broken);
+        }
+        let before = self.store.status();
+        match self
+            .store
+            .flush(self.walker.last_end(), self.walker.last_start())
+        {
+            Ok(()) => Ok(before.written),
+            Err(fault) => Err(stop(&mut self.stopped, before, fault)),
+        }
+    }
+
+    /// Makes all written bytes certain and a primary into a standby, by one renaming of the control. A standby is refused
+    /// (`NotPrimary`). Takes no memory but the disk's.
+    pub fn demote(&mut self) -> Result<(), NodeFault>
+        ensures steps { (n : LogState) → Holds (D.state self.old.store.disk) self.old n →
+            Comes result (D.state self.old.store.disk) (D.state self.new.store.disk) self.new n (Demotes n result) (DemoteLeaves n) }
+        ensures idle { result ≡ Err NodeFault.Broken → self.new.store.disk ≡ self.old.store.disk }
+        ensures wants { result ≡ Err NodeFault.Memory → Rose (D.state self.old.store.disk).wants (D.state self.new.store.disk).wants }
+        ensures keeps { D.keeps self.old.store.disk self.new.store.disk }
+    {
+        if self.stopped.is_some() {
+            return Err(NodeFault::Broken);
+        }
+        let before = self.store.status();
+        if is_standby(before.role) {
+            return Err(NodeFault::NotPrimary);
+        }
+        let whole = self.walker.last_end();
+        match self
+            .store
+            .set_role(Role::Standby, whole, self.walker.last_start())
+        {
+            Ok(()) => Ok(()),
+            Err(fault) => Err(stop(&mut self.stopped, before, fault)),
+        }
+    }
+}

@@ -1,0 +1,30 @@
+//! A node's write-ahead log on a disk: one list of bytes on a path of timelines, of which some are flushed, and of those
+//! some are whole records.
+//!
+//! A primary's log appends records and a standby's receives bytes; both flush, read along the path, and leave a timeline:
+//! by following a child of it, or by a promotion. `specs/State.antt` says what a log's state is, `specs/Steps.antt` how any
+//! call ends, and the files beside them what each call refuses, makes of the state, and leaves to a crash. How a state,
+//! the memory and the disk's files hang together stands in `specs/Holding.antt`. After a failure of the disk every call
+//! answers `Broken`, until the log is mounted again. Stands on `repl_store` and `repl_log`.
+//!
+//! ```text
+//! let mut wal = Wal::init(alloc, disk, ident, Role::Primary)?;
+//! wal.append(alloc, &record)?;
+//! wal.flush()?;              // from here on a crash leaves the record
+//! ```
+#![tactic(auto)]
+
+mod append;
+mod fault;
+mod flush;
+mod history;
+mod init;
+mod mount;
+mod read;
+mod receive;
+mod trim;
+mod wal;
+
+pub use fault::NodeFault;
+pub use read::ReadOut;
+pub use wal::{Identity, LOG_LIMIT, Wal};

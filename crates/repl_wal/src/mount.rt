@@ -1,0 +1,197 @@
+//! Opening the log that stands on a disk.
+ghost use Rattle.std.specs.Prelude.{◌≡◌, ◌+◌, ◌<◌, ◌≤◌, ◌^◌, ◌++◌, ◌⊎◌, ℕ, List, length, false, [], None, Some, IfOk, IfErr, OnOk, MatchResult};
+ghost use Rattle.repl_control.specs.declared.control.TheConstants.{VERSION_1_SIZE};
+ghost use Rattle.repl_disk.specs.Folder.{Folder, IfTold};
+ghost use Rattle.repl_log.specs.Walks.{HasWalked};
+ghost use Rattle.repl_record.specs.Walker.{AreOn, identity, last_end, position};
+ghost use Rattle.repl_store.specs.Backing.{Backs, State};
+ghost use Rattle.repl_store.specs.Durable.{Durable, StandsFor};
+ghost use Rattle.repl_store.specs.Head.{IsHead, IsMounted, status_of};
+ghost use Rattle.repl_wal.specs.Holding.{Holds};
+ghost use Rattle.repl_wal.specs.Making.{HasTaken, IsFailure, IsMountRefusal, IsWalkRefusal, IsWrongBehind, IsWrongTail, TakenOf, mounted_log};
+
+use crate::fault::{NodeFault, of_store};
+use crate::wal::Wal;
+use repl_disk::Disk;
+use repl_log::walk;
+use repl_lsn::Lsn;
+use repl_record::Walker;
+use repl_store::{Store, StoreStatus};
+use std::alloc::Global;
+
+/// So many bytes of the log are read at a time.
+const PIECE: usize = 65_536;
+
+impl<D: Disk> Wal<D> {
+    /// Opens the log that stands on the disk. After the store's refusals it walks what is flushed behind the whole end: what is
+    /// no record there is `Damaged`, and where a further record ends, the control is wrong (`BadControl` at its whole end). Takes
+    /// memory for a piece of the log.
+    pub fn mount(alloc: Global, disk: D) -> Result<Wal<D>, (NodeFault, D)>
+        // What is mounted is what the files stand for, and nothing is written behind it.
+        ensures mounted { IfOk result (λ wal. (wal.stopped ≡ None) × IfTold (D.state disk).files (λ folder.
+            (d : Durable) × StandsFor VERSION_1_SIZE folder d × IsMounted wal.store.head VERSION_1_SIZE d)) }
+        // Where a crash leaves nothing else, the files are known to be the log's from here on.
+        ensures holds { IfOk result (λ wal. (folder : Folder) (d : Durable) → (D.state disk).files ≡ Some folder → StandsFor VERSION_1_SIZE folder d
+            → ((image : Folder) → (D.state disk).may_leave image → StandsFor VERSION_1_SIZE image d)
+            → Holds (D.state wal.store.disk) wal (mounted_log VERSION_1_SIZE d)) }
+        ensures refused { IfErr result (λ e. IfTold (D.state disk).files (λ folder. IsMountRefusal VERSION_1_SIZE folder (D.state disk).may_leave e.0)) }
+        ensures keeps { MatchResult result (λ wal. D.keeps disk wal.store.disk) (λ e. D.keeps disk e.1) }
+    {
+        match Store::mount(alloc, disk) {
+            Ok(store) => match walk_on(alloc, store) {
+                Ok(wal) => Ok(wal),
+                Err(refused) => Err(refused),
+            },
+            Err((fault, disk)) => Err((of_store(fault), disk)),
+        }
+    }
+}
+
+/// The log of a store that was just mounted, once what is flushed behind the whole end is walked.
+fn walk_on<D: Disk>(alloc: Global, store: Store<D>) -> Result<Wal<D>, (NodeFault, D)>
+    requires unbroken { store.broken ≡ false }
+    requires written { store.head.written ≡ store.head.control.flushed }
+    ensures running { IfOk result (λ wal. (wal.stopped ≡ None) × (wal.store.head ≡ store.head)) }
+    ensures holds { IfOk result (λ wal. (d : Durable) → Backs (D.state store.disk) store.head (record { durable = d; unflushed = [] })
+        → Holds (D.state wal.store.disk) wal (mounted_log store.head.size d)) }
+    ensures refused { IfErr result (λ e. IsFailure e.0 ⊎ ((s : State) → Backs (D.state store.disk) store.head s → IsWrongTail store.head.size s.durable e.0)) }
+    ensures keeps { MatchResult result (λ wal. D.keeps store.disk wal.store.disk) (λ e. D.keeps store.disk e.1) }
+{
+    let mut store = store;
+    let status = store.status();
+    let mut walker = Walker::new(status.whole, status.prev, status.ident);
+    match walk_flushed(alloc, &mut store, &mut walker, &status) {
+        Ok(()) => Ok(Wal {
+            store,
+            walker,
+            stopped: None,
+        }),
+        Err(fault) => Err((fault, store.into_disk())),
+    }
+}
+
+/// Walks what is flushed, from the walker's position on.
+fn walk_flushed<D: Disk>(
+    alloc: Global,
+    store: &mut Store<D>,
+    walker: &mut Walker,
+    status: &StoreStatus,
+) -> Result<(), NodeFault>
+    requires unbroken { store.old.broken ≡ false }
+    requires right { IsHead store.old.head }
+    requires status { status.now ≡ status_of store.old.head }
+    requires taken { HasTaken store.old.head walker.old }
+    requires within { position walker.old ≤ store.old.head.control.flushed }
+    ensures head { store.new.head ≡ store.old.head }
+    ensures sound { OnOk result (store.new.broken ≡ false) }
+    ensures taken { OnOk result (HasTaken store.old.head walker.new × (position walker.new ≡ store.old.head.control.flushed)) }
+    ensures of_state { OnOk result ((s : State) → Backs (D.state store.old.disk) store.old.head s → TakenOf s store.old.head walker.old
+        → TakenOf s store.old.head walker.new × Backs (D.state store.new.disk) store.old.head s) }
+    ensures refused { IfErr result (IsWalkRefusal (D.state store.old.disk) store.old.head walker.old) }
+    ensures keeps { D.keeps store.old.disk store.new.disk }
+{
+    let mut room = match vec![in alloc; 0; PIECE] {
+        Ok(room) => room,
+        Err(_) => return Err(NodeFault::Memory),
+    };
+    walk_pieces(alloc, store, walker, status, status.flushed, &mut room)
+}
+
+/// Walks it piece by piece, which the room takes.
+fn walk_pieces<D: Disk>(
+    alloc: Global,
+    store: &mut Store<D>,
+    walker: &mut Walker,
+    status: &StoreStatus,
+    end: Lsn,
+    room: &mut [u8],
+) -> Result<(), NodeFault>
+    requires unbroken { store.old.broken ≡ false }
+    requires right { IsHead store.old.head }
+    requires status { status.now ≡ status_of store.old.head }
+    requires taken { HasTaken store.old.head walker.old }
+    requires within { position walker.old ≤ store.old.head.control.flushed }
+    requires some { 0 < length room.old }
+    requires end { end ≡ store.old.head.control.flushed }
+    ensures head { store.new.head ≡ store.old.head }
+    ensures sound { OnOk result (store.new.broken ≡ false) }
+    ensures taken { OnOk result (HasTaken store.old.head walker.new × (position walker.new ≡ store.old.head.control.flushed)) }
+    ensures of_state { OnOk result ((s : State) → Backs (D.state store.old.disk) store.old.head s → TakenOf s store.old.head walker.old
+        → TakenOf s store.old.head walker.new × Backs (D.state store.new.disk) store.old.head s) }
+    ensures refused { IfErr result (IsWalkRefusal (D.state store.old.disk) store.old.head walker.old) }
+    ensures keeps { D.keeps store.old.disk store.new.disk }
+{
+    let mut at = walker.position();
+    'pieces: while at < end {
+        match walk_piece(alloc, store, walker, status, room) {
+            Ok(()) => {}
+            Err(fault) => return Err(fault),
+        }
+        at = walker.position();
+    }
+    Ok(())
+}
+
+/// Walks the next piece: as many bytes as the room has, or those up to the flushed end.
+fn walk_piece<D: Disk>(
+    alloc: Global,
+    store: &mut Store<D>,
+    walker: &mut Walker,
+    status: &StoreStatus,
+    room: &mut [u8],
+) -> Result<(), NodeFault>
+    requires unbroken { store.old.broken ≡ false }
+    requires right { IsHead store.old.head }
+    requires status { status.now ≡ status_of store.old.head }
+    requires taken { HasTaken store.old.head walker.old }
+    requires before { position walker.old < store.old.head.control.flushed }
+    requires some { 0 < length room.old }
+    ensures head { store.new.head ≡ store.old.head }
+    ensures size { length room.new ≡ length room.old }
+    ensures sound { OnOk result (store.new.broken ≡ false) }
+    ensures taken { OnOk result (HasTaken store.old.head walker.new) }
+    ensures on { OnOk result ((position walker.old < position walker.new) × (position walker.new ≤ store.old.head.control.flushed)) }
+    ensures of_state { OnOk result ((s : State) → Backs (D.state store.old.disk) store.old.head s → TakenOf s store.old.head walker.old
+        → TakenOf s store.old.head walker.new × Backs (D.state store.new.disk) store.old.head s) }
+    ensures refused { IfErr result (IsWalkRefusal (D.state store.old.disk) store.old.head walker.old) }
+    ensures keeps { D.keeps store.old.disk store.new.disk }
+{
+    let at = walker.position();
+    let left = status.flushed.0 - at.0;
+    let count = left.min(room.len() as u64) as usize;
+    match store.read_into(alloc, at, &mut room[..count]) {
+        Ok(()) => {}
+        Err(fault) => return Err(of_store(fault)),
+    }
+    match judge(walker, status, &room[..count]) {
+        Ok(()) => Ok(()),
+        Err(fault) => Err(fault),
+    }
+}
+
+/// Gives a piece of the log to the walker. No record may end in it.
+fn judge(walker: &mut Walker, status: &StoreStatus, piece: &[u8]) -> Result<(), NodeFault>
+    requires { position walker.old + length piece.now ≤ 2 ^ 63 }
+    ensures none { OnOk result (last_end walker.new ≡ status.now.whole) }
+    ensures goes_on { OnOk result ((timeline : ℕ → ℕ) (from prev : ℕ) (log : List ℕ) → HasWalked walker.old timeline from prev log
+        → AreOn timeline status.now.tli (position walker.old) (length piece.now) → HasWalked walker.new timeline from prev (log ++ piece.now)) }
+    ensures position { OnOk result (position walker.new ≡ position walker.old + length piece.now) }
+    ensures ident { identity walker.new ≡ identity walker.old }
+    ensures refused { IfErr result (λ e. (timeline : ℕ → ℕ) (prev : ℕ) (log : List ℕ) → HasWalked walker.old timeline status.now.whole prev log
+        → AreOn timeline status.now.tli (position walker.old) (length piece.now)
+        → IsWrongBehind (identity walker.old) timeline status.now.whole prev (log ++ piece.now) e) }
+{
+    let _size = walker.ident().size.bytes();
+    let walked = walk(walker, status.tli, piece);
+    if walker.last_end() == status.whole {
+        match walked {
+            Ok(()) => Ok(()),
+            Err(fault) => Err(NodeFault::Damaged {
+                at: fault.at,
+                why: fault.why,
+            }),
+        }
+    } else {
+        Err(NodeFault::BadControl(32))
+    }
+}

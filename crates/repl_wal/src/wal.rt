@@ -1,0 +1,103 @@
+//! A log, and what it tells of itself.
+ghost use Rattle.std.specs.Prelude.{◌≡◌, ◌↔◌, false, IsTrue};
+ghost use Rattle.repl_control.specs.declared.control.Role.TheVariants as Role;
+ghost use Rattle.repl_wal.specs.Holding.{Remembers};
+ghost use Rattle.repl_wal.specs.State.{IsLog, LogState, identity_in, path_of, status_of_log};
+
+use repl_control::Role;
+use repl_disk::Disk;
+use repl_lsn::{History, Lsn, Tli};
+use repl_record::Walker;
+use repl_store::{Store, StoreStatus};
+use std::marker::Model;
+
+/// The log ends at most here.
+pub const LOG_LIMIT: u64 = 1 << 62;
+
+const _: () = prove!(LOG_LIMIT == 4_611_686_018_427_387_904);
+
+/// A node's write-ahead log on a disk.
+#[derive(Drop)]
+pub struct Wal<D: Disk> {
+    pub(crate) store: Store<D>,
+    /// It has gone through the log from the whole end on.
+    pub(crate) walker: Walker,
+    /// A call of the disk failed, and this was the log before it.
+    pub(crate) stopped: Option<StoreStatus>,
+}
+
+impl<D: Disk> Model for Wal<D> {
+    ghost use Rattle.repl_wal.specs.Holding.{HeldLog, Remembers};
+    ghost use Rattle.repl_wal.specs.State.{LogState};
+
+    ghost Value = { HeldLog D };
+
+    ghost view = { λ w. record { store = w.store; walker = w.walker; stopped = w.stopped } };
+
+    ghost invariant = { λ w. (n : LogState) × Remembers {D = D} (record { store = w.store; walker = w.walker; stopped = w.stopped }) n };
+}
+
+/// Whether the node is a standby.
+pub(crate) fn is_standby(role: Role) -> bool
+    ensures { IsTrue result ↔ (role ≡ Role.Standby) }
+{
+    matches!(role, Role::Standby)
+}
+
+/// What a node is, and how far its log stands.
+#[derive(Clone, Copy, Debug, PartialEq, Eq)]
+pub struct Identity {
+    pub sysid: u64,
+    pub role: Role,
+    pub tli: Tli,
+    /// Where the bytes begin that are kept.
+    pub floor: Lsn,
+    /// Where the last whole record ends of those that are flushed.
+    pub whole: Lsn,
+    pub flushed: Lsn,
+    pub written: Lsn,
+}
+
+/// What peers are told of it.
+fn identity_in(status: &StoreStatus) -> Identity
+    ensures { result ≡ identity_in status.now }
+{
+    Identity {
+        sysid: status.sysid,
+        role: status.role,
+        tli: status.tli,
+        floor: status.floor,
+        whole: status.whole,
+        flushed: status.flushed,
+        written: status.written,
+    }
+}
+
+impl<D: Disk> Wal<D> {
+    /// What the node is, and how far its log stands. After a failure of the disk that is the state from before the call that
+    /// failed.
+    pub fn identify(&self) -> Identity
+        ensures told { (n : LogState) → Remembers self.now n → result ≡ identity_in (status_of_log n) }
+        // While no call of the disk failed, the log is right.
+        ensures right { (n : LogState) → Remembers self.now n → n.broken ≡ false → IsLog n }
+    {
+        match self.stopped {
+            Some(before) => identity_in(&before),
+            None => identity_in(&self.store.status()),
+        }
+    }
+
+    /// The path of the log.
+    pub fn path(&self) -> &History
+        ensures { (n : LogState) → Remembers self.now n → result.now ≡ path_of n }
+    {
+        self.store.path()
+    }
+
+    /// The disk, as the log leaves it.
+    pub fn into_disk(self) -> D
+        ensures { result ≡ self.store.disk }
+    {
+        self.store.into_disk()
+    }
+}
