@@ -1,11 +1,11 @@
 //! A node's write-ahead log on a disk: one list of bytes on a path of timelines, of which some are flushed, and of those
 //! some are whole records.
 //!
-//! A primary's log appends records and a standby's receives bytes; both flush, read along the path, and leave a timeline:
-//! by following a child of it, or by a promotion. `specs/State.antt` says what a log's state is, `specs/Steps.antt` how any
+//! A primary's log appends records and a standby's receives bytes; both flush, read along the path, tell the histories of
+//! its timelines, and give up what nobody needs. `specs/State.antt` says what a log's state is, `specs/Steps.antt` how any
 //! call ends, and the files beside them what each call refuses, makes of the state, and leaves to a crash. How a state,
-//! the memory and the disk's files hang together stands in `specs/Holding.antt`. After a failure of the disk every call
-//! answers `Broken`, until the log is mounted again. Stands on `repl_store` and `repl_log`.
+//! the memory and the disk's files hang together stands in `specs/Holding.antt`. After a failure of the disk every call but
+//! `identify`, `path` and `into_disk` answers `Broken`, until the log is mounted again. Stands on `repl_store` and `repl_log`.
 //!
 //! ```text
 //! let mut wal = Wal::init(alloc, disk, ident, Role::Primary)?;
