@@ -7,3 +7,5 @@ pub mod Reading
 pub mod Making
 pub mod Keeping
 pub mod Telling
+pub mod Promoting
+pub mod Following

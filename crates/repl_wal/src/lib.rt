@@ -20,6 +20,7 @@ mod flush;
 mod history;
 mod init;
 mod mount;
+mod promote;
 mod read;
 mod receive;
 mod trim;
