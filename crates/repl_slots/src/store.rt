@@ -2,7 +2,7 @@
 ghost use Rattle.std.specs.Prelude.{◌≡◌, ◌⊎◌, Err, OnOk, IfErr};
 ghost use Rattle.repl_disk.specs.Crash.{Elapses, LeavesOnly, NoneNew};
 ghost use Rattle.repl_disk.specs.Folder.{Became, Folder, IfTold, Stayed};
-ghost use Rattle.repl_disk.specs.Replacing.{IsAfter, IsBeforeOrAfter, IsHalfDone, replaced};
+ghost use Rattle.repl_disk.specs.Replacing.{IsAfter, IsBeforeOrAfter, IsHalfDone, IsUntouched, replaced};
 ghost use Rattle.repl_slots.specs.Slot.{AreSlots};
 ghost use Rattle.repl_slots.specs.SlotFile.{entries_of};
 ghost use Rattle.repl_slots.specs.Stored.{IsCaused, Mounted, Saved, Stores, StoresThrough, aside_name, file_of, slots_name};
@@ -58,9 +58,10 @@ impl Slots {
     /// Writes the slots into the file `slots`, but for temporary ones, and from `Ok` on takes their restart positions as
     /// saved. A crash at any moment leaves the file that was there, or the new one. After a disk fault (`DiskFault`) every
     /// further save answers `Broken`, until the slots are mounted again. Takes memory for the file's bytes; where there is
-    /// none, the list stays, and on the disk the old file or the new one stands.
+    /// none, the list stays, and on the disk the old file stands.
     pub fn save<D: Disk>(&mut self, alloc: Global, disk: &mut D) -> Result<(), SlotFault>
         ensures answer { Saved self.old self.new result }
+        ensures idle { result ≡ Err fault.Broken → disk.new ≡ disk.old }
         // A crash at any moment of the call leaves the old file or the new, and no other file but the temporary one changed.
         ensures any_moment { IfTold (D.state disk.old).files (λ folder. LeavesOnly (D.state disk.old) (D.state disk.new)
             (IsBeforeOrAfter (D.state disk.old).may_leave slots_name aside_name (file_of self.old.slots))) }
@@ -74,6 +75,8 @@ impl Slots {
         ensures files { OnOk result (Became (D.state disk.old).files (D.state disk.new).files (λ folder. replaced folder slots_name aside_name (file_of self.old.slots))) }
         // After an error the name has the old file or the new, and no other file but the temporary one changed.
         ensures half_done { IfErr result (λ e. IsHalfDone (D.state disk.old).files (D.state disk.new).files slots_name aside_name (file_of self.old.slots)) }
+        // Where there was no memory, the old file stands.
+        ensures no_memory { result ≡ Err fault.Memory → IfTold (D.state disk.old).files (λ folder. IsUntouched (D.state disk.old) (D.state disk.new) aside_name) }
         ensures caused { IsCaused result (D.state disk.old) (D.state disk.new) }
         ensures keeps { D.keeps disk.old disk.new }
     {
@@ -103,6 +106,7 @@ fn write_slots<D: Disk>(alloc: Global, disk: &mut D, slots: &[Slot]) -> Result<(
         Stores (entries_of slots.now) image)) }
     ensures files { OnOk result (Became (D.state disk.old).files (D.state disk.new).files (λ folder. replaced folder slots_name aside_name (file_of slots.now))) }
     ensures half_done { IfErr result (λ e. IsHalfDone (D.state disk.old).files (D.state disk.new).files slots_name aside_name (file_of slots.now)) }
+    ensures no_memory { result ≡ Err fault.Memory → IfTold (D.state disk.old).files (λ folder. IsUntouched (D.state disk.old) (D.state disk.new) aside_name) }
     ensures caused { IsCaused result (D.state disk.old) (D.state disk.new) }
     ensures keeps { D.keeps disk.old disk.new }
 {
