@@ -22,6 +22,11 @@ drops_removed (Some folder) now size first name is = (put folder name None, is, 
     less : IsLess folder (put folder name None)
     less other = at (bytes_eq other name) (folder other)
 
+-- none of those has the name
+pub drops_none : (told : ToldFiles) (size first : ℕ) (name : List ℕ) → (NamesBelow size name first → ⊥) → Drops told told size first name
+drops_none None size first name not = refl
+drops_none (Some folder) size first name not = (folder, refl, λ other. inl refl, λ below. absurd (not below))
+
 -- of the first names none below is left
 abbrev pub Gone : ToldFiles → ToldFiles → ℕ → ℕ → List (List ℕ) → ℕ → Type 0
 Gone None now size first names index = now ≡ None

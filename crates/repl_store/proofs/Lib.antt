@@ -25,3 +25,5 @@ pub mod Left
 pub mod Freeing
 pub mod Histories
 pub mod Refusals
+pub mod Apart
+pub mod Lending

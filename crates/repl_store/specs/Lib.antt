@@ -7,3 +7,4 @@ pub mod Numbers
 pub mod Creating
 pub mod Raised
 pub mod Leaving
+pub mod Apart

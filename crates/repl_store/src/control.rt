@@ -6,6 +6,7 @@ ghost use Rattle.repl_disk.specs.Crash.{LeavesOnly};
 ghost use Rattle.repl_disk.specs.Folder.{Folder, IfTold, Became};
 ghost use Rattle.repl_disk.specs.Replacing.{IsAfter, IsBeforeOrAfter, IsHalfDone, IsUntouched, replaced};
 ghost use Rattle.repl_disk.specs.declared.disk.DiskError.TheVariants as DiskError;
+ghost use Rattle.repl_store.specs.Apart.{StaysApart};
 ghost use Rattle.repl_store.specs.Durable.{control_name, control_aside};
 
 use repl_control::{Control, write_control};
@@ -29,6 +30,7 @@ pub(crate) fn put_control<D: Disk>(disk: &mut D, control: &Control) -> Result<()
         IsUntouched (D.state disk.old) (D.state disk.new) control_aside) }
     ensures caused { Caused result (D.state disk.old) (D.state disk.new) }
     ensures there { IfTold (D.state disk.old).files (λ folder. NeverMissing result) }
+    ensures apart { StaysApart (D.state disk.old) (D.state disk.new) }
     ensures keeps { D.keeps disk.old disk.new }
 {
     replace_by(disk, CONTROL, CONTROL_ASIDE, &write_control(control))

@@ -5,6 +5,7 @@ ghost use Rattle.repl_control.specs.declared.control.TheConstants.{VERSION_1_SIZ
 ghost use Rattle.repl_disk.specs.Crash.{LeavesOnly};
 ghost use Rattle.repl_disk.specs.Folder.{Folder, IfTold};
 ghost use Rattle.repl_disk.specs.Replacing.{IsBeforeOrAfter};
+ghost use Rattle.repl_store.specs.Apart.{StaysApart};
 ghost use Rattle.repl_store.specs.Backing.{Backs};
 ghost use Rattle.repl_store.specs.Creating.{IsMade, IsMadeOf, IsMaking, IsUnmade, fresh};
 ghost use Rattle.repl_store.specs.Durable.{IsKnown, StandsFor, control_aside, control_name};
@@ -47,6 +48,7 @@ impl<D: Disk> Store<D> {
             (λ e. LeavesOnly (D.state disk) (D.state e.1) (IsMaking (D.state disk).may_leave role ident))) }
         ensures caused { MatchResult result (λ store. IsMadeOf (Ok store) (D.state disk) (D.state store.disk))
             (λ e. IsMadeOf {A = Store D} (Err e.0) (D.state disk) (D.state e.1)) }
+        ensures apart { MatchResult result (λ store. StaysApart (D.state disk) (D.state store.disk)) (λ e. StaysApart (D.state disk) (D.state e.1)) }
         ensures keeps { MatchResult result (λ store. D.keeps disk store.disk) (λ e. D.keeps disk e.1) }
     {
         let mut disk = disk;
@@ -76,6 +78,7 @@ fn make<D: Disk>(disk: &mut D, control: &Control) -> Result<(), StoreFault>
     ensures moments { IfTold (D.state disk.old).files (λ folder. LeavesOnly (D.state disk.old) (D.state disk.new)
         (IsBeforeOrAfter (D.state disk.old).may_leave control_name control_aside (control_bytes control.now))) }
     ensures caused { IsMadeOf result (D.state disk.old) (D.state disk.new) }
+    ensures apart { StaysApart (D.state disk.old) (D.state disk.new) }
     ensures keeps { D.keeps disk.old disk.new }
 {
     match disk.size(CONTROL) {

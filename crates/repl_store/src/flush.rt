@@ -1,6 +1,7 @@
 //! Making certain what was written, and the role of a store.
 ghost use Rattle.std.specs.Prelude.{◌≡◌, ◌≢◌, ◌↔◌, true, false, Err, OnOk, IfErr};
 ghost use Rattle.repl_counts.specs.Counts.{Rose};
+ghost use Rattle.repl_store.specs.Apart.{StaysApart};
 ghost use Rattle.repl_store.specs.Backing.{Backs, Before, Breaks, CanFlush, Comes, Either, IsCaused, State, flushed, flushed_control};
 ghost use Rattle.repl_store.specs.Head.{IsAt, Stands};
 ghost use Rattle.repl_store.specs.Tail.{SyncsAll};
@@ -29,6 +30,7 @@ impl<D: Disk> Store<D> {
         ensures caused { IsCaused result (D.state self.old.disk) (D.state self.new.disk) }
         // Memory is the disk's own.
         ensures wants { result ≡ Err StoreFault.Memory → Rose (D.state self.old.disk).wants (D.state self.new.disk).wants }
+        ensures apart { StaysApart (D.state self.old.disk) (D.state self.new.disk) }
         ensures keeps { D.keeps self.old.disk self.new.disk }
         ensures comes { (s : State) → Backs (D.state self.old.disk) self.old.head s →
             Comes result (D.state self.old.disk) (D.state self.new.disk) self.new.head
@@ -50,6 +52,7 @@ impl<D: Disk> Store<D> {
         ensures caused { IsCaused result (D.state self.old.disk) (D.state self.new.disk) }
         // Memory is the disk's own.
         ensures wants { result ≡ Err StoreFault.Memory → Rose (D.state self.old.disk).wants (D.state self.new.disk).wants }
+        ensures apart { StaysApart (D.state self.old.disk) (D.state self.new.disk) }
         ensures keeps { D.keeps self.old.disk self.new.disk }
         ensures comes { (s : State) → Backs (D.state self.old.disk) self.old.head s →
             Comes result (D.state self.old.disk) (D.state self.new.disk) self.new.head
@@ -78,6 +81,7 @@ fn make_certain<D: Disk>(
     ensures caused { IsCaused result (D.state disk.old) (D.state disk.new) }
     ensures unbroken { result ≢ Err StoreFault.Broken }
     ensures wants { result ≡ Err StoreFault.Memory → Rose (D.state disk.old).wants (D.state disk.new).wants }
+    ensures apart { StaysApart (D.state disk.old) (D.state disk.new) }
     ensures keeps { D.keeps disk.old disk.new }
     ensures comes { (s : State) → Backs (D.state disk.old) head.old s →
         Comes result (D.state disk.old) (D.state disk.new) head.new
@@ -107,6 +111,7 @@ fn renew<D: Disk>(disk: &mut D, head: &mut Head, control: Control) -> Result<(),
     ensures caused { IsCaused result (D.state disk.old) (D.state disk.new) }
     ensures unbroken { result ≢ Err StoreFault.Broken }
     ensures wants { result ≡ Err StoreFault.Memory → Rose (D.state disk.old).wants (D.state disk.new).wants }
+    ensures apart { StaysApart (D.state disk.old) (D.state disk.new) }
     ensures keeps { D.keeps disk.old disk.new }
     ensures comes { (s : State) → Backs (D.state disk.old) head.old s →
         Comes result (D.state disk.old) (D.state disk.new) head.new
@@ -129,6 +134,7 @@ pub(crate) fn sync_tail<D: Disk>(disk: &mut D, head: &mut Head) -> Result<(), St
     ensures caused { IsCaused result (D.state disk.old) (D.state disk.new) }
     ensures unbroken { result ≢ Err StoreFault.Broken }
     ensures wants { result ≡ Err StoreFault.Memory → Rose (D.state disk.old).wants (D.state disk.new).wants }
+    ensures apart { StaysApart (D.state disk.old) (D.state disk.new) }
     ensures keeps { D.keeps disk.old disk.new }
     ensures comes { (s : State) → Backs (D.state disk.old) head.old s →
         Comes result (D.state disk.old) (D.state disk.new) head.new (Before s) s (λ t. t ≡ s) }

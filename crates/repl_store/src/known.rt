@@ -1,6 +1,7 @@
 //! Which timelines a store has heard of.
 ghost use Rattle.std.specs.Prelude.{◌≡◌, ◌↔◌, ◌∷◌, [], map, string_bytes, true, Err, IfOk, IfErr};
 ghost use Rattle.repl_disk.specs.Folder.{IfTold};
+ghost use Rattle.repl_store.specs.Apart.{StaysApart};
 ghost use Rattle.repl_store.specs.Backing.{Asks, Backs, Before, Breaks, Comes, IsCaused, State};
 ghost use Rattle.repl_store.specs.Durable.{IsKnown};
 ghost use Rattle.repl_store.specs.Refusal.{IsOfDisk};
@@ -22,6 +23,7 @@ impl<D: Disk> Store<D> {
         ensures head { self.new.head ≡ self.old.head }
         ensures known { IfOk result (λ known. IfTold (D.state self.old.disk).files (λ folder. IsKnown folder self.old.head.control.tli known)) }
         ensures caused { IsCaused result (D.state self.old.disk) (D.state self.new.disk) }
+        ensures apart { StaysApart (D.state self.old.disk) (D.state self.new.disk) }
         ensures keeps { D.keeps self.old.disk self.new.disk }
         ensures of_state { (s : State) → Backs (D.state self.old.disk) self.old.head s → IfOk result (λ known. known ≡ s.durable.known) }
         ensures comes { (s : State) → Backs (D.state self.old.disk) self.old.head s →

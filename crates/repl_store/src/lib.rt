@@ -32,7 +32,7 @@ mod switch;
 mod write;
 
 pub use fault::StoreFault;
-pub use laws::{one_durable, one_known, one_refusal_of_files, stands_unrefused};
+pub use laws::{one_durable, one_known, one_refusal_of_files, others_apart, stands_unrefused};
 pub use repl_control::{Control, Role};
 pub use segments::{history_file, segment_file};
 pub use store::{Store, StoreStatus};

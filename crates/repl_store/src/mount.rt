@@ -4,6 +4,7 @@ ghost use Rattle.repl_control.specs.Control.{FitsFields, IsControl};
 ghost use Rattle.repl_control.specs.declared.control.TheConstants.{VERSION_1_SIZE};
 ghost use Rattle.repl_disk.specs.Folder.{Folder, IfTold};
 ghost use Rattle.repl_lsn.specs.Between.{AreBetween};
+ghost use Rattle.repl_store.specs.Apart.{StaysApart};
 ghost use Rattle.repl_store.specs.Backing.{Asks, Backs, OnlyReads};
 ghost use Rattle.repl_store.specs.Durable.{Durable, HasPath, StandsFor, control_name};
 ghost use Rattle.repl_store.specs.Head.{IsMounted};
@@ -42,6 +43,7 @@ impl<D: Disk> Store<D> {
         ensures refused { IfErr result (λ e. IfTold (D.state disk).files (λ folder. IsRefusal VERSION_1_SIZE folder e.0)) }
         ensures answers { IfErr result (λ e. IsOfMount e.0) }
         ensures asks { MatchResult result (λ store. Asks (Ok store) (D.state disk) (D.state store.disk)) (λ e. Asks {A = Store D} (Err e.0) (D.state disk) (D.state e.1)) }
+        ensures apart { MatchResult result (λ store. StaysApart (D.state disk) (D.state store.disk)) (λ e. StaysApart (D.state disk) (D.state e.1)) }
         ensures keeps { MatchResult result (λ store. D.keeps disk store.disk) (λ e. D.keeps disk e.1) }
     {
         let mut disk = disk;

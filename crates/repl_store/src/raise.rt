@@ -1,6 +1,7 @@
 //! Raising the floor: segments below it go.
 ghost use Rattle.std.specs.Prelude.{◌≡◌, ◌≢◌, ◌↔◌, ◌⊎◌, ◌/◌, ◌<◌, IsTrue, true, Err, OnOk, IfErr};
 ghost use Rattle.repl_disk.specs.Folder.{IfTold};
+ghost use Rattle.repl_store.specs.Apart.{StaysApart};
 ghost use Rattle.repl_store.specs.Backing.{Backs, Before, Breaks, CanRaise, Comes, Either, IsCaused, State, raised, raised_control};
 ghost use Rattle.repl_store.specs.Head.{IsAt, Stands};
 ghost use Rattle.repl_store.specs.Raised.{Drops, IsFree, NamesBelow, raised_head, raised_state};
@@ -26,6 +27,7 @@ impl<D: Disk> Store<D> {
         ensures stays { IfErr result (λ e. (self.new.head ≡ self.old.head) ⊎ ((result ≡ Err StoreFault.Memory)
             × Stands self.new.head self.old.head.size (raised_control self.old.head.control floor) self.old.head.path self.old.head.written)) }
         ensures caused { IsCaused result (D.state self.old.disk) (D.state self.new.disk) }
+        ensures apart { StaysApart (D.state self.old.disk) (D.state self.new.disk) }
         ensures keeps { D.keeps self.old.disk self.new.disk }
         // No file of a segment below the floor is left, of any timeline.
         ensures removed { OnOk result (IfTold (D.state self.new.disk).files (IsFree self.old.head.size (floor / self.old.head.size))) }
@@ -50,6 +52,7 @@ fn raise<D: Disk>(disk: &mut D, head: &mut Head, floor: Lsn) -> Result<(), Store
     ensures stays { IfErr result (λ e. (head.new ≡ head.old) ⊎ ((result ≡ Err StoreFault.Memory) × (head.new ≡ raised_head head.old floor))) }
     ensures caused { IsCaused result (D.state disk.old) (D.state disk.new) }
     ensures unbroken { result ≢ Err StoreFault.Broken }
+    ensures apart { StaysApart (D.state disk.old) (D.state disk.new) }
     ensures keeps { D.keeps disk.old disk.new }
     ensures removed { OnOk result (IfTold (D.state disk.new).files (IsFree head.old.size (floor / head.old.size))) }
     ensures comes { (s : State) → Backs (D.state disk.old) head.old s →
@@ -75,6 +78,7 @@ fn put_floor<D: Disk>(disk: &mut D, head: &mut Head, floor: Lsn) -> Result<(), S
     ensures stays { IfErr result (λ e. head.new ≡ head.old) }
     ensures caused { IsCaused result (D.state disk.old) (D.state disk.new) }
     ensures unbroken { result ≢ Err StoreFault.Broken }
+    ensures apart { StaysApart (D.state disk.old) (D.state disk.new) }
     ensures keeps { D.keeps disk.old disk.new }
     ensures comes { (s : State) → Backs (D.state disk.old) head.old s →
         Comes result (D.state disk.old) (D.state disk.new) head.new (Either s.durable (raised s.durable floor))
@@ -97,6 +101,7 @@ fn put_floor<D: Disk>(disk: &mut D, head: &mut Head, floor: Lsn) -> Result<(), S
 fn remove_below<D: Disk>(disk: &mut D, head: &Head) -> Result<(), StoreFault>
     ensures caused { IsCaused result (D.state disk.old) (D.state disk.new) }
     ensures unbroken { result ≢ Err StoreFault.Broken }
+    ensures apart { StaysApart (D.state disk.old) (D.state disk.new) }
     ensures keeps { D.keeps disk.old disk.new }
     ensures removed { OnOk result (IfTold (D.state disk.new).files (IsFree head.now.size (head.now.control.floor / head.now.size))) }
     ensures comes { (s : State) → Backs (D.state disk.old) head.now s →
@@ -116,6 +121,7 @@ fn remove_below<D: Disk>(disk: &mut D, head: &Head) -> Result<(), StoreFault>
 fn remove_if_below<D: Disk>(disk: &mut D, head: &Head, name: &str) -> Result<(), StoreFault>
     ensures caused { IsCaused result (D.state disk.old) (D.state disk.new) }
     ensures unbroken { result ≢ Err StoreFault.Broken }
+    ensures apart { StaysApart (D.state disk.old) (D.state disk.new) }
     ensures keeps { D.keeps disk.old disk.new }
     ensures drops { OnOk result (Drops (D.state disk.old).files (D.state disk.new).files head.now.size (head.now.control.floor / head.now.size) name.now) }
     ensures comes { (s : State) → Backs (D.state disk.old) head.now s →

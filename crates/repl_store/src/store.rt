@@ -80,12 +80,19 @@ impl<D: Disk> Store<D> {
     }
 
     /// The disk. What the borrower leaves is the store's disk; the rest of the store stays. A store goes on with its files
-    /// where, at every moment, all names but `slots` and `slots.tmp` stay as they were.
+    /// where, at every moment, all names but `slots` and `slots.tmp` stay as they were: `others_apart` is that law.
     pub fn disk_mut(&mut self) -> &mut D
         ensures value { result.now ≡ self.old.disk }
         ensures* writes_back { sem 𝓛 (Lends (the_row D.row D.Disk) D.row self.entry result (with_disk self.old)) }
     {
         &mut self.disk
+    }
+
+    /// The disk, to be looked at.
+    pub fn disk(&self) -> &D
+        ensures { result.now ≡ self.now.disk }
+    {
+        &self.disk
     }
 
     /// The disk, as the store leaves it.

@@ -6,6 +6,7 @@ ghost use Rattle.repl_disk.specs.Folder.{Folder, IfTold};
 ghost use Rattle.repl_disk.specs.Replacing.{IsAside};
 ghost use Rattle.repl_lsn.specs.History.{IsPath, canonical, last_switch};
 ghost use Rattle.repl_lsn.specs.declared.history.TheConstants.{HISTORY_LIMIT};
+ghost use Rattle.repl_store.specs.Apart.{IsApart, StaysApart};
 ghost use Rattle.repl_store.specs.Backing.{Backs, Before, Breaks, CanSwitch, Comes, Either, IsCaused, State, heard, switched, switched_control};
 ghost use Rattle.repl_store.specs.Head.{IsAt, IsHead, Stands};
 ghost use Rattle.repl_store.specs.Leaving.{HasStart, IsFront, SaysIn, first_file, heard_state, switched_head, switched_state};
@@ -41,6 +42,7 @@ impl<D: Disk> Store<D> {
         ensures ok { OnOk result (Stands self.new.head self.old.head.size (switched_control self.old.head.control child.now role whole prev) child.now (last_switch child.now.parents)) }
         ensures stays { IfErr result (λ e. IsAt self.old.head self.new.head self.old.head.written) }
         ensures caused { IsCaused result (D.state self.old.disk) (D.state self.new.disk) }
+        ensures apart { StaysApart (D.state self.old.disk) (D.state self.new.disk) }
         ensures keeps { D.keeps self.old.disk self.new.disk }
         // A crash leaves the store as it was, or that with the new timeline's number known, or the new one.
         ensures comes { (s : State) → Backs (D.state self.old.disk) self.old.head s →
@@ -91,6 +93,7 @@ fn leave<D: Disk>(
     ensures stays { IfErr result (λ e. head.new ≡ head.old) }
     ensures caused { IsCaused result (D.state disk.old) (D.state disk.new) }
     ensures unbroken { result ≢ Err StoreFault.Broken }
+    ensures apart { StaysApart (D.state disk.old) (D.state disk.new) }
     ensures keeps { D.keeps disk.old disk.new }
     ensures comes { (s : State) → Backs (D.state disk.old) head.old s →
         Comes result (D.state disk.old) (D.state disk.new) head.new
@@ -125,6 +128,7 @@ fn hear<D: Disk>(
     requires short { length (canonical child.now) ≤ HISTORY_LIMIT }
     ensures caused { IsCaused result (D.state disk.old) (D.state disk.new) }
     ensures unbroken { result ≢ Err StoreFault.Broken }
+    ensures apart { StaysApart (D.state disk.old) (D.state disk.new) }
     ensures keeps { D.keeps disk.old disk.new }
     ensures said { (s : State) → Backs (D.state disk.old) head.now s → OnOk result (SaysIn (D.state disk.new) child.now) }
     ensures comes { (s : State) → Backs (D.state disk.old) head.now s →
@@ -158,6 +162,7 @@ fn begin<D: Disk>(
     requires flushed { switch ≤ head.now.control.flushed }
     ensures caused { IsCaused result (D.state disk.old) (D.state disk.new) }
     ensures unbroken { result ≢ Err StoreFault.Broken }
+    ensures apart { StaysApart (D.state disk.old) (D.state disk.new) }
     ensures keeps { D.keeps disk.old disk.new }
     ensures said { (s : State) → Backs (D.state disk.old) head.now s → SaysIn (D.state disk.old) child.now → OnOk result (SaysIn (D.state disk.new) child.now) }
     ensures begun { (s : State) → Backs (D.state disk.old) head.now s → OnOk result (HasStart (D.state disk.new) head.now child.now s) }
@@ -190,6 +195,7 @@ fn put_first<D: Disk>(
     requires flushed { last_switch child.now.parents ≤ head.now.control.flushed }
     ensures caused { IsCaused result (D.state disk.old) (D.state disk.new) }
     ensures unbroken { result ≢ Err StoreFault.Broken }
+    ensures apart { StaysApart (D.state disk.old) (D.state disk.new) }
     ensures keeps { D.keeps disk.old disk.new }
     ensures said { (s : State) → Backs (D.state disk.old) head.now s → SaysIn (D.state disk.old) child.now → OnOk result (SaysIn (D.state disk.new) child.now) }
     ensures front { (s : State) → Backs (D.state disk.old) head.now s → OnOk result (IsFront (D.state disk.new) name.now bytes.now) }
@@ -210,6 +216,7 @@ fn write_and_sync<D: Disk>(disk: &mut D, name: &str, bytes: &[u8]) -> Result<(),
     ensures front { OnOk result (IfTold (D.state disk.old).files (λ folder. IsFront (D.state disk.new) name.now bytes.now)) }
     ensures caused { Caused result (D.state disk.old) (D.state disk.new) }
     ensures there { IfTold (D.state disk.old).files (λ folder. NeverMissing result) }
+    ensures apart { (IsApart name.now → ⊥) → StaysApart (D.state disk.old) (D.state disk.new) }
     ensures keeps { D.keeps disk.old disk.new }
 {
     disk.write_at(name, 0, bytes)?;
@@ -231,6 +238,7 @@ fn turn<D: Disk>(
     ensures stays { IfErr result (λ e. head.new ≡ head.old) }
     ensures caused { IsCaused result (D.state disk.old) (D.state disk.new) }
     ensures unbroken { result ≢ Err StoreFault.Broken }
+    ensures apart { StaysApart (D.state disk.old) (D.state disk.new) }
     ensures keeps { D.keeps disk.old disk.new }
     ensures comes { (s : State) → Backs (D.state disk.old) head.old s → SaysIn (D.state disk.old) history →
         HasStart (D.state disk.old) head.old history s → history.own ≤ s.durable.known →

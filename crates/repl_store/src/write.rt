@@ -1,5 +1,6 @@
 //! Appending bytes behind the written end.
 ghost use Rattle.std.specs.Prelude.{◌≡◌, ◌≢◌, ◌≤◌, ◌+◌, ◌%◌, ◌^◌, ◌↔◌, length, true, Err, OnOk, IfErr};
+ghost use Rattle.repl_store.specs.Apart.{StaysApart};
 ghost use Rattle.repl_store.specs.Backing.{Backs, Before, Breaks, Comes, IsCaused, State, appended};
 ghost use Rattle.repl_store.specs.Head.{IsAt};
 ghost use Rattle.repl_store.specs.Tail.{Grows, IsReady, KeepsEnds, SomeAppended};
@@ -26,6 +27,7 @@ impl<D: Disk> Store<D> {
         ensures ok { OnOk result (IsAt self.old.head self.new.head (self.old.head.written + length bytes.now)) }
         ensures stays { IfErr result (λ e. IsAt self.old.head self.new.head self.old.head.written) }
         ensures caused { IsCaused result (D.state self.old.disk) (D.state self.new.disk) }
+        ensures apart { StaysApart (D.state self.old.disk) (D.state self.new.disk) }
         ensures keeps { D.keeps self.old.disk self.new.disk }
         ensures comes { (s : State) → Backs (D.state self.old.disk) self.old.head s →
             Comes result (D.state self.old.disk) (D.state self.new.disk) self.new.head (Before s) (appended s bytes.now) (λ t. t ≡ s) }
@@ -50,6 +52,7 @@ fn write_or_none<D: Disk>(
     ensures stays { IfErr result (λ e. IsAt head.old head.new head.old.written) }
     ensures caused { IsCaused result (D.state disk.old) (D.state disk.new) }
     ensures unbroken { result ≢ Err StoreFault.Broken }
+    ensures apart { StaysApart (D.state disk.old) (D.state disk.new) }
     ensures keeps { D.keeps disk.old disk.new }
     ensures comes { (s : State) → Backs (D.state disk.old) head.old s →
         Comes result (D.state disk.old) (D.state disk.new) head.new (Before s) (appended s bytes.now) (λ t. t ≡ s) }
@@ -76,6 +79,7 @@ fn write_pieces<D: Disk>(
     ensures some { IfErr result (λ e. IsAt head.old head.new head.new.written × (head.old.written ≤ head.new.written)) }
     ensures caused { IsCaused result (D.state disk.old) (D.state disk.new) }
     ensures unbroken { result ≢ Err StoreFault.Broken }
+    ensures apart { StaysApart (D.state disk.old) (D.state disk.new) }
     ensures keeps { D.keeps disk.old disk.new }
     ensures comes { (s : State) → Backs (D.state disk.old) head.old s →
         Comes result (D.state disk.old) (D.state disk.new) head.new (Before s) (appended s bytes.now) (SomeAppended s) }
@@ -102,6 +106,7 @@ fn write_piece<D: Disk>(
     ensures stays { IfErr result (λ e. IsAt head.old head.new head.old.written) }
     ensures caused { IsCaused result (D.state disk.old) (D.state disk.new) }
     ensures unbroken { result ≢ Err StoreFault.Broken }
+    ensures apart { StaysApart (D.state disk.old) (D.state disk.new) }
     ensures keeps { D.keeps disk.old disk.new }
     ensures comes { (s : State) → Backs (D.state disk.old) head.old s →
         Comes result (D.state disk.old) (D.state disk.new) head.new (Before s) (appended s piece.now) (λ t. t ≡ s) }
@@ -117,6 +122,7 @@ fn sync_full<D: Disk>(disk: &mut D, head: &mut Head) -> Result<(), StoreFault>
     ensures ok { OnOk result (head.new.written % head.new.size ≡ 0 → head.new.synced ≡ head.new.written) }
     ensures caused { IsCaused result (D.state disk.old) (D.state disk.new) }
     ensures unbroken { result ≢ Err StoreFault.Broken }
+    ensures apart { StaysApart (D.state disk.old) (D.state disk.new) }
     ensures keeps { D.keeps disk.old disk.new }
     ensures comes { (s : State) → Backs (D.state disk.old) head.old s →
         Comes result (D.state disk.old) (D.state disk.new) head.new (Before s) s (λ t. t ≡ s) }
@@ -151,6 +157,7 @@ fn append<D: Disk>(disk: &mut D, head: &mut Head, piece: &[u8]) -> Result<(), St
     ensures stays { IfErr result (λ e. head.new ≡ head.old) }
     ensures caused { IsCaused result (D.state disk.old) (D.state disk.new) }
     ensures unbroken { result ≢ Err StoreFault.Broken }
+    ensures apart { StaysApart (D.state disk.old) (D.state disk.new) }
     ensures keeps { D.keeps disk.old disk.new }
     ensures comes { (s : State) → Backs (D.state disk.old) head.old s →
         Comes result (D.state disk.old) (D.state disk.new) head.new (Before s) (appended s piece.now) (λ t. t ≡ s) }

@@ -3,6 +3,7 @@ use Rattle.std.proofs.Common.{rules, ◌≡◌, Err, refl, sym, inl, subst}
 use Rattle.repl_store.specs.Backing.{Backs, Before, Either, State, flushed, flushed_control}
 use Rattle.repl_store.specs.Head.{Head}
 use Rattle.repl_store.specs.declared.fault.StoreFault.{StoreFault}
+use Rattle.repl_store.proofs.Apart.{apart_on}
 use Rattle.repl_store.proofs.Chaining.{comes_after, moments_more, refused_on}
 use Rattle.repl_store.proofs.Controls.{not_same, same_by_test}
 use Rattle.repl_store.proofs.Pieces.{idle}
@@ -55,3 +56,9 @@ returns-clause-comes g c = λ s backs.
     c.renew.new.head (Either s.durable done.durable) done (λ t. t ≡ s)
     (moments_more (state c.args.disk.now) (state c.sync_tail.new.disk) c.sync_tail.new.head.size (Before s)
     (Either s.durable done.durable) (λ d is. inl is) first.moments) (search rules) c.in_ok-sync_tail.ensures.caused.ok.0 last
+
+pub returns-clause-apart : goal.returns-clause-apart
+returns-clause-apart g c =
+    let state = g.D.Disk.state in
+    apart_on (state c.args.disk.now) (state c.sync_tail.new.disk) (state c.renew.new.disk) c.in_ok-sync_tail.ensures.apart
+    c.renew.ensures.apart

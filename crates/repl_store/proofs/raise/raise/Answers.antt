@@ -5,6 +5,7 @@ use Rattle.repl_store.specs.Head.{Head}
 use Rattle.repl_store.specs.Raised.{raised_head, raised_state}
 use Rattle.repl_store.specs.declared.fault.StoreFault.{StoreFault}
 use Rattle.repl_store.specs.declared.fault.StoreFault.TheVariants as fault
+use Rattle.repl_store.proofs.Apart.{apart_on}
 use Rattle.repl_store.proofs.Chaining.{refused_on}
 use Rattle.repl_store.proofs.Raising.{failed_as, removal_comes}
 use Rattle.repl_store.proofs.raise.raise.Goals as goal
@@ -42,7 +43,7 @@ returns-in-Err g c =
     let v = c.head.view_is in
     let later : c.put_floor.new.head ≡ raised_head c.args.head.now c.args.floor = search rules in
     let e = c.head-2.view_is ∙ later in
-    let apart : c.in-Err.fault ≡ fault.Memory → ⊥ = search rules in
+    let differs : c.in-Err.fault ≡ fault.Memory → ⊥ = search rules in
     record {
       ok = tt;
       stays = inl (λ i. record {
@@ -55,11 +56,25 @@ returns-in-Err g c =
       });
       caused = search rules;
       unbroken = search rules;
+      apart = apart_on (state c.args.disk.now) (state c.put_floor.new.disk) (state c.remove_below.new.disk) c.in_ok-put_floor.ensures.apart
+          c.remove_below.ensures.apart;
       keeps = search rules;
       removed = tt;
       comes = λ s backs.
-          failed_as c.in-Err.fault (state c.args.disk.now) (state c.remove_below.new.disk) c.put_floor.new.head _ _ _ _ apart
+          failed_as c.in-Err.fault (state c.args.disk.now) (state c.remove_below.new.disk) c.put_floor.new.head _ _ _ _ differs
           (ap (λ (h : Head). h.size) c.head-2.view_is)
           (removal_comes _ (state c.args.disk.now) (state c.put_floor.new.disk) (state c.remove_below.new.disk) c.put_floor.new.head s
           c.args.floor (c.in_ok-put_floor.ensures.comes s backs) c.in_ok-put_floor.ensures.caused.ok.0 c.in-Err.ensures.comes);
     }
+
+pub returns-in-Ok-clause-apart : goal.returns-in-Ok-clause-apart
+returns-in-Ok-clause-apart g c =
+    let state = g.D.Disk.state in
+    apart_on (state c.args.disk.now) (state c.put_floor.new.disk) (state c.remove_below.new.disk) c.in_ok-put_floor.ensures.apart
+    c.remove_below.ensures.apart
+
+pub returns-in-Err-Memory-clause-apart : goal.returns-in-Err-Memory-clause-apart
+returns-in-Err-Memory-clause-apart g c =
+    let state = g.D.Disk.state in
+    apart_on (state c.args.disk.now) (state c.put_floor.new.disk) (state c.remove_below.new.disk) c.in_ok-put_floor.ensures.apart
+    c.remove_below.ensures.apart

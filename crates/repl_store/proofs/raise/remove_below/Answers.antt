@@ -2,6 +2,7 @@
 use Rattle.std.proofs.Common.{rules, ◌≡◌, ◌/◌, ◌≤◌, ℕ, List, [], map, get_or, string_bytes, String, Global, arith, length, Result, Err, refl, ap, subst, sym, ◌∙◌}
 use Rattle.repl_store.specs.Backing.{Before, Comes}
 use Rattle.repl_store.specs.declared.fault.StoreFault.{StoreFault}
+use Rattle.repl_store.proofs.Apart.{apart_on, apart_query}
 use Rattle.repl_store.proofs.Chaining.{comes_after}
 use Rattle.repl_disk.specs.Moments.{joined, weakened}
 use Rattle.repl_store.proofs.Turns.{done_comes}
@@ -47,6 +48,8 @@ loop-name-preserved g c =
           (head.control.floor / head.size) (map string_bytes c.deref-name-items.result.now) c.loop-name.name-index c.loop-name.invariant.4
           (let P : List ℕ → Type 0 = λ n. Drops (state c.loop-name.disk).files (state c.remove_if_below.new.disk).files head.size
           (head.control.floor / head.size) n in subst P item_is c.in_ok-remove_if_below.ensures.drops),
+      apart_on (state c.args.disk.now) (state c.loop-name.disk) (state c.remove_if_below.new.disk) c.loop-name.invariant.5
+          c.in_ok-remove_if_below.ensures.apart,
     )
 
 pub returns-clause-comes : goal.returns-clause-comes
@@ -71,6 +74,8 @@ loop-name-init g c =
           ),
       gone_none (state c.args.disk.now).files (state c.names.new.self).files head.size (head.control.floor / head.size)
           (map string_bytes c.deref-name-items.result.now) c.names.ensures.files,
+      apart_query (state c.args.disk.now) (state c.names.new.self) (g.met.D.Disk.only_now c.args.disk.now) c.names.ensures.files
+          c.names.ensures.crash c.names.ensures.ends.time,
     )
 
 pub returns-clause-removed : goal.returns-clause-removed
@@ -83,3 +88,9 @@ returns-clause-removed g c =
     let are = subst P (sym c.deref-name-items.ensures.value) c.in-Ok.ensures.names in
     gone_free (state c.args.disk.now).files (state c.loop-name.disk).files head.size (head.control.floor / head.size) names c.loop-name.name-index
     all c.loop-name.invariant.4 are
+
+pub returns-in_err-remove_if_below-clause-apart : goal.returns-in_err-remove_if_below-clause-apart
+returns-in_err-remove_if_below-clause-apart g c =
+    let state = g.D.Disk.state in
+    apart_on (state c.args.disk.now) (state c.loop-name.disk) (state c.remove_if_below.new.disk) c.loop-name.invariant.5
+    c.remove_if_below.ensures.apart

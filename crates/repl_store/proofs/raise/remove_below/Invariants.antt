@@ -2,6 +2,7 @@
 use Rattle.std.proofs.Common.{◌/◌, map, string_bytes}
 use Rattle.repl_store.proofs.Freeing.{Gone}
 use Rattle.repl_counts.specs.Counts.{Stood}
+use Rattle.repl_store.specs.Apart.{StaysApart}
 use Rattle.repl_store.specs.Backing.{Backs, Before, LeavesOne, State}
 use Rattle.repl_store.proofs.raise.remove_below.Given as goal
 
@@ -14,3 +15,4 @@ invariant-loop-name g l =
     → LeavesOne (g.D.Disk.state l.fn.disk) (g.D.Disk.state l.disk) l.fn.head.size (Before s) × Backs (g.D.Disk.state l.disk) l.fn.head s)
     × Gone (g.D.Disk.state l.fn.disk).files (g.D.Disk.state l.disk).files l.fn.head.size (l.fn.head.control.floor / l.fn.head.size)
     (map string_bytes l.name-items) l.name-index
+    × StaysApart (g.D.Disk.state l.fn.disk) (g.D.Disk.state l.disk)

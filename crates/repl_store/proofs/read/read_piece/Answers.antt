@@ -4,6 +4,7 @@ use Rattle.repl_disk.specs.Answers.{OnlyWhereThere}
 use Rattle.repl_store.specs.Backing.{Reads}
 use Rattle.repl_store.specs.declared.fault.StoreFault.{StoreFault}
 use Rattle.repl_store.specs.Durable.{segment_file}
+use Rattle.repl_store.proofs.Apart.{apart_query}
 use Rattle.repl_store.proofs.Reading.{only_old, reads_ok, not_short, reads_err}
 use Rattle.repl_store.proofs.read.read_piece.Goals as goal
 
@@ -41,3 +42,18 @@ returns-clause-reads g c s backs =
     subst Goal (sym c.fault_of.ensures) (reads_err old new head s c.args.at c.args.room.now c.read_at.new.room backs c.read_at.ensures.files only c.read_at.ensures.crash
     c.requires.some c.requires.floor c.requires.end c.requires.inside c.deref.result.now c.place_in_segment-place.result named
     c.place_in_segment-place.ensures c.in-Err.error there c.in-Err.ensures.ends)
+
+pub returns-in-Ok-clause-apart : goal.returns-in-Ok-clause-apart
+returns-in-Ok-clause-apart g c =
+    apart_query (g.D.Disk.state c.args.disk.now) (g.D.Disk.state c.read_at.new.self) (g.met.D.Disk.only_now c.args.disk.now)
+    c.read_at.ensures.files c.read_at.ensures.crash c.read_at.ensures.ends.time
+
+pub returns-in-Ok-2-clause-apart : goal.returns-in-Ok-2-clause-apart
+returns-in-Ok-2-clause-apart g c =
+    apart_query (g.D.Disk.state c.args.disk.now) (g.D.Disk.state c.read_at.new.self) (g.met.D.Disk.only_now c.args.disk.now)
+    c.read_at.ensures.files c.read_at.ensures.crash c.read_at.ensures.ends.time
+
+pub returns-clause-apart : goal.returns-clause-apart
+returns-clause-apart g c =
+    apart_query (g.D.Disk.state c.args.disk.now) (g.D.Disk.state c.read_at.new.self) (g.met.D.Disk.only_now c.args.disk.now)
+    c.read_at.ensures.files c.read_at.ensures.crash c.read_at.ensures.ends.time

@@ -6,6 +6,7 @@ use Rattle.repl_store.specs.Backing.{Before, Comes}
 use Rattle.repl_store.specs.Leaving.{first_file}
 use Rattle.repl_store.specs.declared.fault.StoreFault.{StoreFault}
 use Rattle.repl_store.specs.declared.fault.StoreFault.TheVariants as fault
+use Rattle.repl_store.proofs.Apart.{apart_on}
 use Rattle.repl_store.proofs.Chaining.{comes_after, wanted_comes}
 use Rattle.repl_store.proofs.Reading.{read_comes}
 use Rattle.repl_store.proofs.Starting.{caused_after, started, where_ok}
@@ -65,3 +66,9 @@ returns-clause-comes g c = λ s backs.
     let first = read_comes {A = Unit {0}} (Ok tt) (state c.args.disk.now) (state c.read_range.new.disk) head s _ _ _ backs reads in
     comes_after c.put_first.result (state c.args.disk.now) (state c.read_range.new.disk) (state c.put_first.new.disk) head head (Before s) s
     (λ t. t ≡ s) first.moments refl c.in_ok-read_range.ensures.caused.ok.0 (c.put_first.ensures.comes s reads.backs)
+
+pub returns-clause-apart : goal.returns-clause-apart
+returns-clause-apart g c =
+    let state = g.D.Disk.state in
+    apart_on (state c.args.disk.now) (state c.read_range.new.disk) (state c.put_first.new.disk) c.read_range.ensures.apart
+    c.put_first.ensures.apart

@@ -6,6 +6,7 @@ use Rattle.repl_store.specs.Head.{Head, IsHead}
 use Rattle.repl_store.specs.Leaving.{HasStart, SaysIn, heard_state, switched_state}
 use Rattle.repl_store.specs.declared.fault.StoreFault.{StoreFault}
 use Rattle.repl_store.specs.declared.fault.StoreFault.TheVariants as fault
+use Rattle.repl_store.proofs.Apart.{apart_on}
 use Rattle.repl_store.proofs.Chaining.{moments_more, wanted_comes}
 use Rattle.repl_store.proofs.Pieces.{idle}
 use Rattle.repl_store.proofs.Switching.{child_above}
@@ -82,3 +83,15 @@ returns-clause-comes g c = λ s backs.
     turned_comes c.turn.result (state c.args.disk.now) (state c.hear.new.disk) (state c.begin.new.disk) (state c.turn.new.disk)
     c.args.head.now c.turn.new.head s c.args.child.now c.args.role c.args.whole c.args.prev size first c.in_ok-hear.ensures.caused.ok.0
     next c.in_ok-begin.ensures.caused.ok.0 last
+
+pub returns-in_err-begin-clause-apart : goal.returns-in_err-begin-clause-apart
+returns-in_err-begin-clause-apart g c =
+    let state = g.D.Disk.state in
+    apart_on (state c.args.disk.now) (state c.hear.new.disk) (state c.begin.new.disk) c.hear.ensures.apart c.begin.ensures.apart
+
+pub returns-clause-apart : goal.returns-clause-apart
+returns-clause-apart g c =
+    let state = g.D.Disk.state in
+    apart_on (state c.args.disk.now) (state c.begin.new.disk) (state c.turn.new.disk)
+    (apart_on (state c.args.disk.now) (state c.hear.new.disk) (state c.begin.new.disk) c.hear.ensures.apart c.begin.ensures.apart)
+    c.turn.ensures.apart

@@ -1,8 +1,10 @@
 -- The file is none of the store's path.
-use Rattle.std.proofs.Common.{◌≡◌, ℕ, List, Some, subst}
+use Rattle.std.proofs.Common.{◌≡◌, ◌/◌, ℕ, List, Some, subst}
 use Rattle.repl_disk.specs.Crash.{LeavesOnly}
 use Rattle.repl_disk.specs.Folder.{Folder, IfTold}
 use Rattle.repl_disk.specs.Replacing.{IsAside}
+use Rattle.repl_lsn.specs.History.{last_switch}
+use Rattle.repl_store.proofs.Apart.{file_is_own}
 use Rattle.repl_store.proofs.Switching.{beside_done, beside_refused, beside_said}
 use Rattle.repl_store.proofs.switch.put_first.Goals as goal
 
@@ -54,3 +56,17 @@ returns-in-Err-clause-comes g c = λ s backs.
     beside_refused head c.requires.held child c.requires.path c.requires.below.0 c.requires.below.1 c.requires.flushed old s backs new
     moments now files c.in-Err.error c.fault_of.result c.fault_of.ensures
     c.in-Err.ensures.there c.in-Err.ensures.caused.faults
+
+pub returns-in-Ok-clause-apart : goal.returns-in-Ok-clause-apart
+returns-in-Ok-clause-apart g c =
+    let head = c.args.head.now in
+    let child = c.args.child.now in
+    c.write_and_sync.ensures.apart
+    (file_is_own c.args.name.now head.size child (last_switch child.parents / head.size) c.requires.named)
+
+pub returns-in-Err-clause-apart : goal.returns-in-Err-clause-apart
+returns-in-Err-clause-apart g c =
+    let head = c.args.head.now in
+    let child = c.args.child.now in
+    c.write_and_sync.ensures.apart
+    (file_is_own c.args.name.now head.size child (last_switch child.parents / head.size) c.requires.named)

@@ -3,6 +3,7 @@ use Rattle.std.proofs.Common.{rules, ◌≡◌, ℕ, Err, refl, sym, subst}
 use Rattle.repl_store.specs.Backing.{Before, LeavesOne, appended}
 use Rattle.repl_store.specs.declared.fault.StoreFault.{StoreFault}
 use Rattle.repl_store.specs.declared.fault.StoreFault.TheVariants as fault
+use Rattle.repl_store.proofs.Apart.{apart_on}
 use Rattle.repl_store.proofs.Backed.{backs_kept}
 use Rattle.repl_store.proofs.Chaining.{comes_after, refused_on, wanted_comes}
 use Rattle.repl_store.proofs.write.write_piece.Goals as goal
@@ -36,3 +37,9 @@ returns-clause-comes g c = λ s backs.
     comes_after c.append.result (state c.args.disk.now) (state c.sync_full.new.disk) (state c.append.new.disk) c.sync_full.new.head
     c.append.new.head (Before s) (appended s c.args.piece.now) (λ t. t ≡ s) first.moments (search rules)
     c.in_ok-sync_full.ensures.caused.ok.0 last
+
+pub returns-clause-apart : goal.returns-clause-apart
+returns-clause-apart g c =
+    let state = g.D.Disk.state in
+    apart_on (state c.args.disk.now) (state c.sync_full.new.disk) (state c.append.new.disk) c.sync_full.ensures.apart
+    c.append.ensures.apart

@@ -5,6 +5,7 @@ use Rattle.repl_store.specs.Backing.{Before, State, appended}
 use Rattle.repl_store.specs.Head.{IsAt}
 use Rattle.repl_store.specs.Tail.{SomeAppended}
 use Rattle.repl_store.specs.declared.fault.StoreFault.{StoreFault}
+use Rattle.repl_store.proofs.Apart.{apart_on}
 use Rattle.repl_store.proofs.Chaining.{comes_after, refused_on}
 use Rattle.repl_store.proofs.Pieces.{at_more, reached_all, reached_more}
 use Rattle.repl_store.proofs.write.write_pieces.Goals as goal
@@ -51,6 +52,8 @@ loop-done-preserved g c =
           (c.loop-done.head.written + length part) c.loop-done.invariant.at grows);
       faults = c.in_ok-write_piece.ensures.caused.ok.0 ∙ c.loop-done.invariant.faults;
       wants = c.in_ok-write_piece.ensures.caused.ok.1 ∙ c.loop-done.invariant.wants;
+      apart = apart_on (state c.args.disk.now) (state c.loop-done.disk) (state c.write_piece.new.disk) c.loop-done.invariant.apart
+          c.in_ok-write_piece.ensures.apart;
       keeps = g.met.D.Disk.keeps_on c.args.disk.now c.loop-done.disk c.write_piece.new.disk c.loop-done.invariant.keeps
           c.in_ok-write_piece.ensures.keeps;
       reached = λ s backs.
@@ -64,3 +67,9 @@ pub returns-clause-comes : goal.returns-clause-comes
 returns-clause-comes g c = λ s backs.
     reached_all (g.D.Disk.state c.args.disk.now) (g.D.Disk.state c.loop-done.disk) c.loop-done.head s c.args.bytes.now c.loop-done.done
     (omega arith) (c.loop-done.invariant.reached s backs)
+
+pub returns-in_err-write_piece-clause-apart : goal.returns-in_err-write_piece-clause-apart
+returns-in_err-write_piece-clause-apart g c =
+    let state = g.D.Disk.state in
+    apart_on (state c.args.disk.now) (state c.loop-done.disk) (state c.write_piece.new.disk) c.loop-done.invariant.apart
+    c.write_piece.ensures.apart

@@ -1,6 +1,7 @@
 -- A front of the bytes is appended, and nothing was counted.
 use Rattle.std.proofs.Common.{◌≤◌, ◌+◌, ◌-◌, length}
 use Rattle.repl_counts.specs.Counts.{Stood}
+use Rattle.repl_store.specs.Apart.{StaysApart}
 use Rattle.repl_store.specs.Backing.{Backs, State}
 use Rattle.repl_store.specs.Head.{IsAt}
 use Rattle.repl_store.proofs.Pieces.{Reached}
@@ -12,6 +13,7 @@ invariant-loop-done g l = record {
   at : IsAt l.initial.head l.head (l.initial.head.written + l.done);
   faults : Stood (g.D.Disk.state l.initial.disk).faults (g.D.Disk.state l.disk).faults;
   wants : Stood (g.D.Disk.state l.initial.disk).wants (g.D.Disk.state l.disk).wants;
+  apart : StaysApart (g.D.Disk.state l.initial.disk) (g.D.Disk.state l.disk);
   keeps : g.D.Disk.keeps l.initial.disk l.disk;
   reached : (s : State) → Backs (g.D.Disk.state l.initial.disk) l.initial.head s
       → Reached (g.D.Disk.state l.initial.disk) (g.D.Disk.state l.disk) l.head s l.bytes l.done;
