@@ -2,6 +2,7 @@
 use Rattle.std.proofs.Common.{◌≡◌, ℕ, ◌+◌, ◌-◌, ◌%◌, List, [], length, replicate, sym, ap, ◌∙◌, subst, arith, length-append, length-drop}
 use Rattle.std.proofs.Math.Nat.{div-mul-le_self}
 use Rattle.std.proofs.lemmas.List.{drop_all, length-replicate, take_all}
+use Rattle.repl_control.specs.Control.{IsControl}
 use Rattle.repl_control.specs.declared.control.Control.{Control}
 use Rattle.repl_log.proofs.Walks.{begun_at_end, walked_whole}
 use Rattle.repl_log.specs.Walks.{HasWalked}
@@ -25,9 +26,10 @@ some_bytes head is =
     omega (arith, length-replicate {A = ℕ} (head.control.flushed - head.control.floor) 0, is.right.floor.2, is.right.whole.2, below)
 
 -- a walker that has gone through what is flushed behind the whole end, and found no further record
-pub fresh_runs : (head : Head) (w : Walker) (n : LogState) → IsHead head → head.written ≡ head.control.flushed → BeginsAs head n
+pub fresh_runs : (head : Head) (w : Walker) (n : LogState) → IsSegSize head.size → IsControl head.size head.control → head.written ≡ head.control.flushed
+    → BeginsAs head n
     → identity w ≡ ident_of n → HasWalked w (timeline_of n) (whole_end n) (start_kept n) (tail_of n) → last_end w ≡ whole_end n → Runs head w n
-fresh_runs head w n is written begins of_log walked ends =
+fresh_runs head w n size_is right written begins of_log walked ends =
     let d = n.kept.durable in
     let flushed : head.control.flushed ≡ flushed_end n = ap (λ (k : Control). k.flushed) begins.control in
     let whole : head.control.whole ≡ whole_end n = ap (λ (k : Control). k.whole) begins.control in
@@ -41,15 +43,15 @@ fresh_runs head w n is written begins of_log walked ends =
       length-append d.bytes n.kept.unflushed,
       none,
       begins.counted,
-      is.right.floor.2,
-      is.right.whole.2,
+      right.floor.2,
+      right.whole.2,
       below,
       flushed,
       whole,
       floor,
     ) in
-    let size : IsSegSize (identity w).size = subst IsSegSize (sym (ap (λ (i : Ident). i.size) of_log ∙ sym begins.size)) is.size in
-    let eight : whole_end n % 8 ≡ 0 = subst (λ (e : ℕ). e % 8 ≡ 0) whole is.right.whole.0 in
+    let size : IsSegSize (identity w).size = subst IsSegSize (sym (ap (λ (i : Ident). i.size) of_log ∙ sym begins.size)) size_is in
+    let eight : whole_end n % 8 ≡ 0 = subst (λ (e : ℕ). e % 8 ≡ 0) whole right.whole.0 in
     let records : RecordEnd (identity w) (timeline_of n) (whole_end n) (start_kept n) (tail_of n) (whole_end n) (last_start w) =
     subst (λ (e : ℕ). RecordEnd (identity w) (timeline_of n) (whole_end n) (start_kept n) (tail_of n) e (last_start w)) ends walked.records in
     let last : last_start w ≡ start_kept n = same_last (identity w) (timeline_of n) (whole_end n) (start_kept n) (tail_of n) (whole_end n)
@@ -70,15 +72,15 @@ fresh_runs head w n is written begins of_log walked ends =
       unended = subst (λ (l : List ℕ). As (ident_of n) l (whole_end n) (start_kept n)) (sym (take_all (flushed_end n - whole_end n) (tail_of n)
           (omega (arith, long)))) here;
       primary = λ primary. (
-          let same : head.control.flushed ≡ head.control.whole = is.right.primary (ap (λ (k : Control). k.role) begins.control ∙ primary) in
+          let same : head.control.flushed ≡ head.control.whole = right.primary (ap (λ (k : Control). k.role) begins.control ∙ primary) in
           omega (arith, ends, whole, flushed, all, same));
     }
 
 -- where nothing is flushed behind the whole end, a new walker has gone through that
-pub begun_runs : (head : Head) (w : Walker) (n : LogState) (status : StoreStatus) → IsHead head → head.written ≡ head.control.flushed
-    → head.control.whole ≡ head.control.flushed → BeginsAs head n → status ≡ status_of head
+pub begun_runs : (head : Head) (w : Walker) (n : LogState) (status : StoreStatus) → IsSegSize head.size → IsControl head.size head.control
+    → head.written ≡ head.control.flushed → head.control.whole ≡ head.control.flushed → BeginsAs head n → status ≡ status_of head
     → ((timeline : ℕ → ℕ) → Stands w timeline status.whole status.prev []) → identity w ≡ status.ident → Runs head w n
-begun_runs head w n status is written no_more begins told stands of_log =
+begun_runs head w n status size_is right written no_more begins told stands of_log =
     let flushed : head.control.flushed ≡ flushed_end n = ap (λ (k : Control). k.flushed) begins.control in
     let whole : head.control.whole ≡ whole_end n = ap (λ (k : Control). k.whole) begins.control in
     let floor : head.control.floor ≡ floor_of n = ap (λ (k : Control). k.floor) begins.control in
@@ -95,7 +97,7 @@ begun_runs head w n status is written no_more begins told stands of_log =
       flushed,
       whole,
       floor,
-      is.right.floor.2,
+      right.floor.2,
       below,
     )) in
     let identified : identity w ≡ ident_of n = of_log
@@ -104,9 +106,9 @@ begun_runs head w n status is written no_more begins told stands of_log =
     ∙ ap (λ (k : ℕ). record { sysid = n.kept.durable.control.sysid; magic = n.kept.durable.control.magic; size = k }) begins.size in
     let stood : Stands w (timeline_of n) (whole_end n) (start_kept n) [] = subst (λ (b : ℕ). Stands w (timeline_of n) (whole_end n) b []) told_prev
     (subst (λ (a : ℕ). Stands w (timeline_of n) a status.prev []) told_whole (stands (timeline_of n))) in
-    let eight : whole_end n % 8 ≡ 0 = subst (λ (e : ℕ). e % 8 ≡ 0) whole is.right.whole.0 in
+    let eight : whole_end n % 8 ≡ 0 = subst (λ (e : ℕ). e % 8 ≡ 0) whole right.whole.0 in
     let end : whole_end n ≡ whole_end n + length (tail_of n) = omega (arith, ap length empty) in
     let walked : HasWalked w (timeline_of n) (whole_end n) (start_kept n) (tail_of n) = begun_at_end w (timeline_of n) (whole_end n) (start_kept n)
     (tail_of n) (start_kept n) eight (subst (λ (e : ℕ). RecordEnd (identity w) (timeline_of n) (whole_end n) (start_kept n) (tail_of n) e
     (start_kept n)) end origin) (subst (λ (a : ℕ). Stands w (timeline_of n) a (start_kept n) []) end stood) in
-    fresh_runs head w n is written begins identified walked stood.keeps.begins
+    fresh_runs head w n size_is right written begins identified walked stood.keeps.begins

@@ -82,8 +82,8 @@ refused_comes {A} few many f old new head done n size more comes =
     }
 
 -- a failure of the disk stops the log, and nothing else does
-pub still_sound : (f : StoreFault) (was now : Bool) → f ≡ store.Memory → was ≡ false → Breaks {A = Unit {0}} (Err f) was now → now ≡ false
-still_sound f was now memory sound breaks =
+pub still_sound : {A : Type 0} (f : StoreFault) (was now : Bool) → f ≡ store.Memory → was ≡ false → Breaks {A = A} (Err f) was now → now ≡ false
+still_sound {A} f was now memory sound breaks =
     elim (cases_Bool now) [
       | inl broke ↦ elim (breaks.0 broke) [
         | inl before ↦ absurd cc
@@ -223,10 +223,10 @@ ok_sound {A} x was now sound breaks =
     ]
 
 -- an unbroken store does not answer that it is
-pub not_broken : (f : StoreFault) (was : Bool) → was ≡ false → (◌≡◌ {A = Result (Unit {0}) StoreFault} (Err f) (Err store.Broken)) ↔ (was ≡ true)
+pub not_broken : {A : Type 0} (f : StoreFault) (was : Bool) → was ≡ false → (◌≡◌ {A = Result A StoreFault} (Err f) (Err store.Broken)) ↔ (was ≡ true)
     → f ≡ store.Broken → ⊥
-not_broken f was sound broken is =
-    let Fails : StoreFault → Result (Unit {0}) StoreFault = λ e. Err e in
+not_broken {A} f was sound broken is =
+    let Fails : StoreFault → Result A StoreFault = λ e. Err e in
     let broke : was ≡ true = broken.0 (ap Fails is) in absurd cc
 
 module _ {A D : Type 0} (Refuses : NodeFault → Type 0) (Passes : Type 0) (Done : A → LogState → Type 0) (Partly : LogState → Type 0)

@@ -18,3 +18,17 @@ pub mod Lawful
 pub mod Keeping
 -- how a trim ends
 pub mod Trimming
+-- histories that go on from a path by one parent
+pub mod Children
+-- how following another timeline ends
+pub mod Following
+-- the store's calls one after another
+pub mod Chaining
+-- what the store's calls say
+pub mod StoreCalls
+-- going over to a child of the path
+pub mod Switching
+-- how a promotion ends
+pub mod Promoting
+-- what a copy leaves of its source
+pub mod Cloning

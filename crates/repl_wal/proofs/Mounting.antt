@@ -221,7 +221,7 @@ walked_state head w is has all written =
     ∙ drop-append_seam front has.taken in
     let walked : HasWalked w (timeline_at head.path) whole head.control.prev (tail_of n) = subst (HasWalked w (timeline_at head.path) whole
     head.control.prev) (sym tail) has.walked in
-    (n, refl, fresh_runs head w n is written begins has.ident walked has.none)
+    (n, refl, fresh_runs head w n is.size is.right written begins has.ident walked has.none)
 
 -- the state of a store that was walked
 pub walked_log : (disk : DiskState) (head : Head) (w : Walker) (d : Durable) → IsHead head → HasTaken head w → position w ≡ head.control.flushed
@@ -262,4 +262,4 @@ walked_log disk head w d is has all written backs taken =
       size = head.size;
     }) control in
     let none : last_end w ≡ d.control.whole = has.none ∙ ap (λ (c : Control). c.whole) control in
-    fresh_runs head w n is written begins identified walked none
+    fresh_runs head w n is.size is.right written begins identified walked none

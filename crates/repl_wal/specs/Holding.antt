@@ -9,7 +9,7 @@ use Rattle.repl_record.specs.Log.{IsWholeEnd}
 use Rattle.repl_record.specs.Walker.{identity, last_end}
 use Rattle.repl_store.specs.Backing.{Backs, LeavesOne}
 use Rattle.repl_store.specs.Durable.{Durable}
-use Rattle.repl_store.specs.Head.{Head, Held}
+use Rattle.repl_store.specs.Head.{Head, Held, with_disk as store_with_disk}
 use Rattle.repl_store.specs.declared.store.StoreStatus.{StoreStatus}
 use Rattle.repl_wal.specs.State.{LogState, flushed_end, floor_of, ident_of, last_start, path_of, role_of, status_of_log, tail_of, timeline_of, whole_end, written_end}
 use Rattle.repl_wal.specs.declared.fault.NodeFault.{NodeFault}
@@ -22,6 +22,10 @@ pub record HeldLog (D : Type 0) : Type 0 where
   pub walker : Walker
   -- a call of the disk failed, and this was the log before it
   pub stopped : Option StoreStatus
+
+-- the log over another disk
+abbrev pub with_disk : {D : Type 0} → HeldLog D → D → HeldLog D
+with_disk held disk = record { store = store_with_disk held.store disk; walker = held.walker; stopped = held.stopped }
 
 -- the store and the walker in memory are those of this log
 pub record Runs (head : Head) (w : Walker) (n : LogState) : Type 0 where

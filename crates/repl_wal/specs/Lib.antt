@@ -7,3 +7,6 @@ pub mod Reading
 pub mod Making
 pub mod Keeping
 pub mod Telling
+pub mod Following
+pub mod Promoting
+pub mod Cloning

@@ -1,7 +1,7 @@
 -- A node's write-ahead log (PostgreSQL 17 manual, chapter "Reliability and the Write-Ahead Log"): one list of bytes, from
 -- the floor to the written end, on a path of timelines. Of these bytes some are flushed, and of those some are whole
 -- records.
-use Rattle.std.specs.Prelude.{◌≡◌, ℕ, ◌+◌, ◌-◌, ◌^◌, ◌≤◌, Bool, true, List, ◌++◌, length, take, drop}
+use Rattle.std.specs.Prelude.{◌≡◌, ℕ, ◌+◌, ◌-◌, ◌^◌, ◌≤◌, Bool, true, List, [], ◌++◌, length, take, drop}
 use Rattle.repl_control.specs.Control.{FitsFields, IsControl}
 use Rattle.repl_control.specs.declared.control.Role.{Role}
 use Rattle.repl_control.specs.declared.control.Role.TheVariants.{Primary}
@@ -11,7 +11,7 @@ use Rattle.repl_lsn.specs.Path.{timeline_at}
 use Rattle.repl_lsn.specs.Segment.{IsSegSize}
 use Rattle.repl_page.specs.declared.ident.Ident.{Ident}
 use Rattle.repl_record.specs.Log.{IsPrefixOfRecords, IsWholeEnd, RecordEnd}
-use Rattle.repl_store.specs.Backing.{State, appended, flushed, log, raised}
+use Rattle.repl_store.specs.Backing.{State, appended, flushed, heard, log, raised, switched}
 use Rattle.repl_store.specs.declared.store.StoreStatus.{StoreStatus}
 use Rattle.repl_wal.specs.declared.wal.Identity.{Identity}
 
@@ -112,6 +112,14 @@ appended_log n bytes = having n (appended n.kept bytes)
 -- all written bytes are flushed; whole records end here, and the last of them starts there
 abbrev pub flushed_log : LogState → Role → ℕ → ℕ → LogState
 flushed_log n role whole last = having n (flushed n.kept role whole last)
+
+-- another timeline was heard of
+abbrev pub heard_log : LogState → ℕ → LogState
+heard_log n tli = having n (record { durable = heard n.kept.durable tli; unflushed = n.kept.unflushed })
+
+-- the log goes on with a child of its path from the switch point on
+abbrev pub switched_log : LogState → Path → Role → ℕ → ℕ → LogState
+switched_log n child role whole last = having n (record { durable = switched n.kept.durable child role whole last; unflushed = [] })
 
 -- bytes below the floor are gone
 abbrev pub raised_log : LogState → ℕ → LogState

@@ -2,6 +2,7 @@
 ghost use Rattle.std.specs.Prelude.{◌≡◌, ◌+◌, ◌%◌, ◌^◌, ◌<◌, ◌≤◌, ◌⊎◌, ◌↔◌, length, Err, IfErr, IfOk, IsTrue};
 ghost use Rattle.repl_record.specs.Length.{image_end};
 ghost use Rattle.repl_record.specs.Record.{HeadersAreSpelled, IsImage, start_of, total_length};
+ghost use Rattle.repl_store.specs.Apart.{StaysApart};
 ghost use Rattle.repl_wal.specs.Holding.{Comes, Holds};
 ghost use Rattle.repl_wal.specs.State.{LogState};
 ghost use Rattle.repl_wal.specs.Steps.{Old};
@@ -23,6 +24,7 @@ impl<D: Disk> Wal<D> {
         ensures steps { (n : LogState) → Holds (D.state self.old.store.disk) self.old n →
             Comes result (D.state self.old.store.disk) (D.state self.new.store.disk) self.new n (Appends n item.now result) (Old n) }
         ensures idle { result ≡ Err NodeFault.Broken → self.new.store.disk ≡ self.old.store.disk }
+        ensures apart { StaysApart (D.state self.old.store.disk) (D.state self.new.store.disk) }
         ensures keeps { D.keeps self.old.store.disk self.new.store.disk }
     {
         if self.stopped.is_some() {

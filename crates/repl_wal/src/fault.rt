@@ -82,7 +82,7 @@ impl From<AllocError> for NodeFault {
 }
 
 /// What a store's fault is to a log.
-pub(crate) fn of_store(fault: StoreFault) -> NodeFault
+pub fn of_store(fault: StoreFault) -> NodeFault
     ensures { result ≡ of_store fault }
 {
     match fault {

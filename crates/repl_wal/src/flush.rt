@@ -1,6 +1,7 @@
 //! Making certain what was written, and a primary into a standby.
 ghost use Rattle.std.specs.Prelude.{◌≡◌, Err};
 ghost use Rattle.repl_counts.specs.Counts.{Rose};
+ghost use Rattle.repl_store.specs.Apart.{StaysApart};
 ghost use Rattle.repl_wal.specs.Holding.{Comes, Holds, Remembers};
 ghost use Rattle.repl_wal.specs.State.{LogState, flushed_end, written_end};
 ghost use Rattle.repl_wal.specs.Writing.{DemoteLeaves, Demotes, FlushLeaves, Flushes};
@@ -21,6 +22,7 @@ impl<D: Disk> Wal<D> {
         ensures still { (n : LogState) → Remembers self.old n → written_end n ≡ flushed_end n → self.new.store.disk ≡ self.old.store.disk }
         ensures idle { result ≡ Err NodeFault.Broken → self.new.store.disk ≡ self.old.store.disk }
         ensures wants { result ≡ Err NodeFault.Memory → Rose (D.state self.old.store.disk).wants (D.state self.new.store.disk).wants }
+        ensures apart { StaysApart (D.state self.old.store.disk) (D.state self.new.store.disk) }
         ensures keeps { D.keeps self.old.store.disk self.new.store.disk }
     {
         if self.stopped.is_some() {
@@ -43,6 +45,7 @@ impl<D: Disk> Wal<D> {
             Comes result (D.state self.old.store.disk) (D.state self.new.store.disk) self.new n (Demotes n result) (DemoteLeaves n) }
         ensures idle { result ≡ Err NodeFault.Broken → self.new.store.disk ≡ self.old.store.disk }
         ensures wants { result ≡ Err NodeFault.Memory → Rose (D.state self.old.store.disk).wants (D.state self.new.store.disk).wants }
+        ensures apart { StaysApart (D.state self.old.store.disk) (D.state self.new.store.disk) }
         ensures keeps { D.keeps self.old.store.disk self.new.store.disk }
     {
         if self.stopped.is_some() {

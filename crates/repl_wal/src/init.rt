@@ -6,6 +6,7 @@ ghost use Rattle.repl_disk.specs.Folder.{Folder, IfTold};
 ghost use Rattle.repl_store.specs.Creating.{IsMaking, fresh};
 ghost use Rattle.repl_store.specs.Durable.{IsKnown, StandsFor, control_name};
 ghost use Rattle.repl_store.specs.Head.{IsMounted};
+ghost use Rattle.repl_store.specs.Apart.{StaysApart};
 ghost use Rattle.repl_wal.specs.Holding.{Holds, Remembers};
 ghost use Rattle.repl_wal.specs.State.{LogState};
 ghost use Rattle.repl_wal.specs.Making.{BeginsAs, IsMadeOf, IsUnmade, mounted_log, untold_log};
@@ -37,6 +38,7 @@ impl<D: Disk> Wal<D> {
             (λ e. LeavesOnly (D.state disk) (D.state e.1) (IsMaking (D.state disk).may_leave role ident))) }
         ensures caused { MatchResult result (λ wal. IsMadeOf (Ok wal) (D.state disk) (D.state wal.store.disk))
             (λ e. IsMadeOf {A = Wal D} (Err e.0) (D.state disk) (D.state e.1)) }
+        ensures apart { MatchResult result (λ wal. StaysApart (D.state disk) (D.state wal.store.disk)) (λ e. StaysApart (D.state disk) (D.state e.1)) }
         ensures keeps { MatchResult result (λ wal. D.keeps disk wal.store.disk) (λ e. D.keeps disk e.1) }
     {
         match Store::create(alloc, disk, ident, role) {

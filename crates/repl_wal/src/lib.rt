@@ -2,10 +2,12 @@
 //! some are whole records.
 //!
 //! A primary's log appends records and a standby's receives bytes; both flush, read along the path, tell the histories of
-//! its timelines, and give up what nobody needs. `specs/State.antt` says what a log's state is, `specs/Steps.antt` how any
-//! call ends, and the files beside them what each call refuses, makes of the state, and leaves to a crash. How a state,
-//! the memory and the disk's files hang together stands in `specs/Holding.antt`. After a failure of the disk every call but
-//! `identify`, `path` and `into_disk` answers `Broken`, until the log is mounted again. Stands on `repl_store` and `repl_log`.
+//! its timelines, and give up what nobody needs. A standby's log follows a child of its timeline, or is promoted to one of its
+//! own. `specs/State.antt` says what a log's state is, `specs/Steps.antt` how any call ends, and the files beside them what
+//! each call refuses, makes of the state, and leaves to a crash. How a state, the memory and the disk's files hang together
+//! stands in `specs/Holding.antt`. After a failure of the disk every call but `identify`, `path` and `into_disk` answers
+//! `Broken`, until the log is mounted again. Every call leaves the files of the slots as they were. Stands on `repl_store`
+//! and `repl_log`.
 //!
 //! ```text
 //! let mut wal = Wal::init(alloc, disk, ident, Role::Primary)?;
@@ -15,16 +17,19 @@
 #![tactic(auto)]
 
 mod append;
+mod clone;
 mod fault;
 mod flush;
+mod follow;
 mod history;
 mod init;
 mod mount;
+mod promote;
 mod read;
 mod receive;
 mod trim;
 mod wal;
 
-pub use fault::NodeFault;
+pub use fault::{NodeFault, of_store};
 pub use read::ReadOut;
 pub use wal::{Identity, LOG_LIMIT, Wal};

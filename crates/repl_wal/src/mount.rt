@@ -4,6 +4,7 @@ ghost use Rattle.repl_control.specs.declared.control.TheConstants.{VERSION_1_SIZ
 ghost use Rattle.repl_disk.specs.Folder.{Folder, IfTold};
 ghost use Rattle.repl_log.specs.Walks.{HasWalked};
 ghost use Rattle.repl_record.specs.Walker.{AreOn, identity, last_end, position};
+ghost use Rattle.repl_store.specs.Apart.{StaysApart};
 ghost use Rattle.repl_store.specs.Backing.{Backs, State};
 ghost use Rattle.repl_store.specs.Durable.{Durable, StandsFor};
 ghost use Rattle.repl_store.specs.Head.{IsHead, IsMounted, status_of};
@@ -35,6 +36,7 @@ impl<D: Disk> Wal<D> {
             → ((image : Folder) → (D.state disk).may_leave image → StandsFor VERSION_1_SIZE image d)
             → Holds (D.state wal.store.disk) wal (mounted_log VERSION_1_SIZE d)) }
         ensures refused { IfErr result (λ e. IfTold (D.state disk).files (λ folder. IsMountRefusal VERSION_1_SIZE folder (D.state disk).may_leave e.0)) }
+        ensures apart { MatchResult result (λ wal. StaysApart (D.state disk) (D.state wal.store.disk)) (λ e. StaysApart (D.state disk) (D.state e.1)) }
         ensures keeps { MatchResult result (λ wal. D.keeps disk wal.store.disk) (λ e. D.keeps disk e.1) }
     {
         match Store::mount(alloc, disk) {
@@ -55,6 +57,7 @@ fn walk_on<D: Disk>(alloc: Global, store: Store<D>) -> Result<Wal<D>, (NodeFault
     ensures holds { IfOk result (λ wal. (d : Durable) → Backs (D.state store.disk) store.head (record { durable = d; unflushed = [] })
         → Holds (D.state wal.store.disk) wal (mounted_log store.head.size d)) }
     ensures refused { IfErr result (λ e. IsFailure e.0 ⊎ ((s : State) → Backs (D.state store.disk) store.head s → IsWrongTail store.head.size s.durable e.0)) }
+    ensures apart { MatchResult result (λ wal. StaysApart (D.state store.disk) (D.state wal.store.disk)) (λ e. StaysApart (D.state store.disk) (D.state e.1)) }
     ensures keeps { MatchResult result (λ wal. D.keeps store.disk wal.store.disk) (λ e. D.keeps store.disk e.1) }
 {
     let mut store = store;
@@ -88,6 +91,7 @@ fn walk_flushed<D: Disk>(
     ensures of_state { OnOk result ((s : State) → Backs (D.state store.old.disk) store.old.head s → TakenOf s store.old.head walker.old
         → TakenOf s store.old.head walker.new × Backs (D.state store.new.disk) store.old.head s) }
     ensures refused { IfErr result (IsWalkRefusal (D.state store.old.disk) store.old.head walker.old) }
+    ensures apart { StaysApart (D.state store.old.disk) (D.state store.new.disk) }
     ensures keeps { D.keeps store.old.disk store.new.disk }
 {
     let mut room = match vec![in alloc; 0; PIECE] {
@@ -119,6 +123,7 @@ fn walk_pieces<D: Disk>(
     ensures of_state { OnOk result ((s : State) → Backs (D.state store.old.disk) store.old.head s → TakenOf s store.old.head walker.old
         → TakenOf s store.old.head walker.new × Backs (D.state store.new.disk) store.old.head s) }
     ensures refused { IfErr result (IsWalkRefusal (D.state store.old.disk) store.old.head walker.old) }
+    ensures apart { StaysApart (D.state store.old.disk) (D.state store.new.disk) }
     ensures keeps { D.keeps store.old.disk store.new.disk }
 {
     let mut at = walker.position();
@@ -154,6 +159,7 @@ fn walk_piece<D: Disk>(
     ensures of_state { OnOk result ((s : State) → Backs (D.state store.old.disk) store.old.head s → TakenOf s store.old.head walker.old
         → TakenOf s store.old.head walker.new × Backs (D.state store.new.disk) store.old.head s) }
     ensures refused { IfErr result (IsWalkRefusal (D.state store.old.disk) store.old.head walker.old) }
+    ensures apart { StaysApart (D.state store.old.disk) (D.state store.new.disk) }
     ensures keeps { D.keeps store.old.disk store.new.disk }
 {
     let at = walker.position();

@@ -1,5 +1,6 @@
 //! Receiving bytes of the log, on a standby.
 ghost use Rattle.std.specs.Prelude.{◌≡◌, ◌+◌, ◌^◌, ◌≤◌, ℕ, List, length, Err, IfErr, OnOk};
+ghost use Rattle.repl_store.specs.Apart.{StaysApart};
 ghost use Rattle.repl_wal.specs.Holding.{Comes, Holds};
 ghost use Rattle.repl_wal.specs.State.{LogState, status_of_log};
 ghost use Rattle.repl_wal.specs.Steps.{Old};
@@ -27,6 +28,7 @@ impl<D: Disk> Wal<D> {
         ensures steps { (n : LogState) → Holds (D.state self.old.store.disk) self.old n →
             Comes result (D.state self.old.store.disk) (D.state self.new.store.disk) self.new n (Receives n tli start bytes.now result) (Old n) }
         ensures idle { result ≡ Err NodeFault.Broken → self.new.store.disk ≡ self.old.store.disk }
+        ensures apart { StaysApart (D.state self.old.store.disk) (D.state self.new.store.disk) }
         ensures keeps { D.keeps self.old.store.disk self.new.store.disk }
     {
         if self.stopped.is_some() {

@@ -1,6 +1,7 @@
 //! How far the log is kept.
 ghost use Rattle.std.specs.Prelude.{◌≡◌, ◌-◌, max, min, Err};
 ghost use Rattle.repl_control.specs.Control.{segment_start};
+ghost use Rattle.repl_store.specs.Apart.{StaysApart};
 ghost use Rattle.repl_wal.specs.Holding.{Comes, Holds};
 ghost use Rattle.repl_wal.specs.Keeping.{TrimLeaves, Trims, held_back, trimmed_floor};
 ghost use Rattle.repl_wal.specs.State.{LogState, status_of_log};
@@ -20,6 +21,7 @@ impl<D: Disk> Wal<D> {
         ensures steps { (n : LogState) → Holds (D.state self.old.store.disk) self.old n →
             Comes result (D.state self.old.store.disk) (D.state self.new.store.disk) self.new n (Trims n restart keep result) (TrimLeaves n restart keep) }
         ensures idle { result ≡ Err NodeFault.Broken → self.new.store.disk ≡ self.old.store.disk }
+        ensures apart { StaysApart (D.state self.old.store.disk) (D.state self.new.store.disk) }
         ensures keeps { D.keeps self.old.store.disk self.new.store.disk }
     {
         if self.stopped.is_some() {

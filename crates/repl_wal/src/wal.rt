@@ -1,8 +1,10 @@
 //! A log, and what it tells of itself.
-ghost use Rattle.std.specs.Prelude.{◌≡◌, ◌↔◌, false, IsTrue};
+ghost use Rattle.std.specs.Prelude.{◌≡◌, ◌↔◌, false, true, IsTrue};
 ghost use Rattle.repl_control.specs.declared.control.Role.TheVariants as Role;
-ghost use Rattle.repl_wal.specs.Holding.{Remembers};
-ghost use Rattle.repl_wal.specs.State.{IsLog, LogState, identity_in, path_of, status_of_log};
+ghost use Rattle.std.specs.Borrow.{Lends, sem};
+ghost use Rattle.repl_wal.specs.contracts.wal.Wal.{the_row};
+ghost use Rattle.repl_wal.specs.Holding.{Remembers, with_disk};
+ghost use Rattle.repl_wal.specs.State.{IsLog, LogState, breaking, identity_in, path_of, status_of_log};
 
 use repl_control::Role;
 use repl_disk::Disk;
@@ -92,6 +94,39 @@ impl<D: Disk> Wal<D> {
         ensures { (n : LogState) → Remembers self.now n → result.now ≡ path_of n }
     {
         self.store.path()
+    }
+
+    /// Whether a call of the disk failed since the mount.
+    pub fn is_broken(&self) -> bool
+        ensures { (n : LogState) → Remembers self.now n → (IsTrue result ↔ (n.broken ≡ true)) }
+    {
+        self.stopped.is_some()
+    }
+
+    /// Remembers that the disk failed in a call that was not the log's own. From here on the log is broken.
+    pub fn break_off(&mut self)
+        ensures broken { (n : LogState) → Remembers self.old n → n.broken ≡ false → Remembers self.new (breaking n) }
+        ensures store { self.new.store ≡ self.old.store }
+    {
+        if self.stopped.is_none() {
+            self.stopped = Some(self.store.status());
+        }
+    }
+
+    /// The disk, to be looked at.
+    pub fn disk(&self) -> &D
+        ensures { result.now ≡ self.now.store.disk }
+    {
+        self.store.disk()
+    }
+
+    /// The disk. What the borrower leaves is the log's disk; the rest of the log stays. A log goes on with its files where, at
+    /// every moment, all names but `slots` and `slots.tmp` stay as they were: `others_apart` of `repl_store` is that law.
+    pub fn disk_mut(&mut self) -> &mut D
+        ensures value { result.now ≡ self.old.store.disk }
+        ensures* writes_back { sem 𝓛 (Lends (the_row D.row D.Disk) D.row self.entry result (with_disk self.old)) }
+    {
+        self.store.disk_mut()
     }
 
     /// The disk, as the log leaves it.

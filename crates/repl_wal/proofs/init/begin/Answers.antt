@@ -36,7 +36,7 @@ invariant_of-result g c =
         refl,
         refl,
         c.requires.unbroken,
-        begun_runs head c.new.result n c.status-status.result right c.requires.written c.requires.whole begins
+        begun_runs head c.new.result n c.status-status.result right.size right.right c.requires.written c.requires.whole begins
             c.status-status.ensures.told c.new.ensures.stands c.new.ensures.ident,
       ),
     )
@@ -47,6 +47,6 @@ returns-clause-remembers g c n begins =
       refl,
       begins.sound,
       c.requires.unbroken,
-      begun_runs c.args.store.head c.new.result n c.status-status.result c.status-status.ensures.right
-          c.requires.written c.requires.whole begins c.status-status.ensures.told c.new.ensures.stands c.new.ensures.ident,
+      begun_runs c.args.store.head c.new.result n c.status-status.result c.status-status.ensures.right.size
+          c.status-status.ensures.right.right c.requires.written c.requires.whole begins c.status-status.ensures.told c.new.ensures.stands c.new.ensures.ident,
     )

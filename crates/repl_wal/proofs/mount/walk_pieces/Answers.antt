@@ -3,6 +3,7 @@ use Rattle.std.proofs.Common.{rules, ◌≡◌, ℕ, ◌≤◌, is_lt, nat_cmp, 
 use Rattle.repl_disk.specs.State.{DiskState}
 use Rattle.repl_record.specs.Walker.{position}
 use Rattle.repl_record.specs.declared.walker.Walker.{Walker}
+use Rattle.repl_store.proofs.Apart.{apart_on}
 use Rattle.repl_store.specs.Backing.{Backs, State}
 use Rattle.repl_store.specs.Head.{Head}
 use Rattle.repl_wal.specs.Making.{HasTaken, IsWalkRefusal, IsWrongTail, TakenOf}
@@ -26,11 +27,19 @@ returns-in-Err-clause-refused g c =
     let state = g.D.Disk.state in
     let was = c.pieces.invariant in
     refused_on (state c.args.store.now.disk) (state c.pieces.store.disk) c.args.store.now.head c.pieces.store.head c.args.walker.now c.pieces.walker
-    c.in-Err.fault was.0 was.7 c.in-Err.ensures.refused
+    c.in-Err.fault was.0 was.8 c.in-Err.ensures.refused
 
 pub returns-in-Err-clause-keeps : goal.returns-in-Err-clause-keeps
 returns-in-Err-clause-keeps g c =
     g.met.D.Disk.keeps_on c.args.store.now.disk c.pieces.store.disk c.walk_piece.new.store.disk c.pieces.invariant.6 c.in-Err.ensures.keeps
+
+pub returns-in-Err-clause-apart : goal.returns-in-Err-clause-apart
+returns-in-Err-clause-apart g c =
+    let state = g.D.Disk.state in
+    apart_on (state c.args.store.now.disk) (state c.pieces.store.disk) (state c.walk_piece.new.store.disk) c.pieces.invariant.7 c.in-Err.ensures.apart
+
+pub returns-clause-apart : goal.returns-clause-apart
+returns-clause-apart g c = c.pieces.invariant.7
 
 pub pieces-preserved : goal.pieces-preserved
 pieces-preserved g c =
@@ -54,8 +63,9 @@ pieces-preserved g c =
       within,
       taken,
       g.met.D.Disk.keeps_on old.disk mid.disk new.disk was.6 on.keeps,
+      apart_on (state old.disk) (state mid.disk) (state new.disk) was.7 on.apart,
       λ s backs first.
-          let reached = was.7 s backs first in goes s reached.1 reached.0,
+          let reached = was.8 s backs first in goes s reached.1 reached.0,
     )
 
 not_below : (a b : ℕ) → false ≡ is_lt (nat_cmp a b) → b ≤ a

@@ -3,6 +3,7 @@ use Rattle.std.proofs.Common.{◌≡◌, ℕ, ◌⊎◌, Some, None, [], refl, s
 use Rattle.repl_control.specs.declared.control.TheConstants.{VERSION_1_SIZE}
 use Rattle.repl_disk.specs.Folder.{Folder, IfTold, ToldFiles}
 use Rattle.repl_disk.specs.State.{DiskState}
+use Rattle.repl_store.proofs.Apart.{apart_on}
 use Rattle.repl_store.specs.Backing.{Backs, State}
 use Rattle.repl_store.specs.Durable.{Durable, StandsFor}
 use Rattle.repl_store.specs.Head.{Head, IsMounted}
@@ -53,3 +54,13 @@ returns-in-Err-walk_on-clause-refused g c =
     let store = c.in-Ok.store in
     refused_told (state c.args.disk).files VERSION_1_SIZE (state store.disk) store.head (state c.args.disk).may_leave c.in-Err-walk_on.refused.0
     c.in-Ok.ensures.mounted.1 c.in-Err-walk_on.ensures.refused c.in-Ok.ensures.backs
+
+pub returns-in-Ok-walk_on-clause-apart : goal.returns-in-Ok-walk_on-clause-apart
+returns-in-Ok-walk_on-clause-apart g c =
+    let state = g.D.Disk.state in
+    apart_on (state c.args.disk) (state c.in-Ok.store.disk) (state c.in-Ok-walk_on.wal.store.disk) c.in-Ok.ensures.apart c.in-Ok-walk_on.ensures.apart
+
+pub returns-in-Err-walk_on-clause-apart : goal.returns-in-Err-walk_on-clause-apart
+returns-in-Err-walk_on-clause-apart g c =
+    let state = g.D.Disk.state in
+    apart_on (state c.args.disk) (state c.in-Ok.store.disk) (state c.in-Err-walk_on.refused.1) c.in-Ok.ensures.apart c.in-Err-walk_on.ensures.apart

@@ -1,0 +1,268 @@
+-- What is left of a source, and what a copy that is mounted refuses.
+use Rattle.std.proofs.Common.{◌≡◌, ◌≢◌, ℕ, ◌⊎◌, ◌↔◌, Bool, true, false, List, Option, Some, None, IsSome, is_some, Result, Ok, Err, IfOk, IfErr, MatchResult, refl, sym, ap, ◌∙◌, subst, inl, inr}
+use Rattle.std.proofs.lemmas.Bool.{cases_Bool}
+use Rattle.repl_clone.specs.Causes.{BreaksSource, IsOfSource, Lasts}
+use Rattle.repl_clone.specs.Copied.{IsCopying, copied}
+use Rattle.repl_clone.specs.declared.fault.CopyFault.{CopyFault}
+use Rattle.repl_clone.specs.declared.fault.CopyFault.TheVariants as copy
+use Rattle.repl_control.specs.declared.control.Control.{Control}
+use Rattle.repl_control.specs.declared.control.TheConstants.{VERSION_1_SIZE}
+use Rattle.repl_counts.specs.Counts.{Rose, Stood}
+use Rattle.repl_disk.specs.Crash.{LeavesOnly}
+use Rattle.repl_disk.specs.Folder.{Folder, IfTold, ToldFiles}
+use Rattle.repl_disk.specs.Runs.{told_so}
+use Rattle.repl_disk.specs.State.{DiskState}
+use Rattle.repl_store.specs.Backing.{Backs, LeavesOne, State}
+use Rattle.repl_store.specs.Durable.{Durable, IsKnown, StandsFor}
+use Rattle.repl_store.specs.Head.{Head, Held, status_of}
+use Rattle.repl_store.specs.Refusal.{IsRefusal}
+use Rattle.repl_store.specs.declared.fault.StoreFault.{StoreFault}
+use Rattle.repl_store.specs.declared.fault.StoreFault.TheVariants as store
+use Rattle.repl_store.specs.declared.store.StoreStatus.{StoreStatus}
+use Rattle.repl_wal.specs.Cloning.{LeavesSource, of_copy, source_stopped}
+use Rattle.repl_wal.specs.Faults.{of_store}
+use Rattle.repl_wal.specs.Holding.{HeldLog, Holds, Runs}
+use Rattle.repl_wal.specs.Making.{IsMountRefusal, IsWrongTail}
+use Rattle.repl_wal.specs.State.{LogState, breaking, own_timeline}
+use Rattle.repl_wal.specs.Steps.{Old}
+use Rattle.repl_wal.specs.declared.fault.NodeFault.{NodeFault}
+use Rattle.repl_wal.specs.declared.fault.NodeFault.TheVariants as fault
+use Rattle.repl_store.proofs.Mounting.{durable_one}
+use Rattle.repl_wal.proofs.Ending.{running, same_status, untouched}
+
+-- ---- the source
+
+-- a source that failed in no call is not broken
+pub copied_sound : (result : Result (Unit {0}) CopyFault) (was now : Bool) → was ≡ false → result ≢ Err copy.SourceFault → BreaksSource result was now
+    → now ≡ false
+copied_sound result was now sound other breaks =
+    elim (cases_Bool now) [
+      | inl broke ↦ elim (breaks.0 broke) [
+        | inl before ↦ absurd cc
+        | inr failed ↦ absurd (other failed)
+      ]
+      | inr fine ↦ fine
+    ]
+
+left_moments : {E : Type 0} (disk new : DiskState) (old : HeldLog E) (n : LogState) (result : Result (Unit {0}) CopyFault) → Holds disk old n
+    → old.stopped ≡ None → ((s : State) → Backs disk old.store.head s → Lasts result disk new old.store.head s) → n.told ≡ true → n.broken ≡ false
+    → LeavesOne disk new n.size (Old n)
+left_moments disk new old n result holds none lasts told sound =
+    let runs = running old n none holds.remembers in
+    subst (λ (k : ℕ). LeavesOne disk new k (Old n)) runs.2.size (lasts n.kept (holds.backs told sound)).moments
+
+module _ {A D E : Type 0} (disk new : DiskState) (old : HeldLog E) (now : Held E) (n : LogState) where
+  pub left_as_it_was : (answer : Result A (NodeFault × D)) (result : Result (Unit {0}) CopyFault) → result ≢ Err copy.SourceFault
+      → Holds disk old n → old.stopped ≡ None → now.head ≡ old.store.head → BreaksSource result old.store.broken now.broken
+      → ((s : State) → Backs disk old.store.head s → Lasts result disk new old.store.head s)
+      → LeavesSource answer disk new (record { store = now; walker = old.walker; stopped = old.stopped }) n
+  left_as_it_was answer result other holds none same breaks lasts =
+      let runs = running old n none holds.remembers in
+      record {
+        next = n;
+        is = inl refl;
+        holds = record {
+          remembers = inl (
+            none,
+            runs.0,
+            copied_sound result old.store.broken now.broken runs.1 other breaks,
+            subst (λ (h : Head). Runs h old.walker n) (sym same) runs.2,
+          );
+          backs = λ told sound. subst (λ (h : Head). Backs new h n.kept) (sym same) ((lasts n.kept (holds.backs told sound)).backs other);
+        };
+        moments = left_moments disk new old n result holds none lasts;
+      }
+
+  left_broken : (d : D) (before : StoreStatus) → Holds disk old n → old.stopped ≡ None → before ≡ status_of old.store.head
+      → now.head ≡ old.store.head
+      → ((s : State) → Backs disk old.store.head s → Lasts {A = Unit {0}} (Err copy.SourceFault) disk new old.store.head s)
+      → LeavesSource {A = A} (Err (fault.SourceFault, d)) disk new (record { store = now; walker = old.walker; stopped = Some before }) n
+  left_broken d before holds none told same lasts =
+      let runs = running old n none holds.remembers in
+      record {
+        next = breaking n;
+        is = inr (refl, runs.0, refl);
+        holds = record {
+          remembers = inr (
+            ap (λ (s : StoreStatus). Some s) (told ∙ same_status old.store.head old.walker n runs.2),
+            refl,
+            ap (λ (h : Head). h.path) same ∙ runs.2.path,
+          );
+          backs = λ t b. absurd cc;
+        };
+        moments = left_moments disk new old n (Err copy.SourceFault) holds none lasts;
+      }
+
+  left_behind : (f : CopyFault) (d : D) (before : StoreStatus) → Holds disk old n → old.stopped ≡ None → before ≡ status_of old.store.head
+      → now.head ≡ old.store.head → BreaksSource {A = Unit {0}} (Err f) old.store.broken now.broken
+      → ((s : State) → Backs disk old.store.head s → Lasts {A = Unit {0}} (Err f) disk new old.store.head s)
+      → LeavesSource {A = A} (Err (of_copy f, d)) disk new (record {
+        store = now;
+        walker = old.walker;
+        stopped = source_stopped f old.stopped before;
+      }) n
+  left_behind copy.SourceFault d before holds none told same breaks lasts = left_broken d before holds none told same lasts
+  left_behind copy.Exists d before holds none told same breaks lasts =
+      left_as_it_was (Err (fault.Exists, d)) (Err copy.Exists) (λ e. cc) holds none same breaks lasts
+  left_behind copy.DiskFault d before holds none told same breaks lasts =
+      left_as_it_was (Err (fault.DiskFault, d)) (Err copy.DiskFault) (λ e. cc) holds none same breaks lasts
+  left_behind (copy.HistoryTooLong have) d before holds none told same breaks lasts =
+      left_as_it_was (Err (fault.HistoryFull have, d)) (Err (copy.HistoryTooLong have)) (λ e. cc) holds none same breaks lasts
+  left_behind copy.Memory d before holds none told same breaks lasts =
+      left_as_it_was (Err (fault.Memory, d)) (Err copy.Memory) (λ e. cc) holds none same breaks lasts
+
+  -- behind a copy that was refused
+  pub left_refused : (f : CopyFault) (d : D) (before : StoreStatus) (e : NodeFault) (stopped : Option StoreStatus) → Holds disk old n
+      → old.stopped ≡ None → before ≡ status_of old.store.head → now.head ≡ old.store.head
+      → BreaksSource {A = Unit {0}} (Err f) old.store.broken now.broken
+      → ((s : State) → Backs disk old.store.head s → Lasts {A = Unit {0}} (Err f) disk new old.store.head s) → e ≡ of_copy f
+      → stopped ≡ source_stopped f old.stopped before
+      → LeavesSource {A = A} (Err (e, d)) disk new (record { store = now; walker = old.walker; stopped = stopped }) n
+  left_refused f d before e stopped holds none told same breaks lasts answer is =
+      let Left : NodeFault → Option StoreStatus → Type 0 = λ e. λ s. LeavesSource {A = A} {D = D} (Err (e, d)) disk new (record {
+        store = now;
+        walker = old.walker;
+        stopped = s;
+      }) n in
+      subst (λ (e : NodeFault). Left e stopped) (sym answer)
+      (subst (Left (of_copy f)) (sym is) (left_behind f d before holds none told same breaks lasts))
+
+-- a source that was not called
+pub left_untouched : {A D E : Type 0} (answer : Result A (NodeFault × D)) (disk : DiskState) (old : HeldLog E) (n : LogState)
+    → ((image : Folder) → disk.left_since disk.moment image → disk.may_leave image) → Holds disk old n → LeavesSource answer disk disk old n
+left_untouched {A} {D} answer disk old n only holds =
+    let comes = untouched {A = Unit {0}} (Ok tt) disk old n (λ m. m ≡ n) (Old n) only holds refl (λ d was. was) (λ e. absurd cc) in
+    record { next = n; is = inl refl; holds = holds; moments = comes.moments }
+
+-- ---- which refusals there are
+
+pub of_source : (f : CopyFault) (e : NodeFault) → e ≡ of_copy f → e ≡ fault.SourceFault → f ≡ copy.SourceFault
+of_source copy.SourceFault e answer is = refl
+of_source copy.Exists e answer is = absurd cc
+of_source copy.DiskFault e answer is = absurd cc
+of_source (copy.HistoryTooLong have) e answer is = absurd cc
+of_source copy.Memory e answer is = absurd cc
+
+pub of_existing : (f : CopyFault) (e : NodeFault) → e ≡ of_copy f → e ≡ fault.Exists → f ≡ copy.Exists
+of_existing copy.Exists e answer is = refl
+of_existing copy.SourceFault e answer is = absurd cc
+of_existing copy.DiskFault e answer is = absurd cc
+of_existing (copy.HistoryTooLong have) e answer is = absurd cc
+of_existing copy.Memory e answer is = absurd cc
+
+pub of_long : (f : CopyFault) (e : NodeFault) (have : ℕ) → e ≡ of_copy f → e ≡ fault.HistoryFull have → f ≡ copy.HistoryTooLong have
+of_long (copy.HistoryTooLong size) e have answer is = let same : fault.HistoryFull size ≡ fault.HistoryFull have = sym answer ∙ is in cc
+of_long copy.Exists e have answer is = absurd cc
+of_long copy.SourceFault e have answer is = absurd cc
+of_long copy.DiskFault e have answer is = absurd cc
+of_long copy.Memory e have answer is = absurd cc
+
+-- what a mount does not answer
+abbrev pub IsOther : NodeFault → Type 0
+IsOther e = (e ≢ fault.Exists) × (e ≢ fault.SourceFault) × ((have : ℕ) → e ≢ fault.HistoryFull have)
+
+refused_other : (size : ℕ) (folder : Folder) (f : StoreFault) → IsRefusal size folder f → IsOther (of_store f)
+refused_other size folder store.Broken is = absurd is
+refused_other size folder store.Exists is = absurd is
+refused_other size folder (store.Missing name) is = (λ e. cc, λ e. cc, λ have e. cc)
+refused_other size folder (store.BadControl place) is = (λ e. cc, λ e. cc, λ have e. cc)
+refused_other size folder (store.BadHistory tli wrong) is = (λ e. cc, λ e. cc, λ have e. cc)
+refused_other size folder (store.ShortFile name have needed) is = (λ e. cc, λ e. cc, λ have e. cc)
+refused_other size folder store.DiskFault is = (λ e. cc, λ e. cc, λ have e. cc)
+refused_other size folder store.Memory is = (λ e. cc, λ e. cc, λ have e. cc)
+
+wrong_other : (size : ℕ) (d : Durable) (e : NodeFault) → IsWrongTail size d e → IsOther e
+wrong_other size d fault.Exists is = absurd is
+wrong_other size d fault.SourceFault is = absurd is
+wrong_other size d (fault.HistoryFull have) is = absurd is
+wrong_other size d e is = (λ same. cc, λ same. cc, λ have same. cc)
+
+mounted_other : (size : ℕ) (folder : Folder) (d : Durable) (leaves : Folder → Type 0) (e : NodeFault) → StandsFor size folder d
+    → ((image : Folder) → leaves image → StandsFor size image d) → IsMountRefusal size folder leaves e → IsOther e
+mounted_other size folder d leaves e stands all (inl refused) = subst IsOther (sym refused.1) (refused_other size folder refused.0 refused.2)
+mounted_other size folder d leaves e stands all (inr wrong) =
+    let same : d ≡ wrong.0 = durable_one size folder d wrong.0 stands wrong.1 in
+    let every : (image : Folder) → leaves image → StandsFor size image wrong.0 = λ image left. subst (StandsFor size image) same (all image left) in
+    wrong_other size wrong.0 e (wrong.2 every)
+
+-- the folder that is told behind some calls
+pub told_on : (old new : ToldFiles) → is_some new ≡ is_some old → IsSome old → (folder : Folder) × (new ≡ Some folder)
+told_on None new same some = absurd (let k = some in cc)
+told_on (Some f) None same some = absurd cc
+told_on (Some f) (Some folder) same some = (folder, refl)
+
+-- all of a disk stands for the copy
+abbrev pub AllStand : ℕ → Durable → DiskState → Folder → Type 0
+AllStand size d disk folder = StandsFor size folder d × ((image : Folder) → disk.may_leave image → StandsFor size image d)
+
+pub copy_other : (size : ℕ) (d : Durable) (disk : DiskState) (folder : Folder) (e : NodeFault) → disk.files ≡ Some folder
+    → IfTold disk.files (AllStand size d disk) → IfTold disk.files (λ f. IsMountRefusal size f disk.may_leave e) → IsOther e
+copy_other size d disk folder e told stand refused =
+    let all = told_so disk.files folder (AllStand size d disk) told stand in
+    mounted_other size folder d disk.may_leave e all.0 all.1 (told_so disk.files folder (λ f. IsMountRefusal size f disk.may_leave e) told refused)
+
+-- ---- behind a copy that was made
+
+pub if_ok : {A E : Type 0} (result : Result A E) (P Q : A → Type 0) → ((x : A) → P x → Q x) → IfOk result P → IfOk result Q
+if_ok (Ok x) P Q leads h = leads x h
+if_ok (Err e) P Q leads h = tt
+
+pub ok_any : {A E : Type 0} (result : Result A E) (P : Type 0) → P → IfOk result (λ x. P)
+ok_any (Ok x) P h = h
+ok_any (Err e) P h = tt
+
+pub if_err : {A E : Type 0} (result : Result A E) (P Q : E → Type 0) → ((e : E) → P e → Q e) → IfErr result P → IfErr result Q
+if_err (Ok x) P Q leads h = tt
+if_err (Err e) P Q leads h = leads e h
+
+pub matched : {A E : Type 0} (result : Result A E) (P Q : A → Type 0) (R S : E → Type 0) → ((x : A) → P x → Q x) → ((e : E) → R e → S e)
+    → MatchResult result P R → MatchResult result Q S
+matched (Ok x) P Q R S leads fails h = leads x h
+matched (Err e) P Q R S leads fails h = fails e h
+
+-- all of the disk stands for the copy of the log
+pub all_stand : {E : Type 0} (source : DiskState) (old : HeldLog E) (before mid : DiskState) (n : LogState) (known : ℕ) → Holds source old n
+    → old.stopped ≡ None → n.told ≡ true → n.size ≡ VERSION_1_SIZE
+    → ((image : Folder) → before.may_leave image → IsKnown image (own_timeline n) known)
+    → ((s : State) (known : ℕ) → Backs source old.store.head s
+    → ((image : Folder) → before.may_leave image → IsKnown image old.store.head.control.tli known)
+    → IfTold mid.files (AllStand old.store.head.size (copied s.durable known) mid))
+    → IfTold mid.files (AllStand VERSION_1_SIZE (copied n.kept.durable known) mid)
+all_stand source old before mid n known holds none told size heard stand =
+    let runs = running old n none holds.remembers in
+    let own : (image : Folder) → before.may_leave image → IsKnown image old.store.head.control.tli known = λ image left.
+    subst (λ (k : Control). IsKnown image k.tli known) (sym runs.2.control) (heard image left) in
+    subst (λ (k : ℕ). IfTold mid.files (AllStand k (copied n.kept.durable known) mid)) (runs.2.size ∙ size)
+    (stand n.kept known (holds.backs told runs.0) own)
+
+-- what a crash leaves while the copy is made
+pub copy_moments : {E : Type 0} (source : DiskState) (old : HeldLog E) (before mid : DiskState) (folder : Folder) (n : LogState) → Holds source old n
+    → old.stopped ≡ None → n.told ≡ true → before.files ≡ Some folder
+    → IfTold before.files (λ f. (s : State) → Backs source old.store.head s
+    → LeavesOnly before mid (IsCopying before.may_leave old.store.head.size s.durable))
+    → LeavesOnly before mid (IsCopying before.may_leave n.size n.kept.durable)
+copy_moments source old before mid folder n holds none told files moments =
+    let runs = running old n none holds.remembers in
+    let Each : Folder → Type 0 = λ f. (s : State) → Backs source old.store.head s
+    → LeavesOnly before mid (IsCopying before.may_leave old.store.head.size s.durable) in
+    subst (λ (k : ℕ). LeavesOnly before mid (IsCopying before.may_leave k n.kept.durable)) runs.2.size
+    (told_so before.files folder Each files moments n.kept (holds.backs told runs.0))
+
+-- ---- faults of the source's disk
+
+pub counted : (f : CopyFault) (e : NodeFault) (old new : DiskState) (broken : Bool) → e ≡ of_copy f
+    → IsOfSource {A = Unit {0}} (Err f) old new broken → (e ≡ fault.SourceFault) ⊎ Stood old.faults new.faults
+counted copy.SourceFault e old new broken answer of = inl answer
+counted copy.Exists e old new broken answer of = inr (of.others (λ is. cc))
+counted copy.DiskFault e old new broken answer of = inr (of.others (λ is. cc))
+counted (copy.HistoryTooLong have) e old new broken answer of = inr (of.others (λ is. cc))
+counted copy.Memory e old new broken answer of = inr (of.others (λ is. cc))
+
+pub source_failed : (f : CopyFault) (e : NodeFault) (old new : DiskState) (broken : Bool) → e ≡ of_copy f → e ≡ fault.SourceFault → broken ≡ false
+    → IsOfSource {A = Unit {0}} (Err f) old new broken → Rose old.faults new.faults ⊎ Rose old.lacks new.lacks
+source_failed f e old new broken answer is sound of =
+    let Fails : CopyFault → Result (Unit {0}) CopyFault = λ x. Err x in
+    elim (of.failed (ap Fails (of_source f e answer is))) [
+      | inl broke ↦ absurd cc
+      | inr rose ↦ rose
+    ]

@@ -1,0 +1,43 @@
+-- Beginning a log with what another one keeps (PostgreSQL 17 manual, section "pg_basebackup").
+use Rattle.std.specs.Prelude.{◌≡◌, ◌⊎◌, ℕ, true, false, Option, Some, IsSome, Result, IfErr}
+use Rattle.repl_clone.specs.declared.fault.CopyFault.{CopyFault}
+use Rattle.repl_clone.specs.declared.fault.CopyFault.TheVariants as copy
+use Rattle.repl_control.specs.declared.control.TheConstants.{VERSION_1_SIZE}
+use Rattle.repl_disk.specs.Folder.{Folder}
+use Rattle.repl_disk.specs.State.{DiskState}
+use Rattle.repl_store.specs.Backing.{LeavesOne}
+use Rattle.repl_store.specs.Durable.{IsKnown}
+use Rattle.repl_store.specs.declared.store.StoreStatus.{StoreStatus}
+use Rattle.repl_wal.specs.Holding.{HeldLog, Holds}
+use Rattle.repl_wal.specs.State.{LogState, breaking, own_timeline}
+use Rattle.repl_wal.specs.Steps.{Old}
+use Rattle.repl_wal.specs.declared.fault.NodeFault.{NodeFault}
+use Rattle.repl_wal.specs.declared.fault.NodeFault.TheVariants as fault
+
+-- what a refusal of the copy is
+abbrev pub of_copy : CopyFault → NodeFault
+of_copy copy.Exists = fault.Exists
+of_copy copy.SourceFault = fault.SourceFault
+of_copy copy.DiskFault = fault.DiskFault
+of_copy (copy.HistoryTooLong have) = fault.HistoryFull have
+of_copy copy.Memory = fault.Memory
+
+-- what is remembered of the source: all, where its disk failed
+abbrev pub source_stopped : CopyFault → Option StoreStatus → StoreStatus → Option StoreStatus
+source_stopped copy.SourceFault was before = Some before
+source_stopped e was before = was
+
+-- The source is as it was, or broken where its disk failed in the call, and at any moment a crash of it leaves what it kept.
+pub record LeavesSource {A D E : Type 0} (result : Result A (NodeFault × D)) (old new : DiskState) (held : HeldLog E) (n : LogState) : Type 0 where
+  pub next : LogState
+  pub is : (next ≡ n) ⊎ ((next ≡ breaking n) × (n.broken ≡ false) × IfErr result (λ e. e.0 ≡ fault.SourceFault))
+  pub holds : Holds new held next
+  pub moments : n.told ≡ true → n.broken ≡ false → LeavesOne old new n.size (Old n)
+
+-- The source is known to be in this state, and all that a crash may leave of the disk has heard of the same timelines.
+pub record IsKnownSource {E : Type 0} (source : DiskState) (held : HeldLog E) (disk : DiskState) (n : LogState) (known : ℕ) : Type 0 where
+  pub holds : Holds source held n
+  pub told : n.told ≡ true
+  pub size : n.size ≡ VERSION_1_SIZE
+  pub files : IsSome disk.files
+  pub heard : (image : Folder) → disk.may_leave image → IsKnown image (own_timeline n) known

@@ -1,0 +1,92 @@
+//! Beginning a standby's log with what another log keeps.
+ghost use Rattle.std.specs.Prelude.{◌≡◌, ◌⊎◌, ℕ, true, None, IsSome, IfOk, IfErr, Ok, Err, MatchResult};
+ghost use Rattle.repl_clone.specs.Causes.{IsTooLong};
+ghost use Rattle.repl_clone.specs.Copied.{IsCopying, copied};
+ghost use Rattle.repl_control.specs.declared.control.TheConstants.{VERSION_1_SIZE};
+ghost use Rattle.repl_counts.specs.Counts.{Rose, Stood};
+ghost use Rattle.repl_disk.specs.Crash.{LeavesOnly};
+ghost use Rattle.repl_disk.specs.Folder.{Folder, IfTold};
+ghost use Rattle.repl_store.specs.Apart.{StaysApart};
+ghost use Rattle.repl_store.specs.Durable.{IsKnown, control_name};
+ghost use Rattle.repl_wal.specs.Cloning.{IsKnownSource, LeavesSource, of_copy, source_stopped};
+ghost use Rattle.repl_wal.specs.Holding.{Holds};
+ghost use Rattle.repl_wal.specs.Making.{mounted_log};
+ghost use Rattle.repl_wal.specs.State.{LogState, own_timeline, path_of};
+ghost use Rattle.repl_wal.specs.declared.fault.NodeFault.TheVariants as NodeFault;
+
+use crate::fault::NodeFault;
+use crate::wal::Wal;
+use repl_clone::{CopyFault, copy_store};
+use repl_disk::Disk;
+use repl_store::StoreStatus;
+use std::alloc::Global;
+
+impl<D: Disk> Wal<D> {
+    /// Makes a standby's log on a disk that has no store: with the path, the floor and the flushed bytes of another log. The
+    /// control is written last, so a crash before leaves no store. A disk that has a control is refused (`Exists`), and so is a
+    /// source that is broken or whose disk fails (`SourceFault`), which is broken from then on. Takes memory for a piece of the
+    /// log, the history and the names of files.
+    pub fn clone_from<E: Disk>(
+        alloc: Global,
+        disk: D,
+        from: &mut Wal<E>,
+    ) -> Result<Wal<D>, (NodeFault, D)>
+        // Where all images have heard of the same timelines, the files are known to be the copy's from here on.
+        ensures holds { (n : LogState) (known : ℕ) → Holds (E.state from.old.store.disk) from.old n → n.told ≡ true → n.size ≡ VERSION_1_SIZE
+            → IsSome (D.state disk).files → ((image : Folder) → (D.state disk).may_leave image → IsKnown image (own_timeline n) known)
+            → IfOk result (λ wal. Holds (D.state wal.store.disk) wal (mounted_log VERSION_1_SIZE (copied n.kept.durable known))) }
+        ensures none { IfOk result (λ wal. IfTold (D.state disk).files (λ folder. folder control_name ≡ None)) }
+        ensures exists { (n : LogState) (known : ℕ) → IsKnownSource (E.state from.old.store.disk) from.old (D.state disk) n known
+            → IfErr result (λ e. e.0 ≡ NodeFault.Exists → IfTold (D.state disk).files (λ folder. IsSome (folder control_name))) }
+        ensures too_long { (n : LogState) (known : ℕ) → IsKnownSource (E.state from.old.store.disk) from.old (D.state disk) n known
+            → IfErr result (λ e. (have : ℕ) → e.0 ≡ NodeFault.HistoryFull have → IsTooLong (path_of n) have) }
+        // Up to the copy that is then mounted, a crash leaves the control that was there, or the copy.
+        ensures moments { (n : LogState) → Holds (E.state from.old.store.disk) from.old n → n.told ≡ true → IfTold (D.state disk).files (λ folder. (made : D)
+            × LeavesOnly (D.state disk) (D.state made) (IsCopying (D.state disk).may_leave n.size n.kept.durable)
+            × MatchResult result (λ wal. D.keeps made wal.store.disk) (λ e. D.keeps made e.1)) }
+        // The source stays as it was, unless its disk failed.
+        ensures source { (n : LogState) → Holds (E.state from.old.store.disk) from.old n →
+            LeavesSource result (E.state from.old.store.disk) (E.state from.new.store.disk) from.new n }
+        // Each failure of the source's disk is told, and none is told without one, or without a lack, but where the source is broken.
+        ensures counted { MatchResult result (λ wal. Stood (E.state from.old.store.disk).faults (E.state from.new.store.disk).faults × Stood (E.state from.old.store.disk).wants (E.state from.new.store.disk).wants)
+            (λ e. (e.0 ≡ NodeFault.SourceFault) ⊎ Stood (E.state from.old.store.disk).faults (E.state from.new.store.disk).faults) }
+        ensures failed { (n : LogState) (known : ℕ) → IsKnownSource (E.state from.old.store.disk) from.old (D.state disk) n known
+            → IfErr result (λ e. e.0 ≡ NodeFault.SourceFault → (n.broken ≡ true) ⊎ Rose (E.state from.old.store.disk).faults (E.state from.new.store.disk).faults ⊎ Rose (E.state from.old.store.disk).lacks (E.state from.new.store.disk).lacks) }
+        // The files of the slots stay on both disks.
+        ensures apart { MatchResult result (λ wal. StaysApart (D.state disk) (D.state wal.store.disk)) (λ e. StaysApart (D.state disk) (D.state e.1)) }
+        ensures source_apart { StaysApart (E.state from.old.store.disk) (E.state from.new.store.disk) }
+        ensures keeps { MatchResult result (λ wal. D.keeps disk wal.store.disk) (λ e. D.keeps disk e.1) }
+        ensures source_keeps { E.keeps from.old.store.disk from.new.store.disk }
+    {
+        if from.stopped.is_some() {
+            return Err((NodeFault::SourceFault, disk));
+        }
+        let before = from.store.status();
+        let mut disk = disk;
+        match copy_store(alloc, &mut disk, &mut from.store) {
+            Ok(()) => Wal::mount(alloc, disk),
+            Err(fault) => Err((stop_source(&mut from.stopped, before, fault), disk)),
+        }
+    }
+}
+
+/// Remembers what the source was before its disk failed, and says why there is no copy.
+fn stop_source(
+    stopped: &mut Option<StoreStatus>,
+    before: StoreStatus,
+    fault: CopyFault,
+) -> NodeFault
+    ensures answer { result ≡ of_copy fault }
+    ensures stopped { stopped.new ≡ source_stopped fault stopped.old before }
+{
+    match fault {
+        CopyFault::Exists => NodeFault::Exists,
+        CopyFault::SourceFault => {
+            *stopped = Some(before);
+            NodeFault::SourceFault
+        }
+        CopyFault::DiskFault => NodeFault::DiskFault,
+        CopyFault::HistoryTooLong { have } => NodeFault::HistoryFull { have },
+        CopyFault::Memory => NodeFault::Memory,
+    }
+}
