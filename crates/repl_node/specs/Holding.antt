@@ -1,0 +1,54 @@
+-- How a node's state, its memory and the files of its disk hang together.
+use Rattle.std.specs.Prelude.{◌≡◌, ℕ, ◌⊎◌, true, false, List, Result, Err}
+use Rattle.repl_counts.specs.Counts.{Rose}
+use Rattle.repl_disk.specs.Crash.{LeavesOnly}
+use Rattle.repl_disk.specs.Folder.{Folder}
+use Rattle.repl_disk.specs.State.{DiskState}
+use Rattle.repl_slots.specs.Slot.{SlotList}
+use Rattle.repl_slots.specs.SlotFile.{Entry}
+use Rattle.repl_slots.specs.Stored.{Stores}
+use Rattle.repl_store.specs.Durable.{Durable, StandsFor}
+use Rattle.repl_wal.specs.Holding.{HeldLog, Remembers as RemembersLog, Holds as HoldsLog}
+use Rattle.repl_wal.specs.declared.fault.NodeFault.{NodeFault}
+use Rattle.repl_wal.specs.declared.fault.NodeFault.TheVariants as fault
+use Rattle.repl_node.specs.State.{Left, NodeState}
+
+-- a node, as contracts see it
+pub record HeldNode (D : Type 0) : Type 0 where
+  pub wal : HeldLog D
+  pub slots : SlotList
+
+-- the log and the slots in memory are those of this node
+pub record Remembers {D : Type 0} (held : HeldNode D) (n : NodeState) : Type 0 where
+  pub log : RemembersLog held.wal n.log
+  pub slots : held.slots.slots ≡ n.slots
+  pub sound : n.log.broken ≡ false → held.slots.broken ≡ false
+
+-- each image stores these slots
+abbrev pub AllStore : DiskState → List Entry → Type 0
+AllStore disk saved = (image : Folder) → disk.may_leave image → Stores saved image
+
+-- The node is in this state: in memory, and, where the disk is known to tell it, in its files. After a failure of the disk
+-- nothing is said of them.
+pub record Holds {D : Type 0} (disk : DiskState) (held : HeldNode D) (n : NodeState) : Type 0 where
+  pub log : HoldsLog disk held.wal n.log
+  pub slots : held.slots.slots ≡ n.slots
+  pub sound : n.log.broken ≡ false → held.slots.broken ≡ false
+  pub stored : n.log.told ≡ true → n.log.broken ≡ false → AllStore disk n.saved
+
+-- a crash at any moment since then leaves one of these
+abbrev pub LeavesSome : DiskState → DiskState → ℕ → Left → Type 0
+LeavesSome old new size left = LeavesOnly old new (λ image. (d : Durable) × (saved : List Entry) × left d saved × StandsFor size image d × Stores saved image)
+
+-- What a call comes to: the node goes to a next state, and a crash in the call leaves one of a column's.
+pub record Goes {D : Type 0} (old new : DiskState) (held : HeldNode D) (n : NodeState) (Next : NodeState → Type 0) (left : Left) : Type 0 where
+  pub next : NodeState
+  pub is : Next next
+  pub holds : Holds new held next
+  pub moments : n.log.told ≡ true → n.log.broken ≡ false → LeavesSome old new n.log.size left
+
+-- And a failure is answered only where the disk counted one, or, where its files are not known, a lack.
+pub record Comes {A D : Type 0} (result : Result A NodeFault) (old new : DiskState) (held : HeldNode D) (n : NodeState)
+    (Next : NodeState → Type 0) (left : Left) : Type 0 where
+  pub goes : Goes old new held n Next left
+  pub failed : result ≡ Err fault.DiskFault → Rose old.faults new.faults ⊎ ((n.log.told ≡ false) × Rose old.lacks new.lacks)

@@ -1,0 +1,68 @@
+//! Beginning a standby with what another node keeps.
+ghost use Rattle.std.specs.Prelude.{◌≡◌, ◌⊎◌, ℕ, [], true, false, None, IsSome, IfOk, IfErr, Ok, Err, MatchResult};
+ghost use Rattle.repl_clone.specs.Copied.{copied};
+ghost use Rattle.repl_control.specs.declared.control.TheConstants.{VERSION_1_SIZE};
+ghost use Rattle.repl_disk.specs.Folder.{Folder, IfTold};
+ghost use Rattle.repl_store.specs.Durable.{IsKnown, control_name};
+ghost use Rattle.repl_wal.specs.State.{own_timeline};
+ghost use Rattle.repl_node.specs.Cloning.{LeavesNode};
+ghost use Rattle.repl_node.specs.Holding.{Holds};
+ghost use Rattle.repl_node.specs.Making.{SlotsAgree, mounted_node};
+ghost use Rattle.repl_node.specs.State.{NodeState};
+
+use crate::making::clear;
+use crate::node::Node;
+use repl_disk::Disk;
+use repl_slots::Slots;
+use repl_wal::{NodeFault, Wal};
+use std::alloc::Global;
+
+impl<D: Disk> Node<D> {
+    /// Makes a standby on a disk that has no node: with the path, the floor and the flushed bytes of another node, and without
+    /// slots (PostgreSQL 17 manual, section "pg_basebackup"). A file of slots that is there is removed first, and the control is
+    /// written last, so a crash before leaves no node. Refuses a disk that has a control (`Exists`), and a node that is broken, or
+    /// whose disk fails (`SourceFault`), which is broken from then on. Takes memory for a piece of the log, the history and the
+    /// names of files.
+    pub fn clone_from<E: Disk>(
+        alloc: Global,
+        disk: D,
+        from: &mut Node<E>,
+    ) -> Result<Node<D>, (NodeFault, D)>
+        // Where all images have heard of the same timelines, and have slots where the disk reads so, the files are known to be the
+        // new node's.
+        ensures holds { (n : NodeState) (known : ℕ) → Holds (E.state from.old.wal.store.disk) from.old n → n.log.told ≡ true → n.log.size ≡ VERSION_1_SIZE
+            → IsSome (D.state disk).files → SlotsAgree (D.state disk)
+            → ((image : Folder) → (D.state disk).may_leave image → IsKnown image (own_timeline n.log) known)
+            → IfOk result (λ node. Holds (D.state node.wal.store.disk) node (mounted_node VERSION_1_SIZE (copied n.log.kept.durable known) [])) }
+        ensures none { IfOk result (λ node. IfTold (D.state disk).files (λ folder. folder control_name ≡ None)) }
+        // The source stays as it was, unless its disk failed.
+        ensures source { (n : NodeState) → Holds (E.state from.old.wal.store.disk) from.old n →
+            LeavesNode result (E.state from.old.wal.store.disk) (E.state from.new.wal.store.disk) from.new n }
+        ensures keeps { MatchResult result (λ node. D.keeps disk node.wal.store.disk) (λ e. D.keeps disk e.1) }
+        ensures source_keeps { E.keeps from.old.wal.store.disk from.new.wal.store.disk }
+    {
+        let mut disk = disk;
+        match clear(&mut disk) {
+            Ok(()) => {}
+            Err(fault) => return Err((fault, disk)),
+        }
+        without_slots(alloc, Wal::clone_from(alloc, disk, &mut from.wal))
+    }
+}
+
+/// The node of this log, with no slots.
+fn without_slots<D: Disk>(
+    alloc: Global,
+    log: Result<Wal<D>, (NodeFault, D)>,
+) -> Result<Node<D>, (NodeFault, D)>
+    ensures made { IfOk result (λ node. (log ≡ Ok node.wal) × (node.slots ≡ record { slots = []; broken = false })) }
+    ensures refused { IfErr result (λ e. log ≡ Err e) }
+{
+    match log {
+        Ok(wal) => Ok(Node {
+            wal,
+            slots: Slots::new(alloc),
+        }),
+        Err(refused) => Err(refused),
+    }
+}

@@ -1,0 +1,95 @@
+//! Making a node.
+ghost use Rattle.std.specs.Prelude.{◌≡◌, ◌⊎◌, ℕ, [], None, Some, IsSome, IfOk, IfErr, Ok, Err, OnOk, MatchResult};
+ghost use Rattle.repl_control.specs.declared.control.TheConstants.{VERSION_1_SIZE};
+ghost use Rattle.repl_disk.specs.Crash.{Elapses, LeavesOnly};
+ghost use Rattle.repl_disk.specs.Folder.{Folder, IfTold};
+ghost use Rattle.repl_store.specs.Creating.{fresh};
+ghost use Rattle.repl_store.specs.Durable.{IsKnown, StandsFor, control_name};
+ghost use Rattle.repl_wal.specs.Making.{IsMadeOf, IsUnmade, untold_log};
+ghost use Rattle.repl_wal.specs.declared.fault.NodeFault.TheVariants as NodeFault;
+ghost use Rattle.repl_node.specs.Holding.{Holds, Remembers};
+ghost use Rattle.repl_node.specs.Making.{HasNoSlots, IsBegun, IsCleared, IsClearing, SlotsAgree, mounted_node};
+
+use crate::node::Node;
+use repl_control::Role;
+use repl_disk::{Disk, DiskError};
+use repl_page::Ident;
+use repl_slots::Slots;
+use repl_wal::{NodeFault, Wal};
+use std::alloc::Global;
+
+/// The file that tells a store.
+const CONTROL: &str = "control";
+
+/// The file of the slots.
+const SLOTS: &str = "slots";
+
+impl<D: Disk> Node<D> {
+    /// Makes a node on a disk that has none: on timeline 1, without a record, and without slots. A file of slots that is there
+    /// is removed first. Where a control is there it is refused (`Exists`), and nothing changes.
+    pub fn init(alloc: Global, disk: D, ident: Ident, role: Role) -> Result<Node<D>, (NodeFault, D)>
+        requires { ident.size ≡ VERSION_1_SIZE }
+        ensures made { IfOk result (λ node. Remembers node (record { log = untold_log VERSION_1_SIZE (fresh role ident 1); slots = []; saved = [] })) }
+        // There was no control, and from here on every image is the new node's.
+        ensures images { IfOk result (λ node. IfTold (D.state disk).files (λ folder. (folder control_name ≡ None)
+            × ((image : Folder) → (D.state node.wal.store.disk).may_leave image → (known : ℕ) × StandsFor VERSION_1_SIZE image (fresh role ident known)))) }
+        // Where all images have heard of the same timelines, and have slots where the disk reads so, the files are known to be the
+        // new node's.
+        ensures holds { IfOk result (λ node. (known : ℕ) → IsSome (D.state disk).files → SlotsAgree (D.state disk)
+            → ((image : Folder) → (D.state disk).may_leave image → IsKnown image 1 known)
+            → Holds (D.state node.wal.store.disk) node (mounted_node VERSION_1_SIZE (fresh role ident known) [])) }
+        ensures refused { IfErr result (λ e. IsUnmade (D.state disk).files e.0) }
+        // A crash leaves what one before might have left, but for its slots, or the new node.
+        ensures moments { IfTold (D.state disk).files (λ folder. MatchResult result
+            (λ node. LeavesOnly (D.state disk) (D.state node.wal.store.disk) (IsBegun (D.state disk).may_leave role ident))
+            (λ e. LeavesOnly (D.state disk) (D.state e.1) (IsBegun (D.state disk).may_leave role ident))) }
+        ensures caused { MatchResult result (λ node. IsMadeOf (Ok node) (D.state disk) (D.state node.wal.store.disk))
+            (λ e. IsMadeOf {A = Node D} (Err e.0) (D.state disk) (D.state e.1)) }
+        ensures keeps { MatchResult result (λ node. D.keeps disk node.wal.store.disk) (λ e. D.keeps disk e.1) }
+    {
+        let mut disk = disk;
+        match clear(&mut disk) {
+            Ok(()) => {}
+            Err(fault) => return Err((fault, disk)),
+        }
+        match Wal::init(alloc, disk, ident, role) {
+            Ok(wal) => Ok(Node {
+                wal,
+                slots: Slots::new(alloc),
+            }),
+            Err(refused) => Err(refused),
+        }
+    }
+}
+
+/// Removes the slots from a disk that has no control.
+pub(crate) fn clear<D: Disk>(disk: &mut D) -> Result<(), NodeFault>
+    ensures cleared { OnOk result (IfTold (D.state disk.old).files (λ folder. IsCleared (D.state disk.old) (D.state disk.new) folder)) }
+    ensures refused { IfErr result (λ e. IsUnmade (D.state disk.old).files e) }
+    ensures moments { IfTold (D.state disk.old).files (λ folder. LeavesOnly (D.state disk.old) (D.state disk.new) (IsClearing (D.state disk.old).may_leave)) }
+    ensures caused { IsMadeOf result (D.state disk.old) (D.state disk.new) }
+    ensures keeps { D.keeps disk.old disk.new }
+{
+    match disk.size(CONTROL) {
+        Ok(_) => Err(NodeFault::Exists),
+        Err(DiskError::Missing) => remove_slots(disk),
+        Err(DiskError::Failed) => Err(NodeFault::DiskFault),
+        Err(DiskError::Memory) => Err(NodeFault::Memory),
+    }
+}
+
+/// Removes the file of the slots, if it is there.
+fn remove_slots<D: Disk>(disk: &mut D) -> Result<(), NodeFault>
+    ensures cleared { OnOk result (IfTold (D.state disk.old).files (λ folder. HasNoSlots (D.state disk.old) (D.state disk.new) folder)) }
+    ensures refused { IfErr result (λ e. (e ≡ NodeFault.DiskFault) ⊎ (e ≡ NodeFault.Memory)) }
+    ensures left { IfTold (D.state disk.old).files (λ folder. (image : Folder) → (D.state disk.new).may_leave image → IsClearing (D.state disk.old).may_leave image) }
+    ensures time { Elapses (D.state disk.old) (D.state disk.new) }
+    ensures caused { IsMadeOf result (D.state disk.old) (D.state disk.new) }
+    ensures keeps { D.keeps disk.old disk.new }
+{
+    match disk.remove(SLOTS) {
+        Ok(()) | Err(DiskError::Missing) => Ok(()),
+        Err(DiskError::Failed) => Err(NodeFault::DiskFault),
+        Err(DiskError::Memory) => Err(NodeFault::Memory),
+    }
+}
