@@ -1,8 +1,8 @@
 -- A new node on a disk without a control, from which the slots were removed.
-use Rattle.std.proofs.Common.{◌≡◌, ℕ, List, [], Option, None, IsSome, ◌⊎◌, inl, inr, ⊎_elim, refl, sym, ◌∙◌, subst}
+use Rattle.std.proofs.Common.{◌≡◌, ℕ, List, [], Option, Some, None, IsSome, ◌⊎◌, inl, inr, ⊎_elim, refl, sym, ◌∙◌, subst}
 use Rattle.repl_control.specs.declared.control.Role.{Role}
 use Rattle.repl_disk.specs.Crash.{LeavesOnly}
-use Rattle.repl_disk.specs.Folder.{Folder, IfTold}
+use Rattle.repl_disk.specs.Folder.{Folder, IfTold, ToldFiles}
 use Rattle.repl_disk.specs.Moments.{joined, weakened}
 use Rattle.repl_disk.specs.Runs.{told_so, where_told}
 use Rattle.repl_disk.specs.State.{DiskState}
@@ -81,6 +81,14 @@ cleared_begun old mid role ident first =
     (told_so old.files folder (λ f. LeavesOnly old mid (IsClearing old.may_leave)) told first) (begun_cleared old.may_leave role ident))
 
 -- ---- what is known of it
+
+-- a disk that tells its files tells some
+pub some_folder : (told : ToldFiles) → IsSome told → (folder : Folder) × (told ≡ Some folder)
+some_folder None is = absurd cc
+some_folder (Some folder) is = (folder, refl)
+
+pub is_some_as : (told : ToldFiles) (folder : Folder) → told ≡ Some folder → IsSome told
+is_some_as told folder is = subst (λ (t : ToldFiles). IsSome t) (sym is) refl
 
 some_at : (a b : Option (List ℕ)) → a ≡ b → IsSome b → IsSome a
 some_at a b is = subst (λ o. IsSome o) (sym is)

@@ -1,8 +1,7 @@
 -- The slots go, and then the log is copied.
-use Rattle.std.proofs.Common.{◌≡◌, ℕ, [], false, Result, Ok, Err, IfOk, IfErr, MatchResult, Some, None, IsSome, refl, sym, ap, subst}
+use Rattle.std.proofs.Common.{◌≡◌, ℕ, [], false, Result, Ok, Err, IfOk, IfErr, MatchResult, refl, sym, ap, subst}
 use Rattle.repl_clone.specs.Copied.{copied}
 use Rattle.repl_control.specs.declared.control.TheConstants.{VERSION_1_SIZE}
-use Rattle.repl_disk.specs.Folder.{Folder, ToldFiles}
 use Rattle.repl_disk.specs.Runs.{told_so}
 use Rattle.repl_disk.specs.State.{DiskState}
 use Rattle.repl_slots.specs.Slot.{SlotList}
@@ -15,17 +14,9 @@ use Rattle.repl_store.specs.Durable.{Durable}
 use Rattle.repl_node.specs.Cloning.{LeavesNode}
 use Rattle.repl_node.specs.Holding.{AllStore, HeldNode, Holds}
 use Rattle.repl_node.specs.Making.{IsCleared, mounted_node}
-use Rattle.repl_node.proofs.Begun.{known_on, without_slots}
+use Rattle.repl_node.proofs.Begun.{is_some_as, known_on, some_folder, without_slots}
 use Rattle.repl_node.proofs.Copied.{source_left}
 use Rattle.repl_node.proofs.node.Node.clone_from.Goals as goal
-
--- a disk that tells its files tells some
-some_folder : (told : ToldFiles) → IsSome told → (folder : Folder) × (told ≡ Some folder)
-some_folder None is = absurd cc
-some_folder (Some folder) is = (folder, refl)
-
-is_some_as : (told : ToldFiles) (folder : Folder) → told ≡ Some folder → IsSome told
-is_some_as told folder is = subst (λ (t : ToldFiles). IsSome t) (sym is) refl
 
 -- the node of a log that is so, without slots
 node_holds : {D : Type 0} (state : D → DiskState) (log : Result (HeldLog D) (NodeFault × D)) (result : Result (HeldNode D) (NodeFault × D))

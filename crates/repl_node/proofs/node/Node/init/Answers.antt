@@ -1,24 +1,15 @@
 -- The slots go, and then the log is made.
-use Rattle.std.proofs.Common.{◌≡◌, Some, None, IsSome, refl, sym, ap, subst}
-use Rattle.repl_disk.specs.Folder.{Folder, ToldFiles}
+use Rattle.std.proofs.Common.{ap}
 use Rattle.repl_disk.specs.Runs.{told_so}
 use Rattle.repl_slots.specs.Slot.{SlotList}
 use Rattle.repl_node.specs.Making.{IsCleared}
-use Rattle.repl_node.proofs.Begun.{begun_moments, cleared_begun, known_on, without_slots}
+use Rattle.repl_node.proofs.Begun.{begun_moments, cleared_begun, is_some_as, known_on, some_folder, without_slots}
 use Rattle.repl_node.proofs.node.Node.init.Goals as goal
 
 pub returns-in-Err-clause-moments : goal.returns-in-Err-clause-moments
 returns-in-Err-clause-moments g c =
     let state = g.D.Disk.state in
     cleared_begun (state c.args.disk) (state c.clear.new.disk) c.args.role c.args.ident c.in-Err.ensures.moments
-
--- a disk that tells its files tells some
-some_folder : (told : ToldFiles) → IsSome told → (folder : Folder) × (told ≡ Some folder)
-some_folder None is = absurd cc
-some_folder (Some folder) is = (folder, refl)
-
-is_some_as : (told : ToldFiles) (folder : Folder) → told ≡ Some folder → IsSome told
-is_some_as told folder is = subst (λ (t : ToldFiles). IsSome t) (sym is) refl
 
 pub returns-in-Ok-init-clause-holds : goal.returns-in-Ok-init-clause-holds
 returns-in-Ok-init-clause-holds g c known told agree all =
