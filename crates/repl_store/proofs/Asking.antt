@@ -1,8 +1,9 @@
 -- Calls that only read, one after the other.
 use Rattle.std.proofs.Common.{◌≡◌, ◌⊎◌, ℕ, None, Result, Ok, Err, OnOk, IfErr, refl, sym, ◌∙◌, subst, inl, inr, ⊎_elim, arith}
 use Rattle.repl_counts.specs.Counts.{Rose, Stood}
-use Rattle.repl_disk.specs.Folder.{Folder}
-use Rattle.repl_disk.specs.Moments.{joined, started, weakened}
+use Rattle.repl_disk.specs.Crash.{Elapses, NoneNew}
+use Rattle.repl_disk.specs.Folder.{Folder, Stayed}
+use Rattle.repl_disk.specs.Moments.{goes_on, joined, started, weakened}
 use Rattle.repl_disk.specs.State.{DiskState}
 use Rattle.repl_store.specs.Backing.{Asks, OnlyReads}
 use Rattle.repl_store.specs.declared.fault.StoreFault.{StoreFault}
@@ -14,6 +15,19 @@ reads_then old mid new first second = record {
   none_new = λ image now. first.none_new image (second.none_new image now);
   moments = joined old mid new old.may_leave first.moments
       (weakened mid new mid.may_leave old.may_leave second.moments first.none_new);
+}
+
+-- before the first call
+pub reads_none : (old : DiskState) → ((image : Folder) → old.left_since old.moment image → old.may_leave image) → OnlyReads old old
+reads_none old only_now = record { stayed = refl; none_new = λ image now. now; moments = started old old.may_leave only_now }
+
+-- one of the disk's
+pub reads_query : (old new : DiskState) → ((image : Folder) → old.left_since old.moment image → old.may_leave image)
+    → Stayed old.files new.files → NoneNew old.may_leave new.may_leave → Elapses old new → OnlyReads old new
+reads_query old new only_now stayed none_new time = record {
+  stayed = stayed;
+  none_new = none_new;
+  moments = goes_on old old new old.may_leave (started old old.may_leave only_now) time none_new;
 }
 
 module _ {A B : Type 0} (x : B) (old mid new : DiskState) (first : Asks {A = B} (Ok x) old mid) where
@@ -57,7 +71,7 @@ goes_on_ok x y old new asks = record { only = asks.only; ok = asks.ok; failed = 
 pub asks_none : (old : DiskState) → ((image : Folder) → old.left_since old.moment image → old.may_leave image)
     → Asks {A = Unit {0}} (Ok tt) old old
 asks_none old only_now = record {
-  only = record { stayed = refl; none_new = λ image now. now; moments = started old old.may_leave only_now };
+  only = reads_none old only_now;
   ok = (refl, refl);
   failed = λ is. absurd cc;
   others = tt;

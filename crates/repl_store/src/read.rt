@@ -1,7 +1,7 @@
 //! Reading the log along the path.
 ghost use Rattle.std.specs.Prelude.{◌≡◌, ◌≢◌, ◌<◌, ◌≤◌, ◌+◌, ◌-◌, ◌%◌, ◌↔◌, length, take, drop, true, Err, OnOk};
 ghost use Rattle.repl_store.specs.Apart.{StaysApart};
-ghost use Rattle.repl_store.specs.Backing.{Backs, Before, Breaks, Comes, IsCaused, Reads, State, log};
+ghost use Rattle.repl_store.specs.Backing.{Backs, Before, Breaks, Comes, IsCaused, OnlyReads, Reads, State, log};
 ghost use Rattle.repl_store.specs.declared.fault.StoreFault.TheVariants as StoreFault;
 
 use crate::fault::{StoreFault, fault_of};
@@ -23,6 +23,8 @@ impl<D: Disk> Store<D> {
         ensures breaks { Breaks result self.old.broken self.new.broken }
         ensures head { self.new.head ≡ self.old.head }
         ensures caused { IsCaused result (D.state self.old.disk) (D.state self.new.disk) }
+        // No file changes, and a crash leaves nothing new.
+        ensures only { OnlyReads (D.state self.old.disk) (D.state self.new.disk) }
         ensures apart { StaysApart (D.state self.old.disk) (D.state self.new.disk) }
         ensures keeps { D.keeps self.old.disk self.new.disk }
         ensures read { (s : State) → Backs (D.state self.old.disk) self.old.head s →
@@ -51,7 +53,7 @@ pub(crate) fn read_range<D: Disk>(
     ensures size { length room.new ≡ length room.old }
     ensures caused { IsCaused result (D.state disk.old) (D.state disk.new) }
     ensures unbroken { result ≢ Err StoreFault.Broken }
-    ensures apart { StaysApart (D.state disk.old) (D.state disk.new) }
+    ensures only { OnlyReads (D.state disk.old) (D.state disk.new) }
     ensures keeps { D.keeps disk.old disk.new }
     ensures reads { (s : State) → Backs (D.state disk.old) head.now s → Reads result (D.state disk.old) (D.state disk.new) head.now s at room.old room.new }
 {
@@ -93,7 +95,7 @@ fn read_piece<D: Disk>(
     ensures size { length room.new ≡ length room.old }
     ensures caused { IsCaused result (D.state disk.old) (D.state disk.new) }
     ensures unbroken { result ≢ Err StoreFault.Broken }
-    ensures apart { StaysApart (D.state disk.old) (D.state disk.new) }
+    ensures only { OnlyReads (D.state disk.old) (D.state disk.new) }
     ensures keeps { D.keeps disk.old disk.new }
     ensures reads { (s : State) → Backs (D.state disk.old) head.now s → Reads result (D.state disk.old) (D.state disk.new) head.now s at room.old room.new }
 {

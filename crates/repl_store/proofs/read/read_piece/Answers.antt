@@ -4,7 +4,7 @@ use Rattle.repl_disk.specs.Answers.{OnlyWhereThere}
 use Rattle.repl_store.specs.Backing.{Reads}
 use Rattle.repl_store.specs.declared.fault.StoreFault.{StoreFault}
 use Rattle.repl_store.specs.Durable.{segment_file}
-use Rattle.repl_store.proofs.Apart.{apart_query}
+use Rattle.repl_store.proofs.Asking.{reads_query}
 use Rattle.repl_store.proofs.Reading.{only_old, reads_ok, not_short, reads_err}
 use Rattle.repl_store.proofs.read.read_piece.Goals as goal
 
@@ -43,17 +43,17 @@ returns-clause-reads g c s backs =
     c.requires.some c.requires.floor c.requires.end c.requires.inside c.deref.result.now c.place_in_segment-place.result named
     c.place_in_segment-place.ensures c.in-Err.error there c.in-Err.ensures.ends)
 
-pub returns-in-Ok-clause-apart : goal.returns-in-Ok-clause-apart
-returns-in-Ok-clause-apart g c =
-    apart_query (g.D.Disk.state c.args.disk.now) (g.D.Disk.state c.read_at.new.self) (g.met.D.Disk.only_now c.args.disk.now)
+pub returns-in-Ok-clause-only : goal.returns-in-Ok-clause-only
+returns-in-Ok-clause-only g c =
+    reads_query (g.D.Disk.state c.args.disk.now) (g.D.Disk.state c.read_at.new.self) (g.met.D.Disk.only_now c.args.disk.now)
     c.read_at.ensures.files c.read_at.ensures.crash c.read_at.ensures.ends.time
 
-pub returns-in-Ok-2-clause-apart : goal.returns-in-Ok-2-clause-apart
-returns-in-Ok-2-clause-apart g c =
-    apart_query (g.D.Disk.state c.args.disk.now) (g.D.Disk.state c.read_at.new.self) (g.met.D.Disk.only_now c.args.disk.now)
+pub returns-in-Ok-2-clause-only : goal.returns-in-Ok-2-clause-only
+returns-in-Ok-2-clause-only g c =
+    reads_query (g.D.Disk.state c.args.disk.now) (g.D.Disk.state c.read_at.new.self) (g.met.D.Disk.only_now c.args.disk.now)
     c.read_at.ensures.files c.read_at.ensures.crash c.read_at.ensures.ends.time
 
-pub returns-clause-apart : goal.returns-clause-apart
-returns-clause-apart g c =
-    apart_query (g.D.Disk.state c.args.disk.now) (g.D.Disk.state c.read_at.new.self) (g.met.D.Disk.only_now c.args.disk.now)
+pub returns-clause-only : goal.returns-clause-only
+returns-clause-only g c =
+    reads_query (g.D.Disk.state c.args.disk.now) (g.D.Disk.state c.read_at.new.self) (g.met.D.Disk.only_now c.args.disk.now)
     c.read_at.ensures.files c.read_at.ensures.crash c.read_at.ensures.ends.time

@@ -4,7 +4,7 @@ use Rattle.std.proofs.lemmas.List.{length-take}
 use borrow.Rule.Slice.PartMut.{put_mid, same_len_mid}
 use Rattle.repl_store.specs.Backing.{Reads}
 use Rattle.repl_store.specs.declared.fault.StoreFault.{StoreFault}
-use Rattle.repl_store.proofs.Apart.{apart_on}
+use Rattle.repl_store.proofs.Asking.{reads_then}
 use Rattle.repl_store.proofs.Reading.{filled_err, filled_more}
 use Rattle.repl_store.proofs.read.read_range.Goals as goal
 
@@ -47,6 +47,6 @@ loop-filled-preserved g c =
           filled_more (state c.args.disk.now) (state c.loop-filled.disk) (state c.read_piece.new.disk) head s c.args.at filled
           c.loop-filled.room c.read_piece.new.room so_far end part above inside size part_size c.requires.floor reads
           c.in_ok-read_piece.ensures.caused.ok.0,
-      apart_on (state c.args.disk.now) (state c.loop-filled.disk) (state c.read_piece.new.disk) c.loop-filled.invariant.6
-          c.in_ok-read_piece.ensures.apart,
+      reads_then (state c.args.disk.now) (state c.loop-filled.disk) (state c.read_piece.new.disk) c.loop-filled.invariant.6
+          c.in_ok-read_piece.ensures.only,
     )

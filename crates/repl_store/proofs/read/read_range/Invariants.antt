@@ -1,8 +1,7 @@
 -- What was filled is the log's, and nothing else changed.
 use Rattle.std.proofs.Common.{◌≡◌, ◌≤◌, ◌-◌, length}
 use Rattle.repl_counts.specs.Counts.{Stood}
-use Rattle.repl_store.specs.Apart.{StaysApart}
-use Rattle.repl_store.specs.Backing.{Backs, State}
+use Rattle.repl_store.specs.Backing.{Backs, OnlyReads, State}
 use Rattle.repl_store.proofs.Reading.{Filled}
 use Rattle.repl_store.proofs.read.read_range.Given as goal
 
@@ -14,7 +13,7 @@ invariant-loop-filled g l =
     × g.D.Disk.keeps l.initial.disk l.disk
     × ((s : State) → Backs (g.D.Disk.state l.initial.disk) l.fn.head s
     → Filled (g.D.Disk.state l.initial.disk) (g.D.Disk.state l.disk) l.fn.head s l.fn.at l.filled l.room)
-    × StaysApart (g.D.Disk.state l.initial.disk) (g.D.Disk.state l.disk)
+    × OnlyReads (g.D.Disk.state l.initial.disk) (g.D.Disk.state l.disk)
 
 abbrev pub decreases-loop-filled : goal.decreases-loop-filled
 decreases-loop-filled g l = length l.initial.room - l.filled
