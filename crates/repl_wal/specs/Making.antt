@@ -1,5 +1,5 @@
 -- Making a log, and opening one again.
-use Rattle.std.specs.Prelude.{◌≡◌, ℕ, ◌+◌, ◌-◌, ◌<◌, ◌⊎◌, false, true, List, [], length, take, drop, None, Result, Err, OnOk}
+use Rattle.std.specs.Prelude.{◌≡◌, ℕ, ◌+◌, ◌-◌, ◌<◌, ◌⊎◌, false, true, List, [], length, take, drop, None, Result, Err, IfErr, OnOk}
 use Rattle.repl_counts.specs.Counts.{Rose, Stood}
 use Rattle.repl_disk.specs.Folder.{Folder, ToldFiles}
 use Rattle.repl_disk.specs.State.{DiskState}
@@ -39,6 +39,7 @@ IsUnmade told e = (f : StoreFault) × (e ≡ of_store f) × IsNoStore told f
 pub record IsMadeOf {A : Type 0} (result : Result A NodeFault) (old new : DiskState) : Type 0 where
   pub ok : OnOk result (Stood old.faults new.faults × Stood old.wants new.wants)
   pub failed : result ≡ Err fault.DiskFault → Rose old.faults new.faults ⊎ ((old.files ≡ None) × Rose old.lacks new.lacks)
+  pub others : IfErr result (λ e. (e ≡ fault.DiskFault) ⊎ Stood old.faults new.faults)
 
 -- the state of a log that has nothing behind its last whole record, in such a store. Private clauses cite this.
 pub record BeginsAs (head : Head) (n : LogState) : Type 0 where

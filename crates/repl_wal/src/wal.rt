@@ -1,5 +1,6 @@
 //! A log, and what it tells of itself.
-ghost use Rattle.std.specs.Prelude.{◌≡◌, ◌↔◌, false, true, IsTrue};
+ghost use Rattle.std.specs.Prelude.{◌≡◌, ◌↔◌, false, true, IsTrue, None};
+ghost use Rattle.repl_store.specs.Head.{status_of};
 ghost use Rattle.repl_control.specs.declared.control.Role.TheVariants as Role;
 ghost use Rattle.std.specs.Borrow.{Lends, sem};
 ghost use Rattle.repl_wal.specs.contracts.wal.Wal.{the_row};
@@ -80,8 +81,11 @@ impl<D: Disk> Wal<D> {
     /// failed.
     pub fn identify(&self) -> Identity
         ensures told { (n : LogState) → Remembers self.now n → result ≡ identity_in (status_of_log n) }
-        // While no call of the disk failed, the log is right.
+        // While no call of the disk failed, that is what the store tells, and the log is right.
+        ensures head { self.now.stopped ≡ None → result ≡ identity_in (status_of self.now.store.head) }
         ensures right { (n : LogState) → Remembers self.now n → n.broken ≡ false → IsLog n }
+        // There is always such a log.
+        ensures some { (n : LogState) × Remembers self.now n }
     {
         match self.stopped {
             Some(before) => identity_in(&before),
