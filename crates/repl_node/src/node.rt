@@ -1,6 +1,7 @@
 //! A node, and what it tells of itself.
-ghost use Rattle.std.specs.Prelude.{◌≡◌, false};
+ghost use Rattle.std.specs.Prelude.{◌≡◌, false, None};
 ghost use Rattle.repl_slots.specs.Slot.{AreSlots};
+ghost use Rattle.repl_store.specs.Head.{status_of};
 ghost use Rattle.repl_wal.specs.State.{IsLog, identity_in, path_of, status_of_log};
 ghost use Rattle.repl_node.specs.Holding.{Remembers};
 ghost use Rattle.repl_node.specs.State.{NodeState};
@@ -31,7 +32,8 @@ impl<D: Disk> Node<D> {
     /// failed.
     pub fn identify(&self) -> Identity
         ensures told { (n : NodeState) → Remembers self.now n → result ≡ identity_in (status_of_log n.log) }
-        // While no call of the disk failed, the log is right.
+        // While no call of the disk failed, that is what the store tells, and the log is right.
+        ensures head { self.now.wal.stopped ≡ None → result ≡ identity_in (status_of self.now.wal.store.head) }
         ensures right { (n : NodeState) → Remembers self.now n → n.log.broken ≡ false → IsLog n.log }
     {
         self.wal.identify()
