@@ -1,5 +1,5 @@
 //! Slots on a disk: read from the file `slots`, and written into it.
-ghost use Rattle.std.specs.Prelude.{◌≡◌, ◌⊎◌, Err, OnOk, IfErr};
+ghost use Rattle.std.specs.Prelude.{◌≡◌, ◌⊎◌, false, Err, OnOk, IfOk, IfErr};
 ghost use Rattle.repl_disk.specs.Crash.{Elapses, LeavesOnly, NoneNew};
 ghost use Rattle.repl_disk.specs.Folder.{Became, Folder, IfTold, Stayed};
 ghost use Rattle.repl_disk.specs.Replacing.{IsAfter, IsBeforeOrAfter, IsHalfDone, IsUntouched, replaced};
@@ -36,6 +36,7 @@ impl Slots {
     /// disk refuses (`DiskFault`). Takes memory for the list.
     pub fn mount<D: Disk>(alloc: Global, disk: &mut D) -> Result<Slots, SlotFault>
         ensures answer { IfTold (D.state disk.old).files (λ folder. Mounted folder result) }
+        ensures sound { IfOk result (λ slots. slots.broken ≡ false) }
         ensures files { Stayed (D.state disk.old).files (D.state disk.new).files }
         ensures crash { NoneNew (D.state disk.old).may_leave (D.state disk.new).may_leave }
         ensures time { Elapses (D.state disk.old) (D.state disk.new) }
