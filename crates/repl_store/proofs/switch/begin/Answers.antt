@@ -6,7 +6,7 @@ use Rattle.repl_store.specs.Backing.{Before, Comes}
 use Rattle.repl_store.specs.Leaving.{first_file}
 use Rattle.repl_store.specs.declared.fault.StoreFault.{StoreFault}
 use Rattle.repl_store.specs.declared.fault.StoreFault.TheVariants as fault
-use Rattle.repl_store.proofs.Apart.{apart_on}
+use Rattle.repl_store.proofs.Apart.{apart_on, apart_reads}
 use Rattle.repl_store.proofs.Chaining.{comes_after, wanted_comes}
 use Rattle.repl_store.proofs.Reading.{read_comes}
 use Rattle.repl_store.proofs.Starting.{caused_after, started, where_ok}
@@ -70,5 +70,5 @@ returns-clause-comes g c = λ s backs.
 pub returns-clause-apart : goal.returns-clause-apart
 returns-clause-apart g c =
     let state = g.D.Disk.state in
-    apart_on (state c.args.disk.now) (state c.read_range.new.disk) (state c.put_first.new.disk) c.read_range.ensures.apart
-    c.put_first.ensures.apart
+    apart_on (state c.args.disk.now) (state c.read_range.new.disk) (state c.put_first.new.disk)
+    (apart_reads (state c.args.disk.now) (state c.read_range.new.disk) c.read_range.ensures.only) c.put_first.ensures.apart
