@@ -7,3 +7,6 @@ pub mod Waits
 pub mod Step
 pub mod Leaving
 pub mod Quiet
+pub mod Certain
+pub mod Pass
+pub mod Commit

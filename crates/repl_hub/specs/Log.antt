@@ -23,6 +23,9 @@ use Rattle.repl_wal.specs.Steps.{Only, Step}
 use Rattle.repl_wal.specs.Telling.{IsHistoryOf, IsHistoryRefusal}
 use Rattle.repl_wal.specs.Writing.{Appends, Demotes, Flushes, Receives}
 use Rattle.repl_wal.specs.declared.fault.NodeFault.{NodeFault}
+use Rattle.repl_wal.specs.declared.fault.NodeFault.TheVariants as fault
+use Rattle.repl_wal.specs.declared.read.ReadOut.{ReadOut}
+use Rattle.repl_wal.specs.declared.read.ReadOut.TheVariants as out
 
 -- the event concerns the node alone
 abbrev pub OfNode : HubView → (NodeState → Type 0) → HubView → Type 0
@@ -59,8 +62,8 @@ Then (Err e) event old new = new ≡ old
 
 -- so a call of the log tells them
 abbrev pub OfBoth : {A : Type 0} → HubView → (LogState → Type 0) → Result A NodeFault → sync.Event → HubView → Type 0
-OfBoth h Next result event m = (node : NodeState) × OfLog h.node Next node × ((sync : State) × Then result event h.sync sync
-    × (m ≡ with_both h node sync))
+OfBoth h Next result event m = (node : NodeState) × OfLog h.node Next node × ((told : State) × Then result event h.sync told
+    × (m ≡ with_both h node told))
 
 abbrev pub IsAppend : HubView → RecordIn → Result ℕ NodeFault → HubView → Type 0
 IsAppend h item result m = OfNode h (OfLog h.node (Appends h.node.log item result)) m
@@ -90,3 +93,17 @@ IsPromote h at_least result m = OfBoth h (Promotes h.node.log at_least result) r
 -- nobody waits on a standby
 abbrev pub IsDemote : HubView → Result (Unit {0}) NodeFault → HubView → Type 0
 IsDemote h result m = OfBoth h (Demotes h.node.log result) result sync.CancelAll m
+
+-- ---- replies. Private clauses cite this.
+
+-- the bytes are carried, or there is no memory
+abbrev pub IsSharedOf : List ℕ → Result (List ℕ) NodeFault → Type 0
+IsSharedOf text (Ok bytes) = bytes ≡ text
+IsSharedOf text (Err e) = e ≡ fault.Memory
+
+-- so is what was read into a room
+abbrev pub IsCarried : ReadOut → List ℕ → Result LogRead NodeFault → Type 0
+IsCarried (out.Bytes count) room (Ok answer) = answer ≡ read.Bytes (take count room)
+IsCarried (out.Bytes count) room (Err e) = e ≡ fault.Memory
+IsCarried out.AtEnd room result = result ≡ Ok read.AtEnd
+IsCarried (out.Ended next switch) room result = result ≡ Ok (read.Ended next switch)

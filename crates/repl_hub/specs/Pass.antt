@@ -17,6 +17,10 @@ pub record Passed : Type 0 where
   -- the pass's own number, and then those of the passes that were joined into it
   pub numbers : List ℕ
 
+-- a pass that tells nothing
+abbrev pub nothing : Passed
+nothing = record { seen = []; numbers = [] }
+
 abbrev pub number : Passed → ℕ
 number p = slice_index p.numbers 0
 

@@ -2,6 +2,7 @@
 -- "Streaming Replication" and "Synchronous Replication").
 use Rattle.std.specs.Prelude.{◌≡◌, ◌≢◌, ℕ, ◌+◌, ◌<◌, ◌≤◌, ◌⊎◌, min, Bool, true, false, List, [], ◌∷◌, ◌++◌, Result, Ok, Err}
 use Rattle.repl_hub.specs.State.{HubView, count_kind, is_linked, limit_of, unlinked, with_sync}
+use Rattle.repl_hub.specs.declared.link.Link.{Link}
 use Rattle.repl_hub.specs.declared.link.TheConstants.{LAST_SESSION}
 use Rattle.repl_hub.specs.declared.reply.ConnectFault.{ConnectFault}
 use Rattle.repl_hub.specs.declared.reply.ConnectFault.TheVariants as connect
@@ -17,13 +18,13 @@ use Rattle.repl_wal.specs.State.{flushed_end, own_timeline}
 
 -- the event concerns the sessions and tickets alone
 abbrev pub OfSync : HubView → sync.Event → sync.Reply → HubView → Type 0
-OfSync h event reply m = (sync : State) × SyncStep h.sync event reply sync × (m ≡ with_sync h sync)
+OfSync h event reply m = (told : State) × SyncStep h.sync event reply told × (m ≡ with_sync h told)
 
 -- ---- beginning
 
 -- there may be no other session of this kind
 abbrev pub IsFull : HubView → Bool → Type 0
-IsFull h replication = (limit_of replication ≤ count_kind replication h.links) ⊎ (h.last ≡ LAST_SESSION)
+IsFull h replication = (limit_of replication ≤ count_kind replication h.links) ⊎ (LAST_SESSION ≤ h.last)
 
 -- there may be one
 pub record HasRoom (h : HubView) (replication : Bool) : Type 0 where
@@ -35,11 +36,11 @@ pub record HasRoom (h : HubView) (replication : Bool) : Type 0 where
 pub record IsConnected (h : HubView) (name : List ℕ) (replication : Bool) (number : ℕ) (m : HubView) : Type 0 where
   pub room : HasRoom h replication
   pub next : number ≡ h.last + 1
-  pub sync : State
-  pub step : SyncStep h.sync (sync.Connect number name) sync.Done sync
+  pub told : State
+  pub step : SyncStep h.sync (sync.Connect number name) sync.Done told
   pub becomes : m ≡ record {
     node = h.node;
-    sync = sync;
+    sync = told;
     links = h.links ++ record { number = number; replication = replication } ∷ [];
     last = number;
     stopped = h.stopped;
@@ -55,14 +56,14 @@ IsConnect h name replication (Err connect.Memory) m = HasRoom h replication × (
 -- ---- streaming
 
 -- whether the session is there
-abbrev pub KnowsLink : HubView → ℕ → Result (Unit {0}) SyncFault → Type 0
-KnowsLink h session result = ((is_linked session h.links ≡ true) × (result ≡ Ok tt)) ⊎ ((is_linked session h.links ≡ false)
+abbrev pub KnowsLink : List Link → ℕ → Result (Unit {0}) SyncFault → Type 0
+KnowsLink links session result = ((is_linked session links ≡ true) × (result ≡ Ok tt)) ⊎ ((is_linked session links ≡ false)
     × (result ≡ Err fault.Unknown))
 
 -- Who streams an older timeline counts for no commit: that changes nothing.
 abbrev pub IsStreaming : HubView → ℕ → ℕ → Result (Unit {0}) SyncFault → HubView → Type 0
 IsStreaming h session tli result m = ((tli ≡ own_timeline h.node.log) × OfSync h (sync.Streaming session) (done result) m)
-    ⊎ ((tli ≢ own_timeline h.node.log) × KnowsLink h session result × (m ≡ h))
+    ⊎ ((tli ≢ own_timeline h.node.log) × KnowsLink h.links session result × (m ≡ h))
 
 abbrev pub IsStopStreaming : HubView → ℕ → Result (Unit {0}) SyncFault → HubView → Type 0
 IsStopStreaming h session result m = OfSync h (sync.StopStreaming session) (done result) m
@@ -79,11 +80,11 @@ IsFeedback h session value result m = OfSync h (sync.Feedback session value) (do
 
 -- its slots are nobody's, and its temporary ones are gone
 pub record IsDisconnected (h : HubView) (session : ℕ) (m : HubView) : Type 0 where
-  pub sync : State
-  pub step : SyncStep h.sync (sync.Disconnect session) sync.Done sync
+  pub told : State
+  pub step : SyncStep h.sync (sync.Disconnect session) sync.Done told
   pub becomes : m ≡ record {
     node = with_slots h.node (ended session h.node.slots);
-    sync = sync;
+    sync = told;
     links = unlinked session h.links;
     last = h.last;
     stopped = h.stopped;

@@ -1,5 +1,5 @@
 -- A hub: a node, those who are connected to it, and the commits that wait for its standbys. All of it is plain data.
-use Rattle.std.specs.Prelude.{◌≡◌, ℕ, ◌<◌, ◌≤◌, Bool, true, false, ◌==◌, not, if◌then◌else◌, List, filter, length, map, All}
+use Rattle.std.specs.Prelude.{◌≡◌, ℕ, Bool, ◌==◌, not, if◌then◌else◌, List, filter, length, map}
 use Rattle.std.specs.List.{list_any}
 use Rattle.repl_hub.specs.declared.link.Link.{Link}
 use Rattle.repl_hub.specs.declared.link.TheConstants.{ORDINARY_LIMIT, REPLICATION_LIMIT}
@@ -56,7 +56,6 @@ is_linked number links = list_any (is_link number) links
 abbrev pub unlinked : ℕ → List Link → List Link
 unlinked number links = filter (λ link. not (is_link number link)) links
 
--- The connections are the sessions, and none has a number above the last one that was given.
-pub record AreLinks (h : HubView) : Type 0 where
-  pub same : map (λ (link : Link). link.number) h.links ≡ map (λ session. session.number) h.sync.sessions
-  pub given : All (λ (link : Link). link.number ≤ h.last) h.links
+-- the connections are the sessions
+abbrev pub AreLinks : HubView → Type 0
+AreLinks h = map (λ (link : Link). link.number) h.links ≡ map (λ session. session.number) h.sync.sessions

@@ -55,6 +55,6 @@ IsNames h (Err e) = Unit {0}
 
 -- all waits are cancelled, and no other begins
 pub record IsStop (h m : HubView) : Type 0 where
-  pub sync : State
-  pub step : SyncStep h.sync sync.CancelAll sync.Done sync
-  pub becomes : m ≡ record { node = h.node; sync = sync; links = h.links; last = h.last; stopped = true }
+  pub told : State
+  pub step : SyncStep h.sync sync.CancelAll sync.Done told
+  pub becomes : m ≡ record { node = h.node; sync = told; links = h.links; last = h.last; stopped = true }

@@ -1,9 +1,11 @@
 //! A hub.
-ghost use Rattle.std.specs.Prelude.{◌≡◌, ◌×◌, ◌⊎◌, [], false, Err};
+ghost use Rattle.std.specs.Prelude.{◌≡◌, [], false};
 ghost use Rattle.repl_hub.specs.Holding.{Goes, Holds};
 ghost use Rattle.repl_hub.specs.Leaving.{HubLeaves};
 ghost use Rattle.repl_hub.specs.State.{HubView};
 ghost use Rattle.repl_hub.specs.Step.{HubStep};
+ghost use Rattle.repl_node.specs.Holding.{Remembers};
+ghost use Rattle.repl_node.specs.State.{NodeState};
 ghost use Rattle.repl_names.specs.declared.list.Method.TheVariants as Method;
 
 use crate::event::HubEvent;
@@ -42,11 +44,11 @@ impl<D: Disk> Model for HubState<D> {
 impl<D: Disk> HubState<D> {
     /// A hub of this node, to which nobody is connected. The list without names is in force. Events take memory from `alloc`.
     pub fn new(alloc: Global, node: Node<D>) -> HubState<D>
+        requires { (n : NodeState) × Remembers node n }
         ensures node { result.node ≡ node }
         ensures sync { result.sync ≡ record { sessions = []; list = record { method = Method.First; number = 0; names = [] }; tickets = []; last = 0 } }
         ensures links { (result.links ≡ []) × (result.last ≡ 0) × (result.stopped ≡ false) }
     {
-        let _identity = node.identify();
         HubState {
             node,
             sync: SyncState::new(alloc),

@@ -16,17 +16,29 @@
 //! ```
 #![tactic(auto)]
 
+mod asking;
+mod commit;
 mod event;
 mod hub;
+mod laws;
 mod link;
 mod log;
+mod pass;
 mod reply;
 mod sessions;
 mod slots;
+mod solo;
 mod waits;
 
+pub use asking::{append, cancel, flush, look, prepare, wait};
+pub use commit::{Acked, CommitFault, commit_on};
 pub use event::HubEvent;
 pub use hub::HubState;
+pub use laws::{
+    flushed_end_falls_by_switch, quiet_events_move_nothing, released_was_flushed, waits_are_certain,
+};
 pub use link::{LAST_SESSION, ORDINARY_LIMIT, REPLICATION_LIMIT};
 pub use log::READ_LIMIT;
+pub use pass::Hub;
 pub use reply::{ConnectFault, HubReply, HubStatus, LogRead, SlotPlace, WaitFault};
+pub use solo::{SoloHub, SoloPass};

@@ -1,17 +1,19 @@
 //! Events that are calls of the node on its log.
-ghost use Rattle.std.specs.Prelude.{◌≡◌, ◌≤◌, ◌<◌, Err};
+ghost use Rattle.std.specs.Prelude.{◌≡◌, take, Err, MatchResult};
 ghost use Rattle.repl_hub.specs.Holding.{Comes, Holds};
-ghost use Rattle.repl_hub.specs.Log.{IsAppend, IsDemote, IsFlush, IsFollow, IsHistory, IsPromote, IsRead, IsReceive, IsTrim, read_room};
+ghost use Rattle.repl_hub.specs.Log.{IsAppend, IsCarried, IsDemote, IsFlush, IsFollow, IsHistory, IsPromote, IsRead, IsReceive, IsSharedOf, IsTrim, read_room};
 ghost use Rattle.repl_hub.specs.State.{HubView};
+ghost use Rattle.repl_hub.specs.declared.reply.LogRead.TheVariants as LogRead;
 ghost use Rattle.repl_node.specs.Keeping.{TrimLeavesNode};
 ghost use Rattle.repl_node.specs.State.{LeftOf};
 ghost use Rattle.repl_node.specs.Steps.{SameLeft};
 ghost use Rattle.repl_wal.specs.Following.{FollowLeaves};
 ghost use Rattle.repl_wal.specs.Promoting.{PromoteLeaves};
 ghost use Rattle.repl_wal.specs.Writing.{DemoteLeaves, FlushLeaves};
+ghost use Rattle.repl_wal.specs.declared.fault.NodeFault.TheVariants as NodeFault;
 
 use crate::hub::HubState;
-use crate::reply::{HubStatus, LogRead};
+use crate::reply::LogRead;
 use bytes::Bytes;
 use repl_disk::Disk;
 use repl_lsn::{History, Lsn, Tli};
@@ -31,8 +33,7 @@ impl<D: Disk> HubState<D> {
             Comes result (D.state self.old.node.wal.store.disk) (D.state self.new.node.wal.store.disk) self.new h (IsHistory h tli result) (SameLeft h.node) }
         ensures keeps { D.keeps self.old.node.wal.store.disk self.new.node.wal.store.disk }
     {
-        let text = self.node.history(self.alloc, tli)?;
-        Ok(Bytes::from_vec(text)?)
+        shared_text(self.node.history(self.alloc, tli))
     }
 
     /// The log's bytes from a position on. Takes memory for them.
@@ -41,14 +42,13 @@ impl<D: Disk> HubState<D> {
             Comes result (D.state self.old.node.wal.store.disk) (D.state self.new.node.wal.store.disk) self.new h (IsRead h tli at most result) (SameLeft h.node) }
         ensures keeps { D.keeps self.old.node.wal.store.disk self.new.node.wal.store.disk }
     {
-        let mut room = vec![in self.alloc; 0; read_room(most)]?;
-        match self.node.read(self.alloc, tli, at, &mut room)? {
-            ReadOut::Bytes(count) => {
-                room.truncate(count);
-                Ok(LogRead::Bytes(Bytes::from_vec(room)?))
-            }
-            ReadOut::AtEnd => Ok(LogRead::AtEnd),
-            ReadOut::Ended { next, switch } => Ok(LogRead::Ended { next, switch }),
+        let mut room = match vec![in self.alloc; 0; read_room(most)] {
+            Ok(room) => room,
+            Err(_) => return Err(NodeFault::Memory),
+        };
+        match self.node.read(self.alloc, tli, at, &mut room) {
+            Ok(out) => log_read(out, room),
+            Err(fault) => Err(fault),
         }
     }
 
@@ -144,4 +144,47 @@ fn read_room(most: u64) -> usize
     ensures { result ≡ read_room most }
 {
     most.max(1).min(READ_LIMIT) as usize
+}
+
+/// What was read into this room, as a reply carries it.
+fn log_read(out: ReadOut, room: Vec<u8>) -> Result<LogRead, NodeFault>
+    ensures { IsCarried out room.items result }
+{
+    match out {
+        ReadOut::Bytes(count) => front(room, count),
+        ReadOut::AtEnd => Ok(LogRead::AtEnd),
+        ReadOut::Ended { next, switch } => Ok(ended(next, switch)),
+    }
+}
+
+/// The timeline was left here.
+fn ended(next: Tli, switch: Lsn) -> LogRead
+    ensures { result ≡ LogRead.Ended next switch }
+{
+    LogRead::Ended { next, switch }
+}
+
+/// So many of the bytes, from the first one on.
+fn front(room: Vec<u8>, count: usize) -> Result<LogRead, NodeFault>
+    ensures { MatchResult result (λ read. read ≡ LogRead.Bytes (take count room.items)) (λ e. e ≡ NodeFault.Memory) }
+{
+    let mut room = room;
+    room.truncate(count);
+    match Bytes::from_vec(room) {
+        Ok(bytes) => Ok(LogRead::Bytes(bytes)),
+        Err(_) => Err(NodeFault::Memory),
+    }
+}
+
+/// The text of a history, as a reply carries it.
+fn shared_text(text: Result<Vec<u8>, NodeFault>) -> Result<Bytes, NodeFault>
+    ensures { MatchResult text (λ text. IsSharedOf text.items result) (λ fault. result ≡ Err fault) }
+{
+    match text {
+        Ok(text) => match Bytes::from_vec(text) {
+            Ok(bytes) => Ok(bytes),
+            Err(_) => Err(NodeFault::Memory),
+        },
+        Err(fault) => Err(fault),
+    }
 }

@@ -1,8 +1,9 @@
 //! Events of sessions.
-ghost use Rattle.std.specs.Prelude.{◌≡◌, ◌≤◌, length, IsTrue, ◌↔◌, true, IfErr, IfOk};
+ghost use Rattle.std.specs.Prelude.{◌≡◌, ◌<◌, ◌≤◌, ◌⊎◌, IsTrue};
 ghost use Rattle.repl_hub.specs.Holding.{Goes, Holds};
-ghost use Rattle.repl_hub.specs.Sessions.{IsConnect, IsDisconnect, IsFeedback, IsReport, IsStopStreaming, IsStreaming};
-ghost use Rattle.repl_hub.specs.State.{HubView, count_kind, is_linked, limit_of};
+ghost use Rattle.repl_hub.specs.Sessions.{HasRoom, IsConnect, IsDisconnect, IsFeedback, IsReport, IsStopStreaming, IsStreaming, KnowsLink};
+ghost use Rattle.repl_hub.specs.State.{HubView, count_kind, limit_of, unlinked};
+ghost use Rattle.repl_hub.specs.declared.link.TheConstants.{LAST_SESSION};
 ghost use Rattle.repl_hub.specs.Step.{status_of_hub};
 ghost use Rattle.repl_node.specs.Steps.{SameLeft};
 
@@ -30,7 +31,7 @@ impl<D: Disk> HubState<D> {
     /// A session begins, and gets the number behind the last one. Takes memory for its name, and for the certificates in which
     /// it may stand.
     pub(crate) fn connect(&mut self, name: &Text, replication: bool) -> Result<u64, ConnectFault>
-        ensures { (h : HubView) → Holds (D.state self.old.node.wal.store.disk) self.old h →
+        ensures steps { (h : HubView) → Holds (D.state self.old.node.wal.store.disk) self.old h →
             Goes (D.state self.old.node.wal.store.disk) (D.state self.new.node.wal.store.disk) self.new h (IsConnect h name.now replication result) (SameLeft h.node) }
         ensures disk { self.new.node.wal.store.disk ≡ self.old.node.wal.store.disk }
     {
@@ -38,16 +39,27 @@ impl<D: Disk> HubState<D> {
             return Err(ConnectFault::Stopped);
         }
         let there = count_kind(&self.links, replication);
-        if there >= limit_of(replication) || self.last >= LAST_SESSION {
+        if is_full(there, self.last, replication) {
             return Err(ConnectFault::TooMany { there });
         }
+        self.admit(name, replication)
+    }
+
+    /// A session begins, for which there is room.
+    fn admit(&mut self, name: &Text, replication: bool) -> Result<u64, ConnectFault>
+        requires { self.old.last < LAST_SESSION }
+        ensures steps { (h : HubView) → Holds (D.state self.old.node.wal.store.disk) self.old h → HasRoom h replication →
+            Goes (D.state self.old.node.wal.store.disk) (D.state self.new.node.wal.store.disk) self.new h (IsConnect h name.now replication result) (SameLeft h.node) }
+        ensures disk { self.new.node.wal.store.disk ≡ self.old.node.wal.store.disk }
+    {
         let number = self.last + 1;
-        if self.links.reserve(1).is_err() {
-            return Err(ConnectFault::Memory);
+        match self.links.reserve(1) {
+            Ok(()) => {}
+            Err(_) => return Err(ConnectFault::Memory),
         }
         match self.sync.connect(self.alloc, number, name.as_slice()) {
             Ok(()) => {
-                self.links.push_within_capacity(Link {
+                self.links.push_reserved(Link {
                     number,
                     replication,
                 });
@@ -60,22 +72,20 @@ impl<D: Disk> HubState<D> {
 
     /// The session begins to stream a timeline. Where that is an older one, it counts for no commit.
     pub(crate) fn streaming(&mut self, session: u64, tli: Tli) -> Result<(), SyncFault>
-        ensures { (h : HubView) → Holds (D.state self.old.node.wal.store.disk) self.old h →
+        ensures steps { (h : HubView) → Holds (D.state self.old.node.wal.store.disk) self.old h →
             Goes (D.state self.old.node.wal.store.disk) (D.state self.new.node.wal.store.disk) self.new h (IsStreaming h session tli result) (SameLeft h.node) }
         ensures disk { self.new.node.wal.store.disk ≡ self.old.node.wal.store.disk }
     {
         if self.node.identify().tli == tli {
             self.sync.streaming(session)
-        } else if is_linked(&self.links, session) {
-            Ok(())
         } else {
-            Err(SyncFault::Unknown)
+            knows(&self.links, session)
         }
     }
 
     /// The session streams no more.
     pub(crate) fn stop_streaming(&mut self, session: u64) -> Result<(), SyncFault>
-        ensures { (h : HubView) → Holds (D.state self.old.node.wal.store.disk) self.old h →
+        ensures steps { (h : HubView) → Holds (D.state self.old.node.wal.store.disk) self.old h →
             Goes (D.state self.old.node.wal.store.disk) (D.state self.new.node.wal.store.disk) self.new h (IsStopStreaming h session result) (SameLeft h.node) }
         ensures disk { self.new.node.wal.store.disk ≡ self.old.node.wal.store.disk }
     {
@@ -90,7 +100,7 @@ impl<D: Disk> HubState<D> {
         flushed: Lsn,
         applied: Lsn,
     ) -> Result<(), SyncFault>
-        ensures { (h : HubView) → Holds (D.state self.old.node.wal.store.disk) self.old h →
+        ensures steps { (h : HubView) → Holds (D.state self.old.node.wal.store.disk) self.old h →
             Goes (D.state self.old.node.wal.store.disk) (D.state self.new.node.wal.store.disk) self.new h (IsReport h session written flushed applied result) (SameLeft h.node) }
         ensures disk { self.new.node.wal.store.disk ≡ self.old.node.wal.store.disk }
     {
@@ -105,7 +115,7 @@ impl<D: Disk> HubState<D> {
 
     /// The session's standby tells its oldest transactions.
     pub(crate) fn feedback(&mut self, session: u64, value: FeedbackValue) -> Result<(), SyncFault>
-        ensures { (h : HubView) → Holds (D.state self.old.node.wal.store.disk) self.old h →
+        ensures steps { (h : HubView) → Holds (D.state self.old.node.wal.store.disk) self.old h →
             Goes (D.state self.old.node.wal.store.disk) (D.state self.new.node.wal.store.disk) self.new h (IsFeedback h session value result) (SameLeft h.node) }
         ensures disk { self.new.node.wal.store.disk ≡ self.old.node.wal.store.disk }
     {
@@ -114,14 +124,14 @@ impl<D: Disk> HubState<D> {
 
     /// The session ends: its slots are nobody's, and its temporary ones go.
     pub(crate) fn disconnect(&mut self, session: u64) -> Result<(), SyncFault>
-        ensures { (h : HubView) → Holds (D.state self.old.node.wal.store.disk) self.old h →
+        ensures steps { (h : HubView) → Holds (D.state self.old.node.wal.store.disk) self.old h →
             Goes (D.state self.old.node.wal.store.disk) (D.state self.new.node.wal.store.disk) self.new h (IsDisconnect h session result) (SameLeft h.node) }
         ensures disk { self.new.node.wal.store.disk ≡ self.old.node.wal.store.disk }
     {
         match self.sync.disconnect(session) {
             Ok(()) => {
                 self.node.slot_end_session(session);
-                self.links.retain(|link| link.number != session);
+                unlink(&mut self.links, session);
                 Ok(())
             }
             Err(fault) => Err(fault),
@@ -150,9 +160,28 @@ fn limit_of(replication: bool) -> u64
     }
 }
 
-/// Whether a connection has this number.
-fn is_linked(links: &[Link], number: u64) -> bool
-    ensures { result ≡ is_linked number links.now }
+/// Whether no other connection of this kind may be, where so many are there and this is the last number of a session.
+fn is_full(there: u64, last: u64, replication: bool) -> bool
+    ensures full { IsTrue result → (limit_of replication ≤ there) ⊎ (LAST_SESSION ≤ last) }
+    ensures room { (IsTrue result → ⊥) → (there < limit_of replication) × (last < LAST_SESSION) }
 {
-    links.iter().any(|link| link.number == number)
+    there >= limit_of(replication) || last >= LAST_SESSION
+}
+
+/// Whether a connection has this number.
+fn knows(links: &[Link], number: u64) -> Result<(), SyncFault>
+    ensures { KnowsLink links.now number result }
+{
+    if links.iter().any(|link| link.number == number) {
+        Ok(())
+    } else {
+        Err(SyncFault::Unknown)
+    }
+}
+
+/// The connection with this number goes.
+fn unlink(links: &mut Vec<Link>, number: u64)
+    ensures { links.new.items ≡ unlinked number links.old.items }
+{
+    links.retain(|link| link.number != number);
 }

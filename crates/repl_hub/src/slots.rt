@@ -1,7 +1,7 @@
 //! Events that are calls of the node on its slots.
-ghost use Rattle.std.specs.Prelude.{◌≡◌, None, Some, Err, MatchOption, min};
+ghost use Rattle.std.specs.Prelude.{◌≡◌, None, Some, Err, MatchOption, min, if◌then◌else◌};
 ghost use Rattle.repl_hub.specs.Holding.{Goes, HasFailed, Holds};
-ghost use Rattle.repl_hub.specs.Slots.{IsSlotAcquire, IsSlotConfirm, IsSlotCreate, IsSlotDrop, IsSlotRelease, IsSlotSave, place_in, place_of, slot_place};
+ghost use Rattle.repl_hub.specs.Slots.{IsSlotAcquire, IsSlotConfirm, IsSlotCreate, IsSlotDrop, IsSlotRelease, IsSlotSave, place_of, slot_place};
 ghost use Rattle.repl_hub.specs.State.{HubView};
 ghost use Rattle.repl_node.specs.Steps.{SameLeft, SaveLeaves};
 ghost use Rattle.repl_slots.specs.Slot.{slot_named};
@@ -23,19 +23,18 @@ impl<D: Disk> HubState<D> {
         temporary: bool,
         reserve: bool,
     ) -> Result<(), SlotFault>
-        ensures { (h : HubView) → Holds (D.state self.old.node.wal.store.disk) self.old h →
+        ensures steps { (h : HubView) → Holds (D.state self.old.node.wal.store.disk) self.old h →
             Goes (D.state self.old.node.wal.store.disk) (D.state self.new.node.wal.store.disk) self.new h (IsSlotCreate h session name.now temporary reserve result) (SameLeft h.node) }
         ensures disk { self.new.node.wal.store.disk ≡ self.old.node.wal.store.disk }
     {
-        let flushed = self.node.identify().flushed;
-        let restart = if reserve { Some(flushed) } else { None };
+        let restart = reserved(reserve, self.node.identify().flushed);
         self.node
             .slot_create(self.alloc, name.as_slice(), temporary, session, restart)
     }
 
     /// The slot goes.
     pub(crate) fn slot_drop(&mut self, session: u64, name: &Text) -> Result<(), SlotFault>
-        ensures { (h : HubView) → Holds (D.state self.old.node.wal.store.disk) self.old h →
+        ensures steps { (h : HubView) → Holds (D.state self.old.node.wal.store.disk) self.old h →
             Goes (D.state self.old.node.wal.store.disk) (D.state self.new.node.wal.store.disk) self.new h (IsSlotDrop h session name.now result) (SameLeft h.node) }
         ensures disk { self.new.node.wal.store.disk ≡ self.old.node.wal.store.disk }
     {
@@ -46,12 +45,15 @@ impl<D: Disk> HubState<D> {
     pub(crate) fn slot_read(&self, name: &Text) -> SlotPlace
         ensures { (h : HubView) → Holds (D.state self.now.node.wal.store.disk) self.now h → result ≡ slot_place h name.now }
     {
-        place_in(self.node.path(), find(self.node.slots(), name.as_slice()))
+        match find(self.node.slots(), name.as_slice()) {
+            None => SlotPlace::NoSlot,
+            Some(slot) => place_of(self.node.path(), slot.restart),
+        }
     }
 
     /// The session owns the slot.
     pub(crate) fn slot_acquire(&mut self, session: u64, name: &Text) -> Result<(), SlotFault>
-        ensures { (h : HubView) → Holds (D.state self.old.node.wal.store.disk) self.old h →
+        ensures steps { (h : HubView) → Holds (D.state self.old.node.wal.store.disk) self.old h →
             Goes (D.state self.old.node.wal.store.disk) (D.state self.new.node.wal.store.disk) self.new h (IsSlotAcquire h session name.now result) (SameLeft h.node) }
         ensures disk { self.new.node.wal.store.disk ≡ self.old.node.wal.store.disk }
     {
@@ -60,7 +62,7 @@ impl<D: Disk> HubState<D> {
 
     /// The session owns no slot.
     pub(crate) fn slot_release(&mut self, session: u64)
-        ensures { (h : HubView) → Holds (D.state self.old.node.wal.store.disk) self.old h →
+        ensures steps { (h : HubView) → Holds (D.state self.old.node.wal.store.disk) self.old h →
             Goes (D.state self.old.node.wal.store.disk) (D.state self.new.node.wal.store.disk) self.new h (IsSlotRelease h session) (SameLeft h.node) }
         ensures disk { self.new.node.wal.store.disk ≡ self.old.node.wal.store.disk }
     {
@@ -69,7 +71,7 @@ impl<D: Disk> HubState<D> {
 
     /// The session's slots hold nothing back before a position, which counts up to the flushed end.
     pub(crate) fn slot_confirm(&mut self, session: u64, at: Lsn)
-        ensures { (h : HubView) → Holds (D.state self.old.node.wal.store.disk) self.old h →
+        ensures steps { (h : HubView) → Holds (D.state self.old.node.wal.store.disk) self.old h →
             Goes (D.state self.old.node.wal.store.disk) (D.state self.new.node.wal.store.disk) self.new h (IsSlotConfirm h session at) (SameLeft h.node) }
         ensures disk { self.new.node.wal.store.disk ≡ self.old.node.wal.store.disk }
     {
@@ -89,6 +91,13 @@ impl<D: Disk> HubState<D> {
     }
 }
 
+/// Where a slot begins that is made now, with this flushed end.
+fn reserved(reserve: bool, flushed: Lsn) -> Option<Lsn>
+    ensures { result ≡ (if reserve then Some flushed else None) }
+{
+    if reserve { Some(flushed) } else { None }
+}
+
 /// The lesser of both positions.
 pub(crate) fn lesser(at: Lsn, end: Lsn) -> Lsn
     ensures { result ≡ min at end }
@@ -103,18 +112,15 @@ fn find<'a>(slots: &'a [Slot], name: &[u8]) -> Option<&'a Slot>
     slots.iter().find(|slot| slot.name.as_slice() == name)
 }
 
-/// Where the slot begins, if there is one, on this path.
-fn place_in(path: &History, slot: Option<&Slot>) -> SlotPlace
-    ensures { MatchOption slot (result ≡ place_in path.now None) (λ slot. result ≡ place_of path.now slot.now.restart) }
+/// Where a slot begins, on this path.
+fn place_of(path: &History, restart: Option<Lsn>) -> SlotPlace
+    ensures { result ≡ place_of path.now restart }
 {
-    match slot {
-        None => SlotPlace::NoSlot,
-        Some(slot) => match slot.restart {
-            None => SlotPlace::NoPosition,
-            Some(restart) => SlotPlace::At {
-                restart,
-                tli: path.timeline_at(restart),
-            },
+    match restart {
+        None => SlotPlace::NoPosition,
+        Some(restart) => SlotPlace::At {
+            restart,
+            tli: path.timeline_at(restart),
         },
     }
 }

@@ -1,8 +1,10 @@
 //! Events of commits that wait for standbys.
-ghost use Rattle.std.specs.Prelude.{◌≡◌};
+ghost use Rattle.std.specs.Prelude.{◌≡◌, ◌⊎◌, true, false, IsTrue, Ok, Err, OnOk, OnErr};
+ghost use Rattle.repl_control.specs.declared.control.Role.TheVariants as Role;
 ghost use Rattle.repl_hub.specs.Holding.{Goes, Holds};
 ghost use Rattle.repl_hub.specs.State.{HubView};
 ghost use Rattle.repl_hub.specs.Waits.{IsCancel, IsLook, IsNames, IsPrepare, IsSetNames, IsStop, IsWait};
+ghost use Rattle.repl_hub.specs.declared.reply.WaitFault.TheVariants as WaitFault;
 ghost use Rattle.repl_node.specs.Steps.{SameLeft};
 
 use crate::hub::HubState;
@@ -17,7 +19,7 @@ use std::alloc::AllocError;
 impl<D: Disk> HubState<D> {
     /// A ticket for a commit. Takes memory for it and for its certificate.
     pub(crate) fn prepare(&mut self) -> Result<u64, SyncFault>
-        ensures { (h : HubView) → Holds (D.state self.old.node.wal.store.disk) self.old h →
+        ensures steps { (h : HubView) → Holds (D.state self.old.node.wal.store.disk) self.old h →
             Goes (D.state self.old.node.wal.store.disk) (D.state self.new.node.wal.store.disk) self.new h (IsPrepare h result) (SameLeft h.node) }
         ensures disk { self.new.node.wal.store.disk ≡ self.old.node.wal.store.disk }
     {
@@ -26,7 +28,7 @@ impl<D: Disk> HubState<D> {
 
     /// The ticket's commit waits for standbys. On a standby, and where a `Stop` came, the wait is cancelled as it begins.
     pub(crate) fn wait(&mut self, ticket: u64, end: Lsn, mode: Mode) -> Result<(), WaitFault>
-        ensures { (h : HubView) → Holds (D.state self.old.node.wal.store.disk) self.old h →
+        ensures steps { (h : HubView) → Holds (D.state self.old.node.wal.store.disk) self.old h →
             Goes (D.state self.old.node.wal.store.disk) (D.state self.new.node.wal.store.disk) self.new h (IsWait h ticket end mode result) (SameLeft h.node) }
         ensures disk { self.new.node.wal.store.disk ≡ self.old.node.wal.store.disk }
     {
@@ -34,7 +36,7 @@ impl<D: Disk> HubState<D> {
             return Err(WaitFault::Unknown);
         }
         let identity = self.node.identify();
-        if self.stopped || matches!(identity.role, Role::Standby) {
+        if waits_for_none(identity.role, self.stopped) {
             return begun(self.sync.wait_cancelled(ticket));
         }
         if end.0 > identity.flushed.0 {
@@ -47,7 +49,7 @@ impl<D: Disk> HubState<D> {
 
     /// What has become of the ticket's commit.
     pub(crate) fn look(&mut self, ticket: u64) -> Look
-        ensures { (h : HubView) → Holds (D.state self.old.node.wal.store.disk) self.old h →
+        ensures steps { (h : HubView) → Holds (D.state self.old.node.wal.store.disk) self.old h →
             Goes (D.state self.old.node.wal.store.disk) (D.state self.new.node.wal.store.disk) self.new h (IsLook h ticket result) (SameLeft h.node) }
         ensures disk { self.new.node.wal.store.disk ≡ self.old.node.wal.store.disk }
     {
@@ -56,7 +58,7 @@ impl<D: Disk> HubState<D> {
 
     /// The ticket's commit waits no more.
     pub(crate) fn cancel(&mut self, ticket: u64) -> Result<(), SyncFault>
-        ensures { (h : HubView) → Holds (D.state self.old.node.wal.store.disk) self.old h →
+        ensures steps { (h : HubView) → Holds (D.state self.old.node.wal.store.disk) self.old h →
             Goes (D.state self.old.node.wal.store.disk) (D.state self.new.node.wal.store.disk) self.new h (IsCancel h ticket result) (SameLeft h.node) }
         ensures disk { self.new.node.wal.store.disk ≡ self.old.node.wal.store.disk }
     {
@@ -65,7 +67,7 @@ impl<D: Disk> HubState<D> {
 
     /// This list is in force from here on. Takes memory for it, and for certificates.
     pub(crate) fn set_names(&mut self, list: &StandbyList) -> Result<(), AllocError>
-        ensures { (h : HubView) → Holds (D.state self.old.node.wal.store.disk) self.old h →
+        ensures steps { (h : HubView) → Holds (D.state self.old.node.wal.store.disk) self.old h →
             Goes (D.state self.old.node.wal.store.disk) (D.state self.new.node.wal.store.disk) self.new h (IsSetNames h list.now result) (SameLeft h.node) }
         ensures disk { self.new.node.wal.store.disk ≡ self.old.node.wal.store.disk }
     {
@@ -81,7 +83,7 @@ impl<D: Disk> HubState<D> {
 
     /// No session begins from here on, and no commit waits.
     pub(crate) fn stop(&mut self)
-        ensures { (h : HubView) → Holds (D.state self.old.node.wal.store.disk) self.old h →
+        ensures steps { (h : HubView) → Holds (D.state self.old.node.wal.store.disk) self.old h →
             Goes (D.state self.old.node.wal.store.disk) (D.state self.new.node.wal.store.disk) self.new h (IsStop h) (SameLeft h.node) }
         ensures disk { self.new.node.wal.store.disk ≡ self.old.node.wal.store.disk }
     {
@@ -90,11 +92,23 @@ impl<D: Disk> HubState<D> {
     }
 }
 
-/// A wait that has begun. The ticket was prepared, so it did.
-fn begun(result: Result<(), SyncFault>) -> Result<(), WaitFault>
-    ensures { (result ≡ Ok tt) ⊎ (result ≡ Err WaitFault.Unknown) }
+/// Whether nobody waits on a node of this role.
+fn waits_for_none(role: Role, stopped: bool) -> bool
+    ensures none { IsTrue result → (role ≡ Role.Standby) ⊎ (stopped ≡ true) }
+    ensures some { (IsTrue result → ⊥) → (role ≡ Role.Primary) × (stopped ≡ false) }
 {
-    match result {
+    match role {
+        Role::Standby => true,
+        Role::Primary => stopped,
+    }
+}
+
+/// A wait that has begun. The ticket was prepared, so it did.
+fn begun(answer: Result<(), SyncFault>) -> Result<(), WaitFault>
+    ensures ok { OnOk answer (result ≡ Ok tt) }
+    ensures refused { OnErr answer (result ≡ Err WaitFault.Unknown) }
+{
+    match answer {
         Ok(()) => Ok(()),
         Err(_) => Err(WaitFault::Unknown),
     }
