@@ -8,3 +8,5 @@ pub mod Numbers
 pub mod Reading
 -- waits
 pub mod Waiting
+-- sessions that begin and end
+pub mod Connecting

@@ -47,8 +47,8 @@ module _ {D : Type 0} (disk : DiskState) (before : HeldHub D) (h : HubView) (tic
 
   pub unknown : (fate_of before.sync.tickets ticket ≡ Some Prepared → ⊥)
       → Goes disk disk before h (IsWait h ticket end mode (Err wait.Unknown)) (SameLeft h.node)
-  unknown no = stays disk before h (IsWait h ticket end mode (Err wait.Unknown)) only holds
-      (of_hub (λ s. fate_of s.tickets ticket ≢ Some Prepared) no, refl)
+  unknown none = stays disk before h (IsWait h ticket end mode (Err wait.Unknown)) only holds
+      (of_hub (λ s. fate_of s.tickets ticket ≢ Some Prepared) none, refl)
 
   module _ (prepared : fate_of before.sync.tickets ticket ≡ Some Prepared) where
     is_prepared : IsPrepared h ticket

@@ -2,7 +2,7 @@
 ghost use Rattle.std.specs.Prelude.{◌≡◌, ◌<◌, ◌≤◌, ◌⊎◌, IsTrue};
 ghost use Rattle.repl_hub.specs.Holding.{Goes, Holds};
 ghost use Rattle.repl_hub.specs.Sessions.{HasRoom, IsConnect, IsDisconnect, IsFeedback, IsReport, IsStopStreaming, IsStreaming, KnowsLink};
-ghost use Rattle.repl_hub.specs.State.{HubView, count_kind, limit_of, unlinked};
+ghost use Rattle.repl_hub.specs.State.{HubView, count_kind, is_linked, limit_of, unlinked};
 ghost use Rattle.repl_hub.specs.declared.link.TheConstants.{LAST_SESSION};
 ghost use Rattle.repl_hub.specs.Step.{status_of_hub};
 ghost use Rattle.repl_node.specs.Steps.{SameLeft};
@@ -169,10 +169,17 @@ fn is_full(there: u64, last: u64, replication: bool) -> bool
 }
 
 /// Whether a connection has this number.
+fn is_linked(links: &[Link], number: u64) -> bool
+    ensures { result ≡ is_linked number links.now }
+{
+    links.iter().any(|link| link.number == number)
+}
+
+/// What is answered for a connection of this number.
 fn knows(links: &[Link], number: u64) -> Result<(), SyncFault>
     ensures { KnowsLink links.now number result }
 {
-    if links.iter().any(|link| link.number == number) {
+    if is_linked(links, number) {
         Ok(())
     } else {
         Err(SyncFault::Unknown)

@@ -13,6 +13,7 @@ use repl_control::Role;
 use repl_disk::Disk;
 use repl_lsn::Lsn;
 use repl_names::{Mode, StandbyList};
+use repl_node::Identity;
 use repl_sync::{Look, SyncFault};
 use std::alloc::AllocError;
 
@@ -36,7 +37,7 @@ impl<D: Disk> HubState<D> {
             return Err(WaitFault::Unknown);
         }
         let identity = self.node.identify();
-        if waits_for_none(identity.role, self.stopped) {
+        if waits_for_none(&identity, self.stopped) {
             return begun(self.sync.wait_cancelled(ticket));
         }
         if end.0 > identity.flushed.0 {
@@ -92,12 +93,12 @@ impl<D: Disk> HubState<D> {
     }
 }
 
-/// Whether nobody waits on a node of this role.
-fn waits_for_none(role: Role, stopped: bool) -> bool
-    ensures none { IsTrue result → (role ≡ Role.Standby) ⊎ (stopped ≡ true) }
-    ensures some { (IsTrue result → ⊥) → (role ≡ Role.Primary) × (stopped ≡ false) }
+/// Whether nobody waits on this node.
+fn waits_for_none(identity: &Identity, stopped: bool) -> bool
+    ensures none { IsTrue result → (identity.now.role ≡ Role.Standby) ⊎ (stopped ≡ true) }
+    ensures some { (IsTrue result → ⊥) → (identity.now.role ≡ Role.Primary) × (stopped ≡ false) }
 {
-    match role {
+    match identity.role {
         Role::Standby => true,
         Role::Primary => stopped,
     }
