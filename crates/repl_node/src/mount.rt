@@ -45,7 +45,7 @@ impl<D: Disk> Node<D> {
             ⊎ IfTold (D.state disk).files (λ folder. (d : Durable) × (saved : List Entry) × StandsFor VERSION_1_SIZE folder d × Stores saved folder)) }
         // No file changes, and a crash leaves nothing new.
         ensures reads { MatchResult result (λ node. OnlyReads (D.state disk) (D.state node.wal.store.disk)) (λ e. OnlyReads (D.state disk) (D.state e.1)) }
-        // Where a crash leaves nothing else, it only reads.
+        // Where a crash leaves nothing else, it leaves that at each moment, and a failure is one that the disk counted.
         ensures only { (folder : Folder) (d : Durable) (saved : List Entry) → (D.state disk).files ≡ Some folder → StandsFor VERSION_1_SIZE folder d
             → ((image : Folder) → (D.state disk).may_leave image → StandsFor VERSION_1_SIZE image d × Stores saved image)
             → MatchResult result (λ node. OnlyOpensNode (Ok node) (D.state disk) (D.state node.wal.store.disk) VERSION_1_SIZE d saved)

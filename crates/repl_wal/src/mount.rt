@@ -48,7 +48,7 @@ impl<D: Disk> Wal<D> {
             ⊎ IfTold (D.state disk).files (λ folder. (d : Durable) × StandsFor VERSION_1_SIZE folder d)) }
         // No file changes, and a crash leaves nothing new.
         ensures reads { MatchResult result (λ wal. OnlyReads (D.state disk) (D.state wal.store.disk)) (λ e. OnlyReads (D.state disk) (D.state e.1)) }
-        // Where a crash leaves nothing else, it only reads.
+        // Where a crash leaves nothing else, it leaves that at each moment, and a failure is one that the disk counted.
         ensures only { (folder : Folder) (d : Durable) → (D.state disk).files ≡ Some folder → StandsFor VERSION_1_SIZE folder d
             → ((image : Folder) → (D.state disk).may_leave image → StandsFor VERSION_1_SIZE image d)
             → MatchResult result (λ wal. OnlyOpens (Ok wal) (D.state disk) (D.state wal.store.disk) VERSION_1_SIZE d)

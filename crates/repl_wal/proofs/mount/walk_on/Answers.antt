@@ -1,5 +1,5 @@
 -- What was walked is the log that runs.
-use Rattle.std.proofs.Common.{◌⊎◌, [], Ok, Err, refl, sym, subst, inl, inr, arith}
+use Rattle.std.proofs.Common.{◌⊎◌, [], refl, sym, subst, inl, inr, arith}
 use Rattle.repl_counts.specs.Counts.{Rose}
 use Rattle.repl_record.specs.declared.walker.Walker.{Walker}
 use Rattle.repl_store.specs.Backing.{Backs, State}

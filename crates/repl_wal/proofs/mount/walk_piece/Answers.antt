@@ -1,5 +1,5 @@
 -- The next piece of the log was read and walked.
-use Rattle.std.proofs.Common.{◌≡◌, ℕ, ◌+◌, ◌-◌, ◌<◌, ◌≤◌, ◌++◌, length, take, drop, min, List, Result, Ok, Err, sym, ap, ◌∙◌, subst, inl, inr, arith, length-append, length-drop, length-take}
+use Rattle.std.proofs.Common.{◌≡◌, ℕ, ◌+◌, ◌-◌, ◌<◌, ◌≤◌, ◌++◌, length, take, drop, min, List, Result, Err, sym, ap, ◌∙◌, subst, inl, inr, arith, length-append, length-drop, length-take}
 use Rattle.std.proofs.Math.Nat.{div-mul-le_self}
 use Rattle.repl_disk.specs.State.{DiskState}
 use Rattle.repl_record.specs.Walker.{position}

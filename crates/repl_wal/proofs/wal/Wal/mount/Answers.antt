@@ -1,5 +1,5 @@
 -- The log of the store that was mounted.
-use Rattle.std.proofs.Common.{◌≡◌, ℕ, ◌⊎◌, Some, None, [], Result, Ok, Err, refl, sym, ap, ◌∙◌, subst, inl, inr, ⊎_elim}
+use Rattle.std.proofs.Common.{◌≡◌, ℕ, ◌⊎◌, Some, None, [], Result, Err, refl, sym, ap, ◌∙◌, subst, inl, inr, ⊎_elim}
 use Rattle.repl_control.specs.declared.control.TheConstants.{VERSION_1_SIZE}
 use Rattle.repl_counts.specs.Counts.{Rose}
 use Rattle.repl_disk.specs.Folder.{Folder, IfTold, ToldFiles}
