@@ -1,14 +1,18 @@
 //! Opening the node that stands on a disk.
-ghost use Rattle.std.specs.Prelude.{◌≡◌, List, false, None, Some, All, Ok, Err, IfOk, IfErr, MatchResult};
+ghost use Rattle.std.specs.Prelude.{◌≡◌, ◌⊎◌, List, false, None, Some, All, Ok, Err, IfOk, IfErr, MatchResult};
 ghost use Rattle.repl_control.specs.declared.control.TheConstants.{VERSION_1_SIZE};
+ghost use Rattle.repl_counts.specs.Counts.{Rose};
 ghost use Rattle.repl_disk.specs.Folder.{Folder, IfTold};
 ghost use Rattle.repl_slots.specs.SlotFile.{Entry, IsMounted as IsMountedSlot, entries_of};
 ghost use Rattle.repl_slots.specs.Stored.{Stores};
+ghost use Rattle.repl_store.specs.Backing.{OnlyReads};
 ghost use Rattle.repl_store.specs.Durable.{Durable, StandsFor};
 ghost use Rattle.repl_store.specs.Head.{IsMounted};
 ghost use Rattle.repl_wal.specs.Making.{IsOpened};
-ghost use Rattle.repl_node.specs.Holding.{Holds};
+ghost use Rattle.repl_wal.specs.declared.fault.NodeFault.TheVariants as NodeFault;
+ghost use Rattle.repl_node.specs.Holding.{Holds, Remembers};
 ghost use Rattle.repl_node.specs.Making.{IsNodeRefusal, IsOfNodeMount, OnlyOpensNode, mounted_node};
+ghost use Rattle.repl_node.specs.State.{NodeState};
 
 use crate::judge::mount_slots;
 use crate::node::Node;
@@ -27,6 +31,8 @@ impl<D: Disk> Node<D> {
         // So are the slots, each with its restart position saved.
         ensures slots { IfOk result (λ node. IfTold (D.state disk).files (λ folder. All IsMountedSlot node.slots.slots × Stores (entries_of node.slots.slots) folder)) }
         ensures sound { IfOk result (λ node. node.slots.broken ≡ false) }
+        // There is always a node that it remembers.
+        ensures stands { IfOk result (λ node. (n : NodeState) × Remembers node n) }
         // Where a crash leaves nothing else, the files are known to be the node's from here on.
         ensures holds { IfOk result (λ node. (folder : Folder) (d : Durable) → (D.state disk).files ≡ Some folder → StandsFor VERSION_1_SIZE folder d
             → ((image : Folder) → (D.state disk).may_leave image → StandsFor VERSION_1_SIZE image d × Stores (entries_of node.slots.slots) image)
@@ -34,7 +40,12 @@ impl<D: Disk> Node<D> {
         ensures refused { IfErr result (λ e. IfTold (D.state disk).files (λ folder. IsNodeRefusal VERSION_1_SIZE folder (D.state disk).may_leave e.0)) }
         ensures answers { IfErr result (λ e. IsOfNodeMount e.0) }
         ensures caused { MatchResult result (λ node. IsOpened (Ok node) (D.state disk) (D.state node.wal.store.disk)) (λ e. IsOpened {A = Node D} (Err e.0) (D.state disk) (D.state e.1)) }
-        // Where a crash leaves nothing else, it only reads.
+        // A lack is told only where the files stand for a store and for slots, or are not told.
+        ensures lost { IfErr result (λ e. e.0 ≡ NodeFault.DiskFault → Rose (D.state disk).faults (D.state e.1).faults
+            ⊎ IfTold (D.state disk).files (λ folder. (d : Durable) × (saved : List Entry) × StandsFor VERSION_1_SIZE folder d × Stores saved folder)) }
+        // No file changes, and a crash leaves nothing new.
+        ensures reads { MatchResult result (λ node. OnlyReads (D.state disk) (D.state node.wal.store.disk)) (λ e. OnlyReads (D.state disk) (D.state e.1)) }
+        // Where a crash leaves nothing else, it leaves that at each moment, and a failure is one that the disk counted.
         ensures only { (folder : Folder) (d : Durable) (saved : List Entry) → (D.state disk).files ≡ Some folder → StandsFor VERSION_1_SIZE folder d
             → ((image : Folder) → (D.state disk).may_leave image → StandsFor VERSION_1_SIZE image d × Stores saved image)
             → MatchResult result (λ node. OnlyOpensNode (Ok node) (D.state disk) (D.state node.wal.store.disk) VERSION_1_SIZE d saved)

@@ -1,15 +1,17 @@
 //! Opening the log that stands on a disk.
 ghost use Rattle.std.specs.Prelude.{◌≡◌, ◌≢◌, ◌+◌, ◌<◌, ◌≤◌, ◌^◌, ◌++◌, ◌⊎◌, ℕ, List, length, false, [], None, Some, Ok, Err, IfOk, IfErr, OnOk, MatchResult};
 ghost use Rattle.repl_control.specs.declared.control.TheConstants.{VERSION_1_SIZE};
+ghost use Rattle.repl_counts.specs.Counts.{Rose};
 ghost use Rattle.repl_disk.specs.Folder.{Folder, IfTold};
 ghost use Rattle.repl_log.specs.Walks.{HasWalked};
 ghost use Rattle.repl_record.specs.Walker.{AreOn, identity, last_end, position};
 ghost use Rattle.repl_store.specs.Apart.{StaysApart};
-ghost use Rattle.repl_store.specs.Backing.{Backs, State};
+ghost use Rattle.repl_store.specs.Backing.{Backs, OnlyReads, State};
 ghost use Rattle.repl_store.specs.Durable.{Durable, StandsFor};
 ghost use Rattle.repl_store.specs.Head.{IsHead, IsMounted, status_of};
-ghost use Rattle.repl_wal.specs.Holding.{Holds};
+ghost use Rattle.repl_wal.specs.Holding.{Holds, Remembers};
 ghost use Rattle.repl_wal.specs.Making.{HasTaken, IsFailure, IsMountRefusal, IsOfMount, IsOpened, IsWalkRefusal, IsWrongBehind, IsWrongTail, OnlyOpens, TakenOf, mounted_log};
+ghost use Rattle.repl_wal.specs.State.{LogState};
 ghost use Rattle.repl_wal.specs.declared.fault.NodeFault.TheVariants as NodeFault;
 
 use crate::fault::{NodeFault, of_store};
@@ -32,6 +34,8 @@ impl<D: Disk> Wal<D> {
         // What is mounted is what the files stand for, and nothing is written behind it.
         ensures mounted { IfOk result (λ wal. (wal.stopped ≡ None) × IfTold (D.state disk).files (λ folder.
             (d : Durable) × StandsFor VERSION_1_SIZE folder d × IsMounted wal.store.head VERSION_1_SIZE d)) }
+        // There is always a log that it remembers.
+        ensures stands { IfOk result (λ wal. (n : LogState) × Remembers wal n) }
         // Where a crash leaves nothing else, the files are known to be the log's from here on.
         ensures holds { IfOk result (λ wal. (folder : Folder) (d : Durable) → (D.state disk).files ≡ Some folder → StandsFor VERSION_1_SIZE folder d
             → ((image : Folder) → (D.state disk).may_leave image → StandsFor VERSION_1_SIZE image d)
@@ -39,7 +43,12 @@ impl<D: Disk> Wal<D> {
         ensures refused { IfErr result (λ e. IfTold (D.state disk).files (λ folder. IsMountRefusal VERSION_1_SIZE folder (D.state disk).may_leave e.0)) }
         ensures answers { IfErr result (λ e. IsOfMount e.0) }
         ensures caused { MatchResult result (λ wal. IsOpened (Ok wal) (D.state disk) (D.state wal.store.disk)) (λ e. IsOpened {A = Wal D} (Err e.0) (D.state disk) (D.state e.1)) }
-        // Where a crash leaves nothing else, it only reads.
+        // A lack is told only where the files stand for a store, or are not told.
+        ensures lost { IfErr result (λ e. e.0 ≡ NodeFault.DiskFault → Rose (D.state disk).faults (D.state e.1).faults
+            ⊎ IfTold (D.state disk).files (λ folder. (d : Durable) × StandsFor VERSION_1_SIZE folder d)) }
+        // No file changes, and a crash leaves nothing new.
+        ensures reads { MatchResult result (λ wal. OnlyReads (D.state disk) (D.state wal.store.disk)) (λ e. OnlyReads (D.state disk) (D.state e.1)) }
+        // Where a crash leaves nothing else, it leaves that at each moment, and a failure is one that the disk counted.
         ensures only { (folder : Folder) (d : Durable) → (D.state disk).files ≡ Some folder → StandsFor VERSION_1_SIZE folder d
             → ((image : Folder) → (D.state disk).may_leave image → StandsFor VERSION_1_SIZE image d)
             → MatchResult result (λ wal. OnlyOpens (Ok wal) (D.state disk) (D.state wal.store.disk) VERSION_1_SIZE d)
@@ -62,15 +71,15 @@ fn walk_on<D: Disk>(alloc: Global, store: Store<D>) -> Result<Wal<D>, (NodeFault
     requires unbroken { store.broken ≡ false }
     requires written { store.head.written ≡ store.head.control.flushed }
     ensures running { IfOk result (λ wal. (wal.stopped ≡ None) × (wal.store.head ≡ store.head)) }
+    ensures stands { IfOk result (λ wal. (n : LogState) × Remembers wal n) }
     ensures holds { IfOk result (λ wal. (d : Durable) → Backs (D.state store.disk) store.head (record { durable = d; unflushed = [] })
         → Holds (D.state wal.store.disk) wal (mounted_log store.head.size d)) }
     ensures refused { IfErr result (λ e. IsFailure e.0 ⊎ ((s : State) → Backs (D.state store.disk) store.head s → IsWrongTail store.head.size s.durable e.0)) }
     ensures answers { IfErr result (λ e. IsOfMount e.0) }
     ensures caused { MatchResult result (λ wal. IsOpened (Ok wal) (D.state store.disk) (D.state wal.store.disk)) (λ e. IsOpened {A = Wal D} (Err e.0) (D.state store.disk) (D.state e.1)) }
-    ensures only { (s : State) → Backs (D.state store.disk) store.head s → MatchResult result
-        (λ wal. OnlyOpens (Ok wal) (D.state store.disk) (D.state wal.store.disk) store.head.size s.durable)
-        (λ e. OnlyOpens {A = Wal D} (Err e.0) (D.state store.disk) (D.state e.1) store.head.size s.durable) }
-    ensures apart { MatchResult result (λ wal. StaysApart (D.state store.disk) (D.state wal.store.disk)) (λ e. StaysApart (D.state store.disk) (D.state e.1)) }
+    ensures failed { IfErr result (λ e. e.0 ≡ NodeFault.DiskFault → (s : State) → Backs (D.state store.disk) store.head s →
+        Rose (D.state store.disk).faults (D.state e.1).faults) }
+    ensures reads { MatchResult result (λ wal. OnlyReads (D.state store.disk) (D.state wal.store.disk)) (λ e. OnlyReads (D.state store.disk) (D.state e.1)) }
     ensures keeps { MatchResult result (λ wal. D.keeps store.disk wal.store.disk) (λ e. D.keeps store.disk e.1) }
 {
     let mut store = store;
@@ -101,15 +110,14 @@ fn walk_flushed<D: Disk>(
     ensures head { store.new.head ≡ store.old.head }
     ensures sound { OnOk result (store.new.broken ≡ false) }
     ensures taken { OnOk result (HasTaken store.old.head walker.new × (position walker.new ≡ store.old.head.control.flushed)) }
-    ensures backs { OnOk result ((s : State) → Backs (D.state store.old.disk) store.old.head s → Backs (D.state store.new.disk) store.old.head s) }
     ensures of_state { OnOk result ((s : State) → Backs (D.state store.old.disk) store.old.head s → TakenOf s store.old.head walker.old
         → TakenOf s store.old.head walker.new) }
     ensures refused { IfErr result (IsWalkRefusal (D.state store.old.disk) store.old.head walker.old) }
     ensures answers { IfErr result IsOfMount }
     ensures caused { IsOpened result (D.state store.old.disk) (D.state store.new.disk) }
-    ensures only { (s : State) → Backs (D.state store.old.disk) store.old.head s →
-        OnlyOpens result (D.state store.old.disk) (D.state store.new.disk) store.old.head.size s.durable }
-    ensures apart { StaysApart (D.state store.old.disk) (D.state store.new.disk) }
+    ensures failed { IfErr result (λ e. e ≡ NodeFault.DiskFault → (s : State) → Backs (D.state store.old.disk) store.old.head s →
+        Rose (D.state store.old.disk).faults (D.state store.new.disk).faults) }
+    ensures reads { OnlyReads (D.state store.old.disk) (D.state store.new.disk) }
     ensures keeps { D.keeps store.old.disk store.new.disk }
 {
     let mut room = match vec![in alloc; 0; PIECE] {
@@ -138,15 +146,14 @@ fn walk_pieces<D: Disk>(
     ensures head { store.new.head ≡ store.old.head }
     ensures sound { OnOk result (store.new.broken ≡ false) }
     ensures taken { OnOk result (HasTaken store.old.head walker.new × (position walker.new ≡ store.old.head.control.flushed)) }
-    ensures backs { OnOk result ((s : State) → Backs (D.state store.old.disk) store.old.head s → Backs (D.state store.new.disk) store.old.head s) }
     ensures of_state { OnOk result ((s : State) → Backs (D.state store.old.disk) store.old.head s → TakenOf s store.old.head walker.old
         → TakenOf s store.old.head walker.new) }
     ensures refused { IfErr result (IsWalkRefusal (D.state store.old.disk) store.old.head walker.old) }
     ensures answers { IfErr result IsOfMount }
     ensures caused { IsOpened result (D.state store.old.disk) (D.state store.new.disk) }
-    ensures only { (s : State) → Backs (D.state store.old.disk) store.old.head s →
-        OnlyOpens result (D.state store.old.disk) (D.state store.new.disk) store.old.head.size s.durable }
-    ensures apart { StaysApart (D.state store.old.disk) (D.state store.new.disk) }
+    ensures failed { IfErr result (λ e. e ≡ NodeFault.DiskFault → (s : State) → Backs (D.state store.old.disk) store.old.head s →
+        Rose (D.state store.old.disk).faults (D.state store.new.disk).faults) }
+    ensures reads { OnlyReads (D.state store.old.disk) (D.state store.new.disk) }
     ensures keeps { D.keeps store.old.disk store.new.disk }
 {
     let mut at = walker.position();
@@ -179,15 +186,14 @@ fn walk_piece<D: Disk>(
     ensures sound { OnOk result (store.new.broken ≡ false) }
     ensures taken { OnOk result (HasTaken store.old.head walker.new) }
     ensures on { OnOk result ((position walker.old < position walker.new) × (position walker.new ≤ store.old.head.control.flushed)) }
-    ensures backs { OnOk result ((s : State) → Backs (D.state store.old.disk) store.old.head s → Backs (D.state store.new.disk) store.old.head s) }
     ensures of_state { OnOk result ((s : State) → Backs (D.state store.old.disk) store.old.head s → TakenOf s store.old.head walker.old
         → TakenOf s store.old.head walker.new) }
     ensures refused { IfErr result (IsWalkRefusal (D.state store.old.disk) store.old.head walker.old) }
     ensures answers { IfErr result IsOfMount }
     ensures caused { IsOpened result (D.state store.old.disk) (D.state store.new.disk) }
-    ensures only { (s : State) → Backs (D.state store.old.disk) store.old.head s →
-        OnlyOpens result (D.state store.old.disk) (D.state store.new.disk) store.old.head.size s.durable }
-    ensures apart { StaysApart (D.state store.old.disk) (D.state store.new.disk) }
+    ensures failed { IfErr result (λ e. e ≡ NodeFault.DiskFault → (s : State) → Backs (D.state store.old.disk) store.old.head s →
+        Rose (D.state store.old.disk).faults (D.state store.new.disk).faults) }
+    ensures reads { OnlyReads (D.state store.old.disk) (D.state store.new.disk) }
     ensures keeps { D.keeps store.old.disk store.new.disk }
 {
     let at = walker.position();

@@ -1,5 +1,5 @@
 -- The next piece of the log was read and walked.
-use Rattle.std.proofs.Common.{◌≡◌, ℕ, ◌+◌, ◌-◌, ◌<◌, ◌≤◌, ◌++◌, length, take, drop, min, List, Result, Ok, Err, sym, ap, ◌∙◌, subst, inl, inr, arith, length-append, length-drop, length-take}
+use Rattle.std.proofs.Common.{◌≡◌, ℕ, ◌+◌, ◌-◌, ◌<◌, ◌≤◌, ◌++◌, length, take, drop, min, List, Result, Err, sym, ap, ◌∙◌, subst, inl, inr, arith, length-append, length-drop, length-take}
 use Rattle.std.proofs.Math.Nat.{div-mul-le_self}
 use Rattle.repl_disk.specs.State.{DiskState}
 use Rattle.repl_record.specs.Walker.{position}
@@ -8,9 +8,9 @@ use Rattle.repl_store.specs.Head.{Head, IsHead}
 use Rattle.repl_store.specs.declared.fault.StoreFault.{StoreFault}
 use Rattle.repl_store.specs.declared.store.StoreStatus.{StoreStatus}
 use Rattle.repl_wal.specs.Making.{IsWrongTail, TakenOf}
-use Rattle.repl_wal.proofs.Ending.{failure, not_broken}
+use Rattle.repl_wal.proofs.Ending.{not_broken}
 use Rattle.repl_wal.proofs.Mounting.{of_disk, taken_of_on, taken_on, wrong_on}
-use Rattle.repl_wal.proofs.Opening.{failed_of, only_read}
+use Rattle.repl_wal.proofs.Opening.{failed_of}
 use Rattle.repl_wal.proofs.Reading.{read_front}
 use Rattle.repl_wal.proofs.mount.walk_piece.Goals as goal
 
@@ -23,37 +23,10 @@ returns-in-Err-clause-refused g c =
           c.args.store.now.broken c.requires.unbroken c.in-Err.ensures.broken),
     )
 
-pub returns-in-Err-clause-only : goal.returns-in-Err-clause-only
-returns-in-Err-clause-only g c s backs =
-    let state = g.D.Disk.state in
-    let old = c.args.store.now in
-    let new = c.read_into.new.self in
-    let e = c.of_store.result in
-    let comes = c.in-Err.ensures.comes s backs in
+pub returns-in-Err-clause-failed : goal.returns-in-Err-clause-failed
+returns-in-Err-clause-failed g c is s backs =
     let Fails : StoreFault → Result (Unit {0}) StoreFault = λ x. Err x in
-    only_read {A = Unit {0}} (Err e) (state old.disk) (state new.disk) old.head new.head s (g.met.D.Disk.counts_now new.disk) c.in-Err.ensures.head
-    comes.moments (λ is. comes.failed (ap Fails (failed_of c.in-Err.fault e c.of_store.ensures (failure {A = Unit {0}} e is))))
-
-pub returns-in-Ok-judge-clause-only : goal.returns-in-Ok-judge-clause-only
-returns-in-Ok-judge-clause-only g c s backs =
-    let state = g.D.Disk.state in
-    let old = c.args.store.now in
-    let new = c.read_into.new.self in
-    only_read {A = Unit {0}} (Ok tt) (state old.disk) (state new.disk) old.head new.head s (g.met.D.Disk.counts_now new.disk) c.in-Ok.ensures.head
-    (c.in-Ok.ensures.comes s backs).moments (λ is. absurd cc)
-
-pub returns-in-Ok-judge-clause-backs : goal.returns-in-Ok-judge-clause-backs
-returns-in-Ok-judge-clause-backs g c s backs =
-    subst (λ (h : Head). Backs (g.D.Disk.state c.read_into.new.self.disk) h s) c.in-Ok.ensures.head (c.in-Ok.ensures.comes s backs).ok
-
-pub returns-in-Err-judge-clause-only : goal.returns-in-Err-judge-clause-only
-returns-in-Err-judge-clause-only g c s backs =
-    let state = g.D.Disk.state in
-    let old = c.args.store.now in
-    let new = c.read_into.new.self in
-    let e = c.in-Err-judge.fault in
-    only_read {A = Unit {0}} (Err e) (state old.disk) (state new.disk) old.head new.head s (g.met.D.Disk.counts_now new.disk) c.in-Ok.ensures.head
-    (c.in-Ok.ensures.comes s backs).moments (λ is. absurd (c.in-Err-judge.ensures.answers.1 (failure {A = Unit {0}} e is)))
+    (c.in-Err.ensures.comes s backs).failed (ap Fails (failed_of c.in-Err.fault c.of_store.result c.of_store.ensures is))
 
 pub returns-in-Ok-judge-clause-taken : goal.returns-in-Ok-judge-clause-taken
 returns-in-Ok-judge-clause-taken g c =

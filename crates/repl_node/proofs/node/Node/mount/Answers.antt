@@ -1,32 +1,53 @@
 -- The slots are judged, and then the log is opened.
-use Rattle.std.proofs.Common.{ℕ, All, Ok, Err, inl, inr, refl, ◌∙◌}
+use Rattle.std.proofs.Common.{◌≡◌, ℕ, All, List, Some, None, Result, Err, inl, inr, ⊎_elim, refl, sym, ap, ◌∙◌, subst}
 use Rattle.repl_control.specs.declared.control.TheConstants.{VERSION_1_SIZE}
-use Rattle.repl_disk.specs.Folder.{Folder}
+use Rattle.repl_counts.specs.Counts.{Rose}
+use Rattle.repl_disk.specs.Folder.{Folder, IfTold, ToldFiles}
 use Rattle.repl_disk.specs.Runs.{told_so, where_told}
-use Rattle.repl_slots.specs.SlotFile.{IsMounted as IsMountedSlot, entries_of}
+use Rattle.repl_slots.specs.SlotFile.{Entry, IsMounted as IsMountedSlot, entries_of}
 use Rattle.repl_slots.specs.Stored.{Stores}
+use Rattle.repl_store.proofs.Asking.{reads_then}
+use Rattle.repl_store.specs.Durable.{Durable, StandsFor}
 use Rattle.repl_wal.specs.declared.wal.Wal.{Wal}
 use Rattle.repl_wal.specs.Making.{IsMountRefusal}
 use Rattle.repl_wal.specs.declared.fault.NodeFault.{NodeFault}
+use Rattle.repl_wal.specs.declared.fault.NodeFault.TheVariants as fault
 use Rattle.repl_node.specs.Making.{IsFirstRefusal, IsNodeRefusal}
 use Rattle.repl_node.specs.declared.node.Node.{Node}
-use Rattle.repl_node.proofs.Opening.{only_judged, only_opened, same_failure}
-use Rattle.repl_node.proofs.Passing.{stores_on, told}
+use Rattle.repl_node.proofs.Opening.{only_opens, same_failure}
 use Rattle.repl_node.proofs.node.Node.mount.Goals as goal
+
+-- ---- it only reads
+
+pub returns-in-Ok-mount-clause-reads : goal.returns-in-Ok-mount-clause-reads
+returns-in-Ok-mount-clause-reads g c =
+    let state = g.D.Disk.state in
+    reads_then (state c.args.disk) (state c.in-Ok.disk) (state c.in-Ok-mount.wal.store.disk) c.in-Ok.ensures.only c.in-Ok-mount.ensures.reads
+
+pub returns-in-Err-mount-clause-reads : goal.returns-in-Err-mount-clause-reads
+returns-in-Err-mount-clause-reads g c =
+    let state = g.D.Disk.state in
+    reads_then (state c.args.disk) (state c.in-Ok.disk) (state c.in-Err-mount.refused.1) c.in-Ok.ensures.only c.in-Err-mount.ensures.reads
+
+-- ---- what is mounted
 
 pub returns-in-Ok-mount-clause-holds : goal.returns-in-Ok-mount-clause-holds
 returns-in-Ok-mount-clause-holds g c folder d tells stands all =
-    let mid = g.D.Disk.state c.in-Ok.disk in
-    let slots = c.in-Ok.slots in
-    let stays = c.in-Ok.ensures.only.stayed ∙ tells in
+    let only = c.in-Ok.ensures.only in
     record {
-      log = c.in-Ok-mount.ensures.holds folder d stays stands (λ image left. (all image (c.in-Ok.ensures.only.none_new image left)).0);
+      log = c.in-Ok-mount.ensures.holds folder d (only.stayed ∙ tells) stands (λ image left. (all image (only.none_new image left)).0);
       slots = refl;
       sound = λ is. c.in-Ok.ensures.slots.0;
-      stored = λ yes sound image left.
-          stores_on mid.may_leave (entries_of slots.slots) image (λ before was. (all before (c.in-Ok.ensures.only.none_new before was)).1)
-          (told mid folder stays c.in-Ok-mount.ensures.apart.now image left);
+      stored = λ yes sound image left. (all image ((returns-in-Ok-mount-clause-reads g c).none_new image left)).1;
     }
+
+pub returns-in-Ok-mount-clause-stands : goal.returns-in-Ok-mount-clause-stands
+returns-in-Ok-mount-clause-stands g c =
+    let log = c.in-Ok-mount.ensures.stands in
+    let slots = c.in-Ok.slots.slots in
+    (record { log = log.0; slots = slots; saved = entries_of slots }, record { log = log.1; slots = refl; sound = λ is. c.in-Ok.ensures.slots.0 })
+
+-- ---- what is refused
 
 -- what is wrong behind right slots
 behind : (size : ℕ) (folder : Folder) (old mid : Folder → Type 0) (e : NodeFault) → ((image : Folder) → mid image → old image)
@@ -53,31 +74,51 @@ returns-in-Err-clause-refused g c =
     where_told old.files (λ folder. IsNodeRefusal VERSION_1_SIZE folder old.may_leave e) (λ folder tells.
     inl (told_so old.files folder (λ f. IsFirstRefusal VERSION_1_SIZE f e) tells c.in-Err.ensures.refused))
 
--- ---- it only reads
+-- ---- a failure of the disk
+
+abbrev IsNode : Folder → Type 0
+IsNode folder = (d : Durable) × (saved : List Entry) × StandsFor VERSION_1_SIZE folder d × Stores saved folder
+
+pub returns-in-Err-clause-lost : goal.returns-in-Err-clause-lost
+returns-in-Err-clause-lost g c is =
+    let Fails : NodeFault → Result (Unit {0}) NodeFault = λ x. Err x in
+    ⊎_elim inl (λ lack. inr (subst (λ (f : ToldFiles). IfTold f IsNode) (sym lack.0) tt)) (c.in-Err.ensures.caused.failed (ap Fails is))
+
+pub returns-in-Err-mount-clause-lost : goal.returns-in-Err-mount-clause-lost
+returns-in-Err-mount-clause-lost g c is =
+    let old = g.D.Disk.state c.args.disk in
+    let mid = g.D.Disk.state c.in-Ok.disk in
+    let new = g.D.Disk.state c.in-Err-mount.refused.1 in
+    let slots = c.in-Ok.slots in
+    ⊎_elim (λ rose. inl (subst (λ (k : ℕ). Rose k new.faults) c.in-Ok.ensures.caused.ok.0 rose))
+    (λ store. inr (where_told old.files IsNode (λ folder tells.
+    let log = told_so mid.files folder (λ f. (d : Durable) × StandsFor VERSION_1_SIZE f d) (c.in-Ok.ensures.only.stayed ∙ tells) store in
+    let found = told_so old.files folder (λ f. All IsMountedSlot slots.slots × Stores (entries_of slots.slots) f) tells c.in-Ok.ensures.slots.1 in
+    (log.0, entries_of slots.slots, log.1, found.1)))) (c.in-Err-mount.ensures.lost is)
+
+-- ---- where a crash leaves nothing else
 
 pub returns-in-Ok-mount-clause-only : goal.returns-in-Ok-mount-clause-only
 returns-in-Ok-mount-clause-only g c folder d saved tells stands all =
     let state = g.D.Disk.state in
-    let mid = state c.in-Ok.disk in
-    let wal = c.in-Ok-mount.wal in
-    let is = c.in-Ok.ensures in
-    only_opened VERSION_1_SIZE d saved (c.in-Ok.slots, c.in-Ok.disk) (Ok wal) _ (state c.args.disk) mid (state wal.store.disk) folder (λ k. absurd cc)
-    tells all is.caused is.only c.in-Ok-mount.ensures.apart (c.in-Ok-mount.ensures.only folder d (is.only.stayed ∙ tells) stands
-    (λ image left. (all image (is.only.none_new image left)).0))
+    only_opens _ (state c.args.disk) (state c.in-Ok-mount.wal.store.disk) VERSION_1_SIZE d saved all (returns-in-Ok-mount-clause-reads g c)
+    (λ k. absurd cc)
 
 pub returns-in-Err-mount-clause-only : goal.returns-in-Err-mount-clause-only
 returns-in-Err-mount-clause-only g c folder d saved tells stands all =
     let state = g.D.Disk.state in
-    let mid = state c.in-Ok.disk in
     let e = c.in-Err-mount.refused in
     let is = c.in-Ok.ensures in
-    only_opened VERSION_1_SIZE d saved {B = Wal g.row.D.Denot} (c.in-Ok.slots, c.in-Ok.disk) (Err e.0) (Err e.0) (state c.args.disk) mid (state e.1)
-    folder (same_failure e.0) tells all is.caused is.only c.in-Err-mount.ensures.apart (c.in-Err-mount.ensures.only folder d
-    (is.only.stayed ∙ tells) stands (λ image left. (all image (is.only.none_new image left)).0))
+    let opens = c.in-Err-mount.ensures.only folder d (is.only.stayed ∙ tells) stands (λ image left. (all image (is.only.none_new image left)).0) in
+    only_opens {A = Node g.row.D.Denot} (Err e.0) (state c.args.disk) (state e.1) VERSION_1_SIZE d saved all (returns-in-Err-mount-clause-reads g c)
+    (λ k. subst (λ (n : ℕ). Rose n (state e.1).faults) is.caused.ok.0 (opens.failed (same_failure e.0 k)))
 
 pub returns-in-Err-clause-only : goal.returns-in-Err-clause-only
 returns-in-Err-clause-only g c folder d saved tells stands all =
     let state = g.D.Disk.state in
     let e = c.in-Err.refused in
-    only_judged VERSION_1_SIZE d saved {A = Unit {0}} {B = Node g.row.D.Denot} (Err e.0) (Err e.0) (state c.args.disk) (state e.1) folder
-    (same_failure e.0) tells all c.in-Err.ensures.caused c.in-Err.ensures.only
+    only_opens {A = Node g.row.D.Denot} (Err e.0) (state c.args.disk) (state e.1) VERSION_1_SIZE d saved all c.in-Err.ensures.only
+    (λ k. elim (c.in-Err.ensures.caused.failed (same_failure e.0 k)) [
+      | inl rose ↦ rose
+      | inr lack ↦ let clash : ◌≡◌ {A = ToldFiles} None (Some folder) = sym lack.0 ∙ tells in absurd cc
+    ])

@@ -1,22 +1,25 @@
 -- The log of the store that was mounted.
-use Rattle.std.proofs.Common.{◌≡◌, ℕ, ◌⊎◌, Some, None, [], Result, Ok, Err, refl, sym, ◌∙◌, subst, inl, inr}
+use Rattle.std.proofs.Common.{◌≡◌, ℕ, ◌⊎◌, Some, None, [], Result, Err, refl, sym, ap, ◌∙◌, subst, inl, inr, ⊎_elim}
 use Rattle.repl_control.specs.declared.control.TheConstants.{VERSION_1_SIZE}
+use Rattle.repl_counts.specs.Counts.{Rose}
 use Rattle.repl_disk.specs.Folder.{Folder, IfTold, ToldFiles}
-use Rattle.repl_disk.specs.Moments.{weakened}
 use Rattle.repl_disk.specs.State.{DiskState}
-use Rattle.repl_store.proofs.Apart.{apart_on}
-use Rattle.repl_store.specs.Backing.{Asks, Backs, Only, State}
+use Rattle.repl_store.proofs.Apart.{apart_reads}
+use Rattle.repl_store.proofs.Asking.{reads_then}
+use Rattle.repl_store.specs.Backing.{Asks, Backs, State}
 use Rattle.repl_store.specs.Durable.{Durable, StandsFor}
 use Rattle.repl_store.specs.Head.{Head, IsMounted}
 use Rattle.repl_store.specs.Refusal.{IsOfDisk, IsRefusal}
 use Rattle.repl_store.specs.declared.fault.StoreFault.{StoreFault}
 use Rattle.repl_store.specs.declared.fault.StoreFault.TheVariants as store
+use Rattle.repl_wal.specs.Faults.{of_store}
 use Rattle.repl_wal.specs.Holding.{Holds}
-use Rattle.repl_wal.specs.Making.{IsFailure, IsMountRefusal, IsWrongTail, OnlyOpens, mounted_log}
+use Rattle.repl_wal.specs.Making.{IsFailure, IsMountRefusal, IsWrongTail, mounted_log}
 use Rattle.repl_wal.specs.declared.fault.NodeFault.{NodeFault}
 use Rattle.repl_wal.specs.declared.fault.NodeFault.TheVariants as fault
 use Rattle.repl_wal.specs.declared.wal.Wal.{Wal}
-use Rattle.repl_wal.proofs.Opening.{only_on}
+use Rattle.repl_wal.proofs.Ending.{failure}
+use Rattle.repl_wal.proofs.Opening.{failed_of, only_opens}
 use Rattle.repl_wal.proofs.wal.Wal.mount.Goals as goal
 
 -- what was found in the files that are told
@@ -59,56 +62,78 @@ returns-in-Err-walk_on-clause-refused g c =
     refused_told (state c.args.disk).files VERSION_1_SIZE (state store.disk) store.head (state c.args.disk).may_leave c.in-Err-walk_on.refused.0
     c.in-Ok.ensures.mounted.1 c.in-Err-walk_on.ensures.refused c.in-Ok.ensures.backs
 
+-- ---- a failure of the disk
+
+-- the store was not mounted
+store_failed : {A : Type 0} (f : StoreFault) (e : NodeFault) (old new : DiskState) → e ≡ of_store f → Asks {A = A} (Err f) old new
+    → e ≡ fault.DiskFault → Rose old.faults new.faults ⊎ (old.files ≡ None)
+store_failed {A} f e old new told asks is =
+    let Fails : StoreFault → Result A StoreFault = λ x. Err x in
+    ⊎_elim inl (λ lack. inr lack.0) (asks.failed (ap Fails (failed_of f e told is)))
+
+abbrev IsStore : Folder → Type 0
+IsStore folder = (d : Durable) × StandsFor VERSION_1_SIZE folder d
+
+pub returns-in-Err-clause-lost : goal.returns-in-Err-clause-lost
+returns-in-Err-clause-lost g c is =
+    let state = g.D.Disk.state in
+    let old = state c.args.disk in
+    ⊎_elim inl (λ none. inr (subst (λ (f : ToldFiles). IfTold f IsStore) (sym none) tt))
+    (store_failed c.in-Err.fault c.of_store.result old (state c.in-Err.disk) c.of_store.ensures c.in-Err.ensures.asks is)
+
+found_store : (told : ToldFiles) (head : Head) → IfTold told (Found VERSION_1_SIZE head) → IfTold told IsStore
+found_store None head found = tt
+found_store (Some folder) head found = (found.0, found.1)
+
+pub returns-in-Err-walk_on-clause-lost : goal.returns-in-Err-walk_on-clause-lost
+returns-in-Err-walk_on-clause-lost g c is =
+    inr (found_store (g.D.Disk.state c.args.disk).files c.in-Ok.store.head c.in-Ok.ensures.mounted.1)
+
+-- ---- it only reads
+
+pub returns-in-Ok-walk_on-clause-reads : goal.returns-in-Ok-walk_on-clause-reads
+returns-in-Ok-walk_on-clause-reads g c =
+    let state = g.D.Disk.state in
+    reads_then (state c.args.disk) (state c.in-Ok.store.disk) (state c.in-Ok-walk_on.wal.store.disk) c.in-Ok.ensures.asks.only c.in-Ok-walk_on.ensures.reads
+
+pub returns-in-Err-walk_on-clause-reads : goal.returns-in-Err-walk_on-clause-reads
+returns-in-Err-walk_on-clause-reads g c =
+    let state = g.D.Disk.state in
+    reads_then (state c.args.disk) (state c.in-Ok.store.disk) (state c.in-Err-walk_on.refused.1) c.in-Ok.ensures.asks.only c.in-Err-walk_on.ensures.reads
+
 pub returns-in-Ok-walk_on-clause-apart : goal.returns-in-Ok-walk_on-clause-apart
 returns-in-Ok-walk_on-clause-apart g c =
     let state = g.D.Disk.state in
-    apart_on (state c.args.disk) (state c.in-Ok.store.disk) (state c.in-Ok-walk_on.wal.store.disk) c.in-Ok.ensures.apart c.in-Ok-walk_on.ensures.apart
+    apart_reads (state c.args.disk) (state c.in-Ok-walk_on.wal.store.disk) (returns-in-Ok-walk_on-clause-reads g c)
 
 pub returns-in-Err-walk_on-clause-apart : goal.returns-in-Err-walk_on-clause-apart
 returns-in-Err-walk_on-clause-apart g c =
     let state = g.D.Disk.state in
-    apart_on (state c.args.disk) (state c.in-Ok.store.disk) (state c.in-Err-walk_on.refused.1) c.in-Ok.ensures.apart c.in-Err-walk_on.ensures.apart
-
--- ---- it only reads
-
--- nothing but the store's reads
-only_asked : {A B : Type 0} (result : Result A StoreFault) (other : Result B NodeFault) (old new : DiskState) (folder : Folder) (size : ℕ)
-    (d : Durable) → old.files ≡ Some folder → ((image : Folder) → old.may_leave image → StandsFor size image d)
-    → (other ≡ Err fault.DiskFault → result ≡ Err store.DiskFault) → Asks result old new → OnlyOpens other old new size d
-only_asked result other old new folder size d told all same asks = record {
-  moments = weakened old new old.may_leave (λ image. (x : Durable) × Only d x × StandsFor size image x) asks.only.moments
-      (λ image was. (d, refl, all image was));
-  now = λ image left. all image (asks.only.none_new image left);
-  failed = λ is. elim (asks.failed (same is)) [
-    | inl rose ↦ rose
-    | inr lack ↦ let clash : ◌≡◌ {A = ToldFiles} None (Some folder) = sym lack.0 ∙ told in absurd cc
-  ];
-}
-
--- and then the walk
-only_walked : {A B : Type 0} (x : A) (result : Result B NodeFault) (old mid new : DiskState) (head : Head) (folder : Folder) (d : Durable)
-    → IfTold old.files (Found VERSION_1_SIZE head) → old.files ≡ Some folder
-    → ((image : Folder) → old.may_leave image → StandsFor VERSION_1_SIZE image d) → Asks (Ok x) old mid
-    → OnlyOpens result mid new head.size d → OnlyOpens result old new VERSION_1_SIZE d
-only_walked {A} x result old mid new head folder d found told all asks more =
-    let has : Found VERSION_1_SIZE head folder = subst (λ (f : ToldFiles). IfTold f (Found VERSION_1_SIZE head)) told found in
-    let first = only_asked {B = Unit {0}} (Ok x) (Ok tt) old mid folder VERSION_1_SIZE d told all (λ is. absurd cc) asks in
-    only_on result old mid new VERSION_1_SIZE d asks.ok.0 first.moments
-    (subst (λ (k : ℕ). OnlyOpens result mid new k d) has.2.same_size more)
+    apart_reads (state c.args.disk) (state c.in-Err-walk_on.refused.1) (returns-in-Err-walk_on-clause-reads g c)
 
 pub returns-in-Ok-walk_on-clause-only : goal.returns-in-Ok-walk_on-clause-only
 returns-in-Ok-walk_on-clause-only g c folder d told stands all =
     let state = g.D.Disk.state in
-    let s : State = record { durable = d; unflushed = [] } in
-    let in_store = c.in-Ok.store in
-    only_walked in_store _ (state c.args.disk) (state in_store.disk) (state c.in-Ok-walk_on.wal.store.disk) in_store.head folder d
-    c.in-Ok.ensures.mounted.1 told all c.in-Ok.ensures.asks (c.in-Ok-walk_on.ensures.only s (c.in-Ok.ensures.backs folder d told stands all))
+    only_opens _ (state c.args.disk) (state c.in-Ok-walk_on.wal.store.disk) VERSION_1_SIZE d all (returns-in-Ok-walk_on-clause-reads g c) (λ is. absurd cc)
 
 pub returns-in-Err-walk_on-clause-only : goal.returns-in-Err-walk_on-clause-only
 returns-in-Err-walk_on-clause-only g c folder d told stands all =
     let state = g.D.Disk.state in
+    let new = state c.in-Err-walk_on.refused.1 in
+    let e = c.in-Err-walk_on.refused.0 in
     let s : State = record { durable = d; unflushed = [] } in
-    let in_store = c.in-Ok.store in
-    only_walked {B = Wal g.row.D.Denot} in_store (Err c.in-Err-walk_on.refused.0) (state c.args.disk) (state in_store.disk)
-    (state c.in-Err-walk_on.refused.1) in_store.head folder d c.in-Ok.ensures.mounted.1 told all c.in-Ok.ensures.asks
-    (c.in-Err-walk_on.ensures.only s (c.in-Ok.ensures.backs folder d told stands all))
+    only_opens {A = Wal g.row.D.Denot} (Err e) (state c.args.disk) new VERSION_1_SIZE d all (returns-in-Err-walk_on-clause-reads g c)
+    (λ is. subst (λ (k : ℕ). Rose k new.faults) c.in-Ok.ensures.asks.ok.0
+    (c.in-Err-walk_on.ensures.failed (failure {A = Wal g.row.D.Denot} e is) s (c.in-Ok.ensures.backs folder d told stands all)))
+
+pub returns-in-Err-clause-only : goal.returns-in-Err-clause-only
+returns-in-Err-clause-only g c folder d told stands all =
+    let state = g.D.Disk.state in
+    let old = state c.args.disk in
+    let new = state c.in-Err.disk in
+    let e = c.of_store.result in
+    only_opens {A = Wal g.row.D.Denot} (Err e) old new VERSION_1_SIZE d all c.in-Err.ensures.asks.only
+    (λ is. elim (store_failed c.in-Err.fault e old new c.of_store.ensures c.in-Err.ensures.asks (failure {A = Wal g.row.D.Denot} e is)) [
+      | inl rose ↦ rose
+      | inr none ↦ let clash : ◌≡◌ {A = ToldFiles} None (Some folder) = sym none ∙ told in absurd cc
+    ])
