@@ -46,10 +46,11 @@ impl<D: Disk> HubState<D> {
             Ok(room) => room,
             Err(_) => return Err(NodeFault::Memory),
         };
-        match self.node.read(self.alloc, tli, at, &mut room) {
-            Ok(out) => log_read(out, room),
-            Err(fault) => Err(fault),
-        }
+        let out = match self.node.read(self.alloc, tli, at, &mut room) {
+            Ok(out) => out,
+            Err(fault) => return Err(fault),
+        };
+        log_read(out, room)
     }
 
     /// A record is added. Takes memory for its image.

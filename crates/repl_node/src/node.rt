@@ -1,5 +1,5 @@
 //! A node, and what it tells of itself.
-ghost use Rattle.std.specs.Prelude.{◌≡◌, false, None};
+ghost use Rattle.std.specs.Prelude.{◌≡◌, ◌↔◌, false, true, None, IsTrue};
 ghost use Rattle.repl_slots.specs.Slot.{AreSlots};
 ghost use Rattle.repl_store.specs.Head.{status_of};
 ghost use Rattle.repl_wal.specs.State.{IsLog, identity_in, path_of, status_of_log};
@@ -37,6 +37,13 @@ impl<D: Disk> Node<D> {
         ensures right { (n : NodeState) → Remembers self.now n → n.log.broken ≡ false → IsLog n.log }
     {
         self.wal.identify()
+    }
+
+    /// Whether a call of the disk failed since the mount.
+    pub fn is_broken(&self) -> bool
+        ensures { (n : NodeState) → Remembers self.now n → (IsTrue result ↔ (n.log.broken ≡ true)) }
+    {
+        self.wal.is_broken()
     }
 
     /// The path of the log.
