@@ -8,10 +8,8 @@ use Rattle.repl_slots.specs.SlotFile.{Entry, IsMounted as IsMountedSlot, entries
 use Rattle.repl_slots.specs.Stored.{Stores}
 use Rattle.repl_store.proofs.Asking.{reads_then}
 use Rattle.repl_store.specs.Durable.{Durable, StandsFor}
-use Rattle.repl_wal.specs.declared.wal.Wal.{Wal}
 use Rattle.repl_wal.specs.Making.{IsMountRefusal}
 use Rattle.repl_wal.specs.declared.fault.NodeFault.{NodeFault}
-use Rattle.repl_wal.specs.declared.fault.NodeFault.TheVariants as fault
 use Rattle.repl_node.specs.Making.{IsFirstRefusal, IsNodeRefusal}
 use Rattle.repl_node.specs.declared.node.Node.{Node}
 use Rattle.repl_node.proofs.Opening.{only_opens, same_failure}
