@@ -1,5 +1,6 @@
 -- Making a node, and opening one again.
-use Rattle.std.specs.Prelude.{◌≡◌, ◌≢◌, ℕ, ◌⊎◌, List, Some, None}
+use Rattle.std.specs.Prelude.{◌≡◌, ◌≢◌, ℕ, ◌⊎◌, List, Some, None, Result, Err, OnOk, IfErr}
+use Rattle.repl_counts.specs.Counts.{Rose, Stood}
 use Rattle.repl_disk.specs.Folder.{Folder, IfTold}
 use Rattle.repl_disk.specs.State.{DiskState}
 use Rattle.repl_slots.specs.SlotFile.{Entry, FileStops, entries_of}
@@ -15,10 +16,11 @@ use Rattle.repl_store.specs.Refusal.{HasControl, IsRefusal}
 use Rattle.repl_store.specs.declared.fault.StoreFault.{StoreFault}
 use Rattle.repl_store.specs.declared.fault.StoreFault.TheVariants as store
 use Rattle.repl_wal.specs.Faults.{of_store}
-use Rattle.repl_wal.specs.Making.{IsMountRefusal, mounted_log}
+use Rattle.repl_wal.specs.Making.{IsMountRefusal, IsOfMount, mounted_log}
 use Rattle.repl_wal.specs.declared.fault.NodeFault.{NodeFault}
 use Rattle.repl_wal.specs.declared.fault.NodeFault.TheVariants as fault
-use Rattle.repl_node.specs.State.{NodeState}
+use Rattle.repl_node.specs.Holding.{LeavesSome}
+use Rattle.repl_node.specs.State.{Left, NodeState}
 
 -- the node that was just made or mounted, with these slots
 abbrev pub mounted_node : ℕ → Durable → List Slot → NodeState
@@ -46,6 +48,37 @@ IsFirstRefusal size folder e = ((f : StoreFault) × (e ≡ of_store f) × IsBefo
 abbrev pub IsNodeRefusal : ℕ → Folder → (Folder → Type 0) → NodeFault → Type 0
 IsNodeRefusal size folder leaves e = IsFirstRefusal size folder e
     ⊎ ((saved : List Entry) × Stores saved folder × IsMountRefusal size folder leaves e)
+
+-- a mount may answer so before it opens the log, over any files
+abbrev pub IsOfSlots : NodeFault → Type 0
+IsOfSlots (fault.Missing name) = Unit {0}
+IsOfSlots (fault.BadControl place) = Unit {0}
+IsOfSlots (fault.BadSlots place) = Unit {0}
+IsOfSlots fault.DiskFault = Unit {0}
+IsOfSlots fault.Memory = Unit {0}
+IsOfSlots e = ⊥
+
+-- and so when it does
+abbrev pub IsOfNodeMount : NodeFault → Type 0
+IsOfNodeMount (fault.BadSlots place) = Unit {0}
+IsOfNodeMount e = IsOfMount e
+
+-- Each failure of the disk is told, and none is told without one, or, where the disk does not tell its files, without a lack.
+pub record IsJudged {A : Type 0} (result : Result A NodeFault) (old new : DiskState) : Type 0 where
+  pub ok : OnOk result (Stood old.faults new.faults × Stood old.wants new.wants)
+  pub failed : result ≡ Err fault.DiskFault → Rose old.faults new.faults ⊎ ((old.files ≡ None) × Rose old.lacks new.lacks)
+  pub others : IfErr result (λ e. (e ≡ fault.DiskFault) ⊎ Stood old.faults new.faults)
+
+-- this log and these slots
+abbrev pub OnlyThese : Durable → List Entry → Left
+OnlyThese log slots d saved = (d ≡ log) × (saved ≡ slots)
+
+-- Where a crash leaves nothing but what the files stand for, it only reads: a crash in it leaves that, and behind it too, and a
+-- failure was counted as one.
+pub record OnlyOpensNode {A : Type 0} (result : Result A NodeFault) (old new : DiskState) (size : ℕ) (d : Durable) (saved : List Entry) : Type 0 where
+  pub moments : LeavesSome old new size (OnlyThese d saved)
+  pub now : (image : Folder) → new.may_leave image → StandsFor size image d × Stores saved image
+  pub failed : result ≡ Err fault.DiskFault → Rose old.faults new.faults
 
 -- ---- making
 

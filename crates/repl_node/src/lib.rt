@@ -17,6 +17,7 @@
 #![tactic(auto)]
 
 mod clone;
+mod judge;
 mod keeping;
 mod laws;
 mod log;
@@ -26,6 +27,7 @@ mod mount;
 mod node;
 mod slots;
 
+pub use judge::mount_slots;
 pub use laws::{others_keep, save_keeps, trim_keeps};
 pub use node::Node;
 pub use repl_slots::{Slot, SlotFault};

@@ -12,6 +12,8 @@ pub mod Reading
 pub mod Beginning
 -- going through what is flushed
 pub mod Mounting
+-- who is told of failures in a mount
+pub mod Opening
 -- a log that runs is right
 pub mod Lawful
 -- how far a log is kept

@@ -1,5 +1,5 @@
 -- Making a log, and opening one again.
-use Rattle.std.specs.Prelude.{◌≡◌, ℕ, ◌+◌, ◌-◌, ◌<◌, ◌⊎◌, false, true, List, [], length, take, drop, None, Result, Err, OnOk}
+use Rattle.std.specs.Prelude.{◌≡◌, ℕ, ◌+◌, ◌-◌, ◌<◌, ◌⊎◌, false, true, List, [], length, take, drop, None, Result, Err, OnOk, IfErr}
 use Rattle.repl_counts.specs.Counts.{Rose, Stood}
 use Rattle.repl_disk.specs.Folder.{Folder, ToldFiles}
 use Rattle.repl_disk.specs.State.{DiskState}
@@ -10,7 +10,7 @@ use Rattle.repl_log.specs.Walks.{HasWalked}
 use Rattle.repl_record.specs.Log.{RecordEnd}
 use Rattle.repl_record.specs.Walker.{identity, last_end, position}
 use Rattle.repl_record.specs.declared.walker.Walker.{Walker}
-use Rattle.repl_store.specs.Backing.{Backs, State, log}
+use Rattle.repl_store.specs.Backing.{Backs, LeavesOne, Only, State, log}
 use Rattle.repl_store.specs.Creating.{IsUnmade as IsNoStore}
 use Rattle.repl_store.specs.Durable.{Durable, StandsFor}
 use Rattle.repl_store.specs.Head.{Head}
@@ -74,6 +74,30 @@ IsWrongTail size d e = IsWrongBehind (ident_in size d) (timeline_at d.path) d.co
 abbrev pub IsMountRefusal : ℕ → Folder → (Folder → Type 0) → NodeFault → Type 0
 IsMountRefusal size folder leaves e = ((f : StoreFault) × (e ≡ of_store f) × IsRefusal size folder f)
     ⊎ ((d : Durable) × StandsFor size folder d × (((image : Folder) → leaves image → StandsFor size image d) → IsWrongTail size d e))
+
+-- a mount may answer so, over any files
+abbrev pub IsOfMount : NodeFault → Type 0
+IsOfMount (fault.Missing name) = Unit {0}
+IsOfMount (fault.BadControl place) = Unit {0}
+IsOfMount (fault.BadHistory tli wrong) = Unit {0}
+IsOfMount (fault.ShortFile name have needed) = Unit {0}
+IsOfMount (fault.Damaged at why) = Unit {0}
+IsOfMount fault.DiskFault = Unit {0}
+IsOfMount fault.Memory = Unit {0}
+IsOfMount e = ⊥
+
+-- Each failure of the disk is told, and none is told without one: over a disk that lost a file it may be a lack.
+pub record IsOpened {A : Type 0} (result : Result A NodeFault) (old new : DiskState) : Type 0 where
+  pub ok : OnOk result (Stood old.faults new.faults × Stood old.wants new.wants)
+  pub failed : result ≡ Err fault.DiskFault → Rose old.faults new.faults ⊎ Rose old.lacks new.lacks
+  pub others : IfErr result (λ e. (e ≡ fault.DiskFault) ⊎ Stood old.faults new.faults)
+
+-- Where a crash leaves nothing but what the files stand for, it only reads: a crash in it leaves that, and behind it too, and a
+-- failure was counted as one.
+pub record OnlyOpens {A : Type 0} (result : Result A NodeFault) (old new : DiskState) (size : ℕ) (d : Durable) : Type 0 where
+  pub moments : LeavesOne old new size (Only d)
+  pub now : (image : Folder) → new.may_leave image → StandsFor size image d
+  pub failed : result ≡ Err fault.DiskFault → Rose old.faults new.faults
 
 -- ---- while it is walked. Private clauses cite this.
 

@@ -1,5 +1,5 @@
 //! Opening the log that stands on a disk.
-ghost use Rattle.std.specs.Prelude.{◌≡◌, ◌+◌, ◌<◌, ◌≤◌, ◌^◌, ◌++◌, ◌⊎◌, ℕ, List, length, false, [], None, Some, IfOk, IfErr, OnOk, MatchResult};
+ghost use Rattle.std.specs.Prelude.{◌≡◌, ◌≢◌, ◌+◌, ◌<◌, ◌≤◌, ◌^◌, ◌++◌, ◌⊎◌, ℕ, List, length, false, [], None, Some, Ok, Err, IfOk, IfErr, OnOk, MatchResult};
 ghost use Rattle.repl_control.specs.declared.control.TheConstants.{VERSION_1_SIZE};
 ghost use Rattle.repl_disk.specs.Folder.{Folder, IfTold};
 ghost use Rattle.repl_log.specs.Walks.{HasWalked};
@@ -9,7 +9,8 @@ ghost use Rattle.repl_store.specs.Backing.{Backs, State};
 ghost use Rattle.repl_store.specs.Durable.{Durable, StandsFor};
 ghost use Rattle.repl_store.specs.Head.{IsHead, IsMounted, status_of};
 ghost use Rattle.repl_wal.specs.Holding.{Holds};
-ghost use Rattle.repl_wal.specs.Making.{HasTaken, IsFailure, IsMountRefusal, IsWalkRefusal, IsWrongBehind, IsWrongTail, TakenOf, mounted_log};
+ghost use Rattle.repl_wal.specs.Making.{HasTaken, IsFailure, IsMountRefusal, IsOfMount, IsOpened, IsWalkRefusal, IsWrongBehind, IsWrongTail, OnlyOpens, TakenOf, mounted_log};
+ghost use Rattle.repl_wal.specs.declared.fault.NodeFault.TheVariants as NodeFault;
 
 use crate::fault::{NodeFault, of_store};
 use crate::wal::Wal;
@@ -36,6 +37,13 @@ impl<D: Disk> Wal<D> {
             → ((image : Folder) → (D.state disk).may_leave image → StandsFor VERSION_1_SIZE image d)
             → Holds (D.state wal.store.disk) wal (mounted_log VERSION_1_SIZE d)) }
         ensures refused { IfErr result (λ e. IfTold (D.state disk).files (λ folder. IsMountRefusal VERSION_1_SIZE folder (D.state disk).may_leave e.0)) }
+        ensures answers { IfErr result (λ e. IsOfMount e.0) }
+        ensures caused { MatchResult result (λ wal. IsOpened (Ok wal) (D.state disk) (D.state wal.store.disk)) (λ e. IsOpened {A = Wal D} (Err e.0) (D.state disk) (D.state e.1)) }
+        // Where a crash leaves nothing else, it only reads.
+        ensures only { (folder : Folder) (d : Durable) → (D.state disk).files ≡ Some folder → StandsFor VERSION_1_SIZE folder d
+            → ((image : Folder) → (D.state disk).may_leave image → StandsFor VERSION_1_SIZE image d)
+            → MatchResult result (λ wal. OnlyOpens (Ok wal) (D.state disk) (D.state wal.store.disk) VERSION_1_SIZE d)
+            (λ e. OnlyOpens {A = Wal D} (Err e.0) (D.state disk) (D.state e.1) VERSION_1_SIZE d) }
         ensures apart { MatchResult result (λ wal. StaysApart (D.state disk) (D.state wal.store.disk)) (λ e. StaysApart (D.state disk) (D.state e.1)) }
         ensures keeps { MatchResult result (λ wal. D.keeps disk wal.store.disk) (λ e. D.keeps disk e.1) }
     {
@@ -57,6 +65,11 @@ fn walk_on<D: Disk>(alloc: Global, store: Store<D>) -> Result<Wal<D>, (NodeFault
     ensures holds { IfOk result (λ wal. (d : Durable) → Backs (D.state store.disk) store.head (record { durable = d; unflushed = [] })
         → Holds (D.state wal.store.disk) wal (mounted_log store.head.size d)) }
     ensures refused { IfErr result (λ e. IsFailure e.0 ⊎ ((s : State) → Backs (D.state store.disk) store.head s → IsWrongTail store.head.size s.durable e.0)) }
+    ensures answers { IfErr result (λ e. IsOfMount e.0) }
+    ensures caused { MatchResult result (λ wal. IsOpened (Ok wal) (D.state store.disk) (D.state wal.store.disk)) (λ e. IsOpened {A = Wal D} (Err e.0) (D.state store.disk) (D.state e.1)) }
+    ensures only { (s : State) → Backs (D.state store.disk) store.head s → MatchResult result
+        (λ wal. OnlyOpens (Ok wal) (D.state store.disk) (D.state wal.store.disk) store.head.size s.durable)
+        (λ e. OnlyOpens {A = Wal D} (Err e.0) (D.state store.disk) (D.state e.1) store.head.size s.durable) }
     ensures apart { MatchResult result (λ wal. StaysApart (D.state store.disk) (D.state wal.store.disk)) (λ e. StaysApart (D.state store.disk) (D.state e.1)) }
     ensures keeps { MatchResult result (λ wal. D.keeps store.disk wal.store.disk) (λ e. D.keeps store.disk e.1) }
 {
@@ -88,9 +101,14 @@ fn walk_flushed<D: Disk>(
     ensures head { store.new.head ≡ store.old.head }
     ensures sound { OnOk result (store.new.broken ≡ false) }
     ensures taken { OnOk result (HasTaken store.old.head walker.new × (position walker.new ≡ store.old.head.control.flushed)) }
+    ensures backs { OnOk result ((s : State) → Backs (D.state store.old.disk) store.old.head s → Backs (D.state store.new.disk) store.old.head s) }
     ensures of_state { OnOk result ((s : State) → Backs (D.state store.old.disk) store.old.head s → TakenOf s store.old.head walker.old
-        → TakenOf s store.old.head walker.new × Backs (D.state store.new.disk) store.old.head s) }
+        → TakenOf s store.old.head walker.new) }
     ensures refused { IfErr result (IsWalkRefusal (D.state store.old.disk) store.old.head walker.old) }
+    ensures answers { IfErr result IsOfMount }
+    ensures caused { IsOpened result (D.state store.old.disk) (D.state store.new.disk) }
+    ensures only { (s : State) → Backs (D.state store.old.disk) store.old.head s →
+        OnlyOpens result (D.state store.old.disk) (D.state store.new.disk) store.old.head.size s.durable }
     ensures apart { StaysApart (D.state store.old.disk) (D.state store.new.disk) }
     ensures keeps { D.keeps store.old.disk store.new.disk }
 {
@@ -120,9 +138,14 @@ fn walk_pieces<D: Disk>(
     ensures head { store.new.head ≡ store.old.head }
     ensures sound { OnOk result (store.new.broken ≡ false) }
     ensures taken { OnOk result (HasTaken store.old.head walker.new × (position walker.new ≡ store.old.head.control.flushed)) }
+    ensures backs { OnOk result ((s : State) → Backs (D.state store.old.disk) store.old.head s → Backs (D.state store.new.disk) store.old.head s) }
     ensures of_state { OnOk result ((s : State) → Backs (D.state store.old.disk) store.old.head s → TakenOf s store.old.head walker.old
-        → TakenOf s store.old.head walker.new × Backs (D.state store.new.disk) store.old.head s) }
+        → TakenOf s store.old.head walker.new) }
     ensures refused { IfErr result (IsWalkRefusal (D.state store.old.disk) store.old.head walker.old) }
+    ensures answers { IfErr result IsOfMount }
+    ensures caused { IsOpened result (D.state store.old.disk) (D.state store.new.disk) }
+    ensures only { (s : State) → Backs (D.state store.old.disk) store.old.head s →
+        OnlyOpens result (D.state store.old.disk) (D.state store.new.disk) store.old.head.size s.durable }
     ensures apart { StaysApart (D.state store.old.disk) (D.state store.new.disk) }
     ensures keeps { D.keeps store.old.disk store.new.disk }
 {
@@ -156,9 +179,14 @@ fn walk_piece<D: Disk>(
     ensures sound { OnOk result (store.new.broken ≡ false) }
     ensures taken { OnOk result (HasTaken store.old.head walker.new) }
     ensures on { OnOk result ((position walker.old < position walker.new) × (position walker.new ≤ store.old.head.control.flushed)) }
+    ensures backs { OnOk result ((s : State) → Backs (D.state store.old.disk) store.old.head s → Backs (D.state store.new.disk) store.old.head s) }
     ensures of_state { OnOk result ((s : State) → Backs (D.state store.old.disk) store.old.head s → TakenOf s store.old.head walker.old
-        → TakenOf s store.old.head walker.new × Backs (D.state store.new.disk) store.old.head s) }
+        → TakenOf s store.old.head walker.new) }
     ensures refused { IfErr result (IsWalkRefusal (D.state store.old.disk) store.old.head walker.old) }
+    ensures answers { IfErr result IsOfMount }
+    ensures caused { IsOpened result (D.state store.old.disk) (D.state store.new.disk) }
+    ensures only { (s : State) → Backs (D.state store.old.disk) store.old.head s →
+        OnlyOpens result (D.state store.old.disk) (D.state store.new.disk) store.old.head.size s.durable }
     ensures apart { StaysApart (D.state store.old.disk) (D.state store.new.disk) }
     ensures keeps { D.keeps store.old.disk store.new.disk }
 {
@@ -186,6 +214,7 @@ fn judge(walker: &mut Walker, status: &StoreStatus, piece: &[u8]) -> Result<(), 
     ensures refused { IfErr result (λ e. (timeline : ℕ → ℕ) (prev : ℕ) (log : List ℕ) → HasWalked walker.old timeline status.now.whole prev log
         → AreOn timeline status.now.tli (position walker.old) (length piece.now)
         → IsWrongBehind (identity walker.old) timeline status.now.whole prev (log ++ piece.now) e) }
+    ensures answers { IfErr result (λ e. IsOfMount e × (e ≢ NodeFault.DiskFault)) }
 {
     let _size = walker.ident().size.bytes();
     let walked = walk(walker, status.tli, piece);

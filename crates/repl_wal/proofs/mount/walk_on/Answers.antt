@@ -1,13 +1,15 @@
 -- What was walked is the log that runs.
-use Rattle.std.proofs.Common.{◌⊎◌, [], refl, sym, subst, inl, inr, arith}
+use Rattle.std.proofs.Common.{◌⊎◌, [], Ok, Err, refl, sym, subst, inl, inr, arith}
 use Rattle.repl_record.specs.declared.walker.Walker.{Walker}
 use Rattle.repl_store.specs.Backing.{Backs, State}
 use Rattle.repl_store.specs.Head.{Head}
 use Rattle.repl_wal.specs.Holding.{Runs}
-use Rattle.repl_wal.specs.Making.{IsFailure, IsWalkRefusal, IsWrongTail, TakenOf, mounted_log}
+use Rattle.repl_wal.specs.Making.{IsFailure, IsWalkRefusal, IsWrongTail, OnlyOpens, TakenOf, mounted_log}
 use Rattle.repl_disk.specs.State.{DiskState}
 use Rattle.repl_wal.specs.declared.fault.NodeFault.{NodeFault}
 use Rattle.repl_wal.proofs.Mounting.{stood_at, taken_none, taken_of_none, walked_log, walked_state}
+use Rattle.repl_wal.specs.declared.wal.Wal.{Wal}
+use Rattle.repl_wal.proofs.Opening.{only_as, same_failure}
 use Rattle.repl_wal.proofs.mount.walk_on.Goals as goal
 
 pub walk_flushed-requires-clause-taken : goal.walk_flushed-requires-clause-taken
@@ -45,10 +47,10 @@ returns-in-Ok-clause-holds g c d backs =
     let first = taken_of_none head c.status-status.result c.new-walker.result right c.status-status.ensures.told c.new-walker.ensures.stands
     c.new-walker.ensures.ident s in
     let reached = is.of_state s backs first in
-    let runs = walked_log (state c.args.store.disk) head w d right is.taken.0 is.taken.1 c.requires.written backs reached.0 in
+    let runs = walked_log (state c.args.store.disk) head w d right is.taken.0 is.taken.1 c.requires.written backs reached in
     record {
       remembers = inl (refl, refl, is.sound, subst (λ (h : Head). Runs h w (mounted_log head.size d)) (sym is.head) runs);
-      backs = λ _ _. subst (λ (h : Head). Backs (state c.walk_flushed.new.store.disk) h s) (sym is.head) reached.1;
+      backs = λ _ _. subst (λ (h : Head). Backs (state c.walk_flushed.new.store.disk) h s) (sym is.head) (is.backs s backs);
     }
 
 refuses : (disk : DiskState) (head : Head) (w : Walker) (e : NodeFault) → ((s : State) → TakenOf s head w) → IsWalkRefusal disk head w e
@@ -62,3 +64,20 @@ returns-in-Err-clause-refused g c =
     let first = taken_of_none head c.status-status.result c.new-walker.result c.status-status.ensures.right c.status-status.ensures.told
     c.new-walker.ensures.stands c.new-walker.ensures.ident in
     refuses (g.D.Disk.state c.args.store.disk) head c.new-walker.result c.in-Err.fault first c.in-Err.ensures.refused
+
+pub returns-in-Ok-clause-only : goal.returns-in-Ok-clause-only
+returns-in-Ok-clause-only g c s backs =
+    let state = g.D.Disk.state in
+    let old = c.args.store in
+    only_as {A = Unit {0}} (Ok tt) _ (state old.disk) (state c.walk_flushed.new.store.disk) old.head.size s.durable (λ is. absurd cc)
+    (c.in-Ok.ensures.only s backs)
+
+pub returns-in-Err-clause-only : goal.returns-in-Err-clause-only
+returns-in-Err-clause-only g c s backs =
+    let state = g.D.Disk.state in
+    let old = c.args.store in
+    let e = c.in-Err.fault in
+    let Ends : g.row.D.Denot → Type 0 = λ d. OnlyOpens {A = Wal g.row.D.Denot} (Err e) (state old.disk) (state d) old.head.size s.durable in
+    subst Ends (sym c.into_disk.ensures) (only_as {A = Unit {0}} {B = Wal g.row.D.Denot} (Err e) (Err e) (state old.disk)
+    (state c.walk_flushed.new.store.disk) old.head.size s.durable (same_failure {A = Unit {0}} {B = Wal g.row.D.Denot} e)
+    (c.in-Err.ensures.only s backs))

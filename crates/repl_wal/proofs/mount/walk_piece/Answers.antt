@@ -1,14 +1,16 @@
 -- The next piece of the log was read and walked.
-use Rattle.std.proofs.Common.{◌≡◌, ℕ, ◌+◌, ◌-◌, ◌<◌, ◌≤◌, ◌++◌, length, take, drop, min, List, sym, ap, ◌∙◌, subst, inl, inr, arith, length-append, length-drop, length-take}
+use Rattle.std.proofs.Common.{◌≡◌, ℕ, ◌+◌, ◌-◌, ◌<◌, ◌≤◌, ◌++◌, length, take, drop, min, List, Result, Ok, Err, sym, ap, ◌∙◌, subst, inl, inr, arith, length-append, length-drop, length-take}
 use Rattle.std.proofs.Math.Nat.{div-mul-le_self}
 use Rattle.repl_disk.specs.State.{DiskState}
 use Rattle.repl_record.specs.Walker.{position}
 use Rattle.repl_store.specs.Backing.{Backs, State, log}
 use Rattle.repl_store.specs.Head.{Head, IsHead}
+use Rattle.repl_store.specs.declared.fault.StoreFault.{StoreFault}
 use Rattle.repl_store.specs.declared.store.StoreStatus.{StoreStatus}
 use Rattle.repl_wal.specs.Making.{IsWrongTail, TakenOf}
-use Rattle.repl_wal.proofs.Ending.{not_broken}
+use Rattle.repl_wal.proofs.Ending.{failure, not_broken}
 use Rattle.repl_wal.proofs.Mounting.{of_disk, taken_of_on, taken_on, wrong_on}
+use Rattle.repl_wal.proofs.Opening.{failed_of, only_read}
 use Rattle.repl_wal.proofs.Reading.{read_front}
 use Rattle.repl_wal.proofs.mount.walk_piece.Goals as goal
 
@@ -20,6 +22,38 @@ returns-in-Err-clause-refused g c =
       of_disk c.in-Err.fault c.in-Err.ensures.caused.answers (not_broken c.in-Err.fault
           c.args.store.now.broken c.requires.unbroken c.in-Err.ensures.broken),
     )
+
+pub returns-in-Err-clause-only : goal.returns-in-Err-clause-only
+returns-in-Err-clause-only g c s backs =
+    let state = g.D.Disk.state in
+    let old = c.args.store.now in
+    let new = c.read_into.new.self in
+    let e = c.of_store.result in
+    let comes = c.in-Err.ensures.comes s backs in
+    let Fails : StoreFault → Result (Unit {0}) StoreFault = λ x. Err x in
+    only_read {A = Unit {0}} (Err e) (state old.disk) (state new.disk) old.head new.head s (g.met.D.Disk.counts_now new.disk) c.in-Err.ensures.head
+    comes.moments (λ is. comes.failed (ap Fails (failed_of c.in-Err.fault e c.of_store.ensures (failure {A = Unit {0}} e is))))
+
+pub returns-in-Ok-judge-clause-only : goal.returns-in-Ok-judge-clause-only
+returns-in-Ok-judge-clause-only g c s backs =
+    let state = g.D.Disk.state in
+    let old = c.args.store.now in
+    let new = c.read_into.new.self in
+    only_read {A = Unit {0}} (Ok tt) (state old.disk) (state new.disk) old.head new.head s (g.met.D.Disk.counts_now new.disk) c.in-Ok.ensures.head
+    (c.in-Ok.ensures.comes s backs).moments (λ is. absurd cc)
+
+pub returns-in-Ok-judge-clause-backs : goal.returns-in-Ok-judge-clause-backs
+returns-in-Ok-judge-clause-backs g c s backs =
+    subst (λ (h : Head). Backs (g.D.Disk.state c.read_into.new.self.disk) h s) c.in-Ok.ensures.head (c.in-Ok.ensures.comes s backs).ok
+
+pub returns-in-Err-judge-clause-only : goal.returns-in-Err-judge-clause-only
+returns-in-Err-judge-clause-only g c s backs =
+    let state = g.D.Disk.state in
+    let old = c.args.store.now in
+    let new = c.read_into.new.self in
+    let e = c.in-Err-judge.fault in
+    only_read {A = Unit {0}} (Err e) (state old.disk) (state new.disk) old.head new.head s (g.met.D.Disk.counts_now new.disk) c.in-Ok.ensures.head
+    (c.in-Ok.ensures.comes s backs).moments (λ is. absurd (c.in-Err-judge.ensures.answers.1 (failure {A = Unit {0}} e is)))
 
 pub returns-in-Ok-judge-clause-taken : goal.returns-in-Ok-judge-clause-taken
 returns-in-Ok-judge-clause-taken g c =
@@ -72,11 +106,9 @@ returns-in-Ok-judge-clause-of_state g c s backs taken =
     let got : c.read_into.new.room ≡ take (length (take count room)) from = subst (λ (p : ℕ). c.read_into.new.room ≡ take (length (take count room))
     (drop (p - head.control.floor) (log s))) at (c.in-Ok.ensures.read s backs) in
     let read = piece_read from c.read_into.new.room (drop count room) room count got bound.1 (enough (g.D.Disk.state c.args.store.now.disk) head s
-    (position w) count backs low bound.0) in (
-      taken_of_on head c.args.status.now w c.judge.new.walker s (take count (c.read_into.new.room ++ drop count room)) c.requires.taken
-          c.requires.right c.requires.status c.in-Ok-judge.ensures.goes_on c.in-Ok-judge.ensures.position read taken,
-      subst (λ (h : Head). Backs (g.D.Disk.state c.read_into.new.self.disk) h s) c.in-Ok.ensures.head (c.in-Ok.ensures.comes s backs).ok,
-    )
+    (position w) count backs low bound.0) in
+    taken_of_on head c.args.status.now w c.judge.new.walker s (take count (c.read_into.new.room ++ drop count room)) c.requires.taken
+    c.requires.right c.requires.status c.in-Ok-judge.ensures.goes_on c.in-Ok-judge.ensures.position read taken
 
 pub returns-in-Err-judge-clause-refused : goal.returns-in-Err-judge-clause-refused
 returns-in-Err-judge-clause-refused g c =

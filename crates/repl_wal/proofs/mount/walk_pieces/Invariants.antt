@@ -4,6 +4,7 @@ use Rattle.repl_record.specs.Walker.{position}
 use Rattle.repl_store.specs.Apart.{StaysApart}
 use Rattle.repl_store.specs.Backing.{Backs, State}
 use Rattle.repl_wal.specs.Making.{HasTaken, TakenOf}
+use Rattle.repl_wal.proofs.Opening.{Walked}
 use Rattle.repl_wal.proofs.mount.walk_pieces.Given as goal
 
 abbrev pub invariant-pieces : goal.invariant-pieces
@@ -13,7 +14,8 @@ invariant-pieces g l =
     × g.D.Disk.keeps l.initial.store.disk l.store.disk
     × StaysApart (g.D.Disk.state l.initial.store.disk) (g.D.Disk.state l.store.disk)
     × ((s : State) → Backs (g.D.Disk.state l.initial.store.disk) l.initial.store.head s → TakenOf s l.initial.store.head l.initial.walker
-    → TakenOf s l.initial.store.head l.walker × Backs (g.D.Disk.state l.store.disk) l.initial.store.head s)
+    → TakenOf s l.initial.store.head l.walker)
+    × Walked (g.D.Disk.state l.initial.store.disk) (g.D.Disk.state l.store.disk) l.initial.store.head
 
 abbrev pub decreases-pieces : goal.decreases-pieces
 decreases-pieces g l = l.initial.store.head.control.flushed - l.at

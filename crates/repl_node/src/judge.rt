@@ -1,0 +1,76 @@
+//! Judging what stands before a node's log: its control and its slots.
+ghost use Rattle.std.specs.Prelude.{◌≡◌, ◌↔◌, ◌⊎◌, ℕ, List, false, Some, All, Ok, Err, IfOk, IfErr, IsTrue, MatchResult};
+ghost use Rattle.repl_control.specs.declared.control.TheConstants.{VERSION_1_SIZE};
+ghost use Rattle.repl_disk.specs.Folder.{IfTold};
+ghost use Rattle.repl_slots.specs.SlotFile.{IsMounted as IsMountedSlot, FileStops, entries_of};
+ghost use Rattle.repl_slots.specs.Stored.{Stores, slots_name};
+ghost use Rattle.repl_store.specs.Backing.{OnlyReads};
+ghost use Rattle.repl_wal.specs.Faults.{of_store};
+ghost use Rattle.repl_wal.specs.declared.fault.NodeFault.TheVariants as NodeFault;
+ghost use Rattle.repl_node.specs.Making.{IsBeforeSlots, IsFirstRefusal, IsJudged, IsOfSlots};
+
+use repl_disk::Disk;
+use repl_slots::{SlotFault, Slots};
+use repl_store::{Store, StoreFault};
+use repl_wal::{NodeFault, of_store};
+use std::alloc::Global;
+
+/// The slots of a disk, once they are judged. Where they are wrong, the control is judged before them, and the first of both that
+/// is wrong is refused; where they are right, whoever mounts the log refuses a wrong control. Only reads. Takes memory for the
+/// slots.
+pub fn mount_slots<D: Disk>(alloc: Global, disk: D) -> Result<(Slots, D), (NodeFault, D)>
+    ensures slots { IfOk result (λ r. (r.0.broken ≡ false) × IfTold (D.state disk).files (λ folder.
+        All IsMountedSlot r.0.slots × Stores (entries_of r.0.slots) folder)) }
+    ensures refused { IfErr result (λ e. IfTold (D.state disk).files (λ folder. IsFirstRefusal VERSION_1_SIZE folder e.0)) }
+    ensures answers { IfErr result (λ e. IsOfSlots e.0) }
+    ensures caused { MatchResult result (λ r. IsJudged (Ok r) (D.state disk) (D.state r.1)) (λ e. IsJudged {A = Unit {0}} (Err e.0) (D.state disk) (D.state e.1)) }
+    ensures only { MatchResult result (λ r. OnlyReads (D.state disk) (D.state r.1)) (λ e. OnlyReads (D.state disk) (D.state e.1)) }
+    ensures keeps { MatchResult result (λ r. D.keeps disk r.1) (λ e. D.keeps disk e.1) }
+{
+    let mut disk = disk;
+    match Slots::mount(alloc, &mut disk) {
+        Ok(slots) => Ok((slots, disk)),
+        Err(SlotFault::BadSlots(place)) => Err(refuse_slots(alloc, disk, place)),
+        Err(SlotFault::Memory) => Err((NodeFault::Memory, disk)),
+        Err(_) => Err((NodeFault::DiskFault, disk)),
+    }
+}
+
+/// What a mount answers where the slots are wrong at this place: what is wrong before them, or that.
+fn refuse_slots<D: Disk>(alloc: Global, disk: D, place: u64) -> (NodeFault, D)
+    ensures refused { IfTold (D.state disk).files (λ folder. (file : List ℕ) → folder slots_name ≡ Some file → FileStops file place
+        → IsFirstRefusal VERSION_1_SIZE folder result.0) }
+    ensures answers { IsOfSlots result.0 }
+    ensures caused { IsJudged {A = Unit {0}} (Err result.0) (D.state disk) (D.state result.1) }
+    ensures only { OnlyReads (D.state disk) (D.state result.1) }
+    ensures keeps { D.keeps disk result.1 }
+{
+    match Store::mount(alloc, disk) {
+        Ok(store) => (NodeFault::BadSlots(place), store.into_disk()),
+        Err((fault, disk)) => (first_of(fault, place), disk),
+    }
+}
+
+/// Why a mount is refused where the store is refused so and the slots are wrong at this place.
+fn first_of(fault: StoreFault, place: u64) -> NodeFault
+    ensures before { IsBeforeSlots fault → result ≡ of_store fault }
+    ensures slots { (IsBeforeSlots fault → ⊥) → result ≡ NodeFault.BadSlots place }
+    ensures either { IsBeforeSlots fault ⊎ (IsBeforeSlots fault → ⊥) }
+{
+    if is_before_slots(&fault) {
+        of_store(fault)
+    } else {
+        NodeFault::BadSlots(place)
+    }
+}
+
+/// Whether a store is refused so before its slots are looked at.
+fn is_before_slots(fault: &StoreFault) -> bool
+    ensures { IsTrue result ↔ IsBeforeSlots fault.now }
+{
+    match fault {
+        StoreFault::Missing(name) => name.as_slice() == b"control".as_slice(),
+        StoreFault::BadControl(_) | StoreFault::DiskFault | StoreFault::Memory => true,
+        _ => false,
+    }
+}
