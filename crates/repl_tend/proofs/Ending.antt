@@ -8,6 +8,8 @@ use Rattle.repl_disk.specs.State.{DiskState}
 use Rattle.repl_io.specs.Sink.{SinkState, Sends}
 use Rattle.repl_io.specs.declared.sink.Sent.{Sent}
 use Rattle.repl_io.specs.declared.sink.Sent.TheVariants as sent
+use Rattle.repl_node.specs.Making.{IsBeforeSlots, IsFirstRefusal, IsOfSlots}
+use Rattle.repl_slots.specs.Stored.{slots_name}
 use Rattle.repl_status.specs.declared.damage.DamageReason.{DamageReason}
 use Rattle.repl_status.specs.declared.damage.DamageReason.TheVariants as damage
 use Rattle.repl_store.specs.Backing.{Asks}
@@ -15,11 +17,15 @@ use Rattle.repl_store.specs.Durable.{Durable, StandsFor, control_name}
 use Rattle.repl_store.specs.Refusal.{IsOfMount, IsRefusal}
 use Rattle.repl_store.specs.declared.fault.StoreFault.{StoreFault}
 use Rattle.repl_store.specs.declared.fault.StoreFault.TheVariants as fault
-use Rattle.repl_tend.specs.Damages.{IsDamagedOr, IsToldOf}
+use Rattle.repl_tend.specs.Damages.{IsDamagedOr, IsToldOf, IsToldOfNode}
+use Rattle.repl_tend.specs.Files.{HasSlots}
 use Rattle.repl_tend.specs.Printing.{IsPrinted}
 use Rattle.repl_tend.specs.Tending.{Damage, Ends, IsCalm, IsDamaged, IsDone, TellsFaults, is_write_fault, sent_end}
 use Rattle.repl_tend.specs.declared.tended.Tended.{Tended}
 use Rattle.repl_tend.specs.declared.tended.Tended.TheVariants as tended
+use Rattle.repl_wal.specs.Faults.{of_store}
+use Rattle.repl_wal.specs.declared.fault.NodeFault.{NodeFault}
+use Rattle.repl_wal.specs.declared.fault.NodeFault.TheVariants as node
 
 -- ---- faults
 
@@ -57,29 +63,92 @@ disk_faults end old new w is rose = record {
   sink = rw is refl;
 }
 
--- an answer that is not the disk's
-pub stood_of : (e : StoreFault) (old new : DiskState) → (e ≡ fault.DiskFault → ⊥) → (e ≡ fault.DiskFault) ⊎ Stood old.faults new.faults
-    → Stood old.faults new.faults
-stood_of e old new other (inl is) = absurd (other is)
-stood_of e old new other (inr stood) = stood
+-- Of a refusal: that the disk failed is told where it did, and no other is told over a failure.
+pub refusal_faults : (end : Tended) (old new : DiskState) (w : SinkState) → is_write_fault end ≡ false
+    → (end ≡ tended.DiskFault → Rose old.faults new.faults ⊎ Rose old.lacks new.lacks)
+    → (end ≡ tended.DiskFault) ⊎ Stood old.faults new.faults → TellsFaults end old new w w
+refusal_faults end old new w quiet failed others = record {
+  disk = failed;
+  calm = others;
+  sink = rw quiet refl;
+}
 
--- of an answer of a mount
+-- a store's refusal is told as it is where it is a node's
+pub told_as : (f : StoreFault) (end : Tended) → IsToldOfNode (of_store f) end → IsToldOf f end
+told_as fault.Broken end is = is
+told_as fault.Exists end is = is
+told_as (fault.Missing name) end is = is
+told_as (fault.BadControl place) end is = is
+told_as (fault.BadHistory tli wrong) end is = is
+told_as (fault.ShortFile name have wanted) end is = is
+told_as fault.DiskFault end is = is
+told_as fault.Memory end is = is
+
+-- this is damage, or memory was wanting
+damaged_quiet : (name : List ℕ) (place : ℕ) (why : DamageReason) (end : Tended) → IsDamagedOr name place why end → is_write_fault end ≡ false
+damaged_quiet name place why end (inl is) = ap is_write_fault is
+damaged_quiet name place why end (inr is) = ap is_write_fault is
+
+damaged_other : (name : List ℕ) (place : ℕ) (why : DamageReason) (end : Tended) → IsDamagedOr name place why end → end ≡ tended.DiskFault → ⊥
+damaged_other name place why end (inl is) failed = let same : tended.Damaged name place why ≡ tended.DiskFault = sym is ∙ failed in cc
+damaged_other name place why end (inr is) failed = let same : tended.Memory ≡ tended.DiskFault = sym is ∙ failed in cc
+
+pub refused_quiet : (e : StoreFault) (end : Tended) → IsToldOf e end → is_write_fault end ≡ false
+refused_quiet fault.Broken end is = ap is_write_fault is
+refused_quiet fault.Exists end is = ap is_write_fault is
+refused_quiet (fault.Missing name) end is = ap is_write_fault is
+refused_quiet (fault.BadControl place) end is = damaged_quiet control_name place damage.Control end is
+refused_quiet (fault.BadHistory tli wrong) end is = damaged_quiet _ _ (damage.History wrong) end is
+refused_quiet (fault.ShortFile name have wanted) end is = ap is_write_fault is
+refused_quiet fault.DiskFault end is = ap is_write_fault is
+refused_quiet fault.Memory end is = ap is_write_fault is
+
+-- the disk's failure alone is told as one
+pub refused_failed : (e : StoreFault) (end : Tended) → IsOfMount e → IsToldOf e end → end ≡ tended.DiskFault → e ≡ fault.DiskFault
+refused_failed fault.Broken end answer is failed = absurd answer
+refused_failed fault.Exists end answer is failed = absurd answer
+refused_failed (fault.Missing name) end answer is failed =
+    absurd (let same : tended.Damaged name 0 damage.Missing ≡ tended.DiskFault = sym is ∙ failed in cc)
+refused_failed (fault.BadControl place) end answer is failed = absurd (damaged_other control_name place damage.Control end is failed)
+refused_failed (fault.BadHistory tli wrong) end answer is failed = absurd (damaged_other _ _ (damage.History wrong) end is failed)
+refused_failed (fault.ShortFile name have wanted) end answer is failed =
+    absurd (let same : tended.Damaged name have damage.Short ≡ tended.DiskFault = sym is ∙ failed in cc)
+refused_failed fault.DiskFault end answer is failed = refl
+refused_failed fault.Memory end answer is failed = absurd (let same : tended.Memory ≡ tended.DiskFault = sym is ∙ failed in cc)
+
+pub failure_told : (e : StoreFault) (end : Tended) → IsToldOf e end → e ≡ fault.DiskFault → end ≡ tended.DiskFault
+failure_told e end is same = let P : StoreFault → Type 0 = λ f. IsToldOf f end in subst P same is
+
+-- ---- what a node refuses before it opens its log
+
+pub early_quiet : (e : NodeFault) (end : Tended) → IsOfSlots e → IsToldOfNode e end → is_write_fault end ≡ false
+early_quiet (node.Missing name) end answer is = ap is_write_fault is
+early_quiet (node.BadControl place) end answer is = damaged_quiet control_name place damage.Control end is
+early_quiet (node.BadSlots place) end answer is = damaged_quiet slots_name place damage.Slots end is
+early_quiet node.DiskFault end answer is = ap is_write_fault is
+early_quiet node.Memory end answer is = ap is_write_fault is
+early_quiet e end answer is = absurd answer
+
+pub early_failed : (e : NodeFault) (end : Tended) → IsOfSlots e → IsToldOfNode e end → end ≡ tended.DiskFault → e ≡ node.DiskFault
+early_failed (node.Missing name) end answer is failed =
+    absurd (let same : tended.Damaged name 0 damage.Missing ≡ tended.DiskFault = sym is ∙ failed in cc)
+early_failed (node.BadControl place) end answer is failed = absurd (damaged_other control_name place damage.Control end is failed)
+early_failed (node.BadSlots place) end answer is failed = absurd (damaged_other slots_name place damage.Slots end is failed)
+early_failed node.DiskFault end answer is failed = refl
+early_failed node.Memory end answer is failed = absurd (let same : tended.Memory ≡ tended.DiskFault = sym is ∙ failed in cc)
+early_failed e end answer is failed = absurd answer
+
+pub node_failure_told : (e : NodeFault) (end : Tended) → IsToldOfNode e end → e ≡ node.DiskFault → end ≡ tended.DiskFault
+node_failure_told e end is same = let P : NodeFault → Type 0 = λ f. IsToldOfNode f end in subst P same is
+
+-- ---- what a mount answers
+
 pub refused_faults : {A : Type 0} (e : StoreFault) (end : Tended) (old new : DiskState) (w : SinkState) → IsOfMount e → IsToldOf e end
     → Asks {A = A} (Err e) old new → TellsFaults end old new w w
-refused_faults fault.Broken end old new w answer is asks = absurd answer
-refused_faults fault.Exists end old new w answer is asks = absurd answer
-refused_faults (fault.Missing name) end old new w answer is asks =
-    damage_faults name 0 damage.Missing end old new w is (stood_of (fault.Missing name) old new (λ same. absurd cc) asks.others)
-refused_faults (fault.BadControl place) end old new w answer is asks =
-    damaged_faults control_name place damage.Control end old new w is (stood_of (fault.BadControl place) old new (λ same. absurd cc) asks.others)
-refused_faults (fault.BadHistory tli wrong) end old new w answer is asks =
-    damaged_faults _ _ (damage.History wrong) end old new w is (stood_of (fault.BadHistory tli wrong) old new (λ same. absurd cc) asks.others)
-refused_faults (fault.ShortFile name have wanted) end old new w answer is asks =
-    damage_faults name have damage.Short end old new w is (stood_of (fault.ShortFile name have wanted) old new (λ same. absurd cc) asks.others)
-refused_faults fault.DiskFault end old new w answer is asks =
-    disk_faults end old new w is (⊎_elim inl (λ lack. inr lack.1) (asks.failed refl))
-refused_faults fault.Memory end old new w answer is asks =
-    memory_faults end old new w is (stood_of fault.Memory old new (λ same. absurd cc) asks.others)
+refused_faults {A} e end old new w answer is asks =
+    refusal_faults end old new w (refused_quiet e end is)
+    (λ failed. ⊎_elim inl (λ lack. inr lack.1) (asks.failed (ap (λ f. Err f) (refused_failed e end answer is failed))))
+    (⊎_elim (λ same. inl (failure_told e end is same)) inr asks.others)
 
 -- of lines that were written
 pub printed_faults : (text : List ℕ) (end : Tended) (old new : DiskState) (w w' : SinkState) → IsPrinted text end w w'
@@ -127,23 +196,35 @@ module _ {X : Type 0} (Is : X → Type 0) (text : X → List ℕ) (IsThere : Typ
   printed_ends x end w w' is (inr none) =
       let P : SinkState → Type 0 = λ v. EndsSo end w v in subst P (sym none.1) (memory_ends end w none.0)
 
-  -- the files of a disk that tells them were refused
-  pub refused_ends : {A : Type 0} (folder : Folder) (e : StoreFault) (end : Tended) (w : SinkState) → old.files ≡ Some folder → IsToldOf e end
-      → IsRefusal VERSION_1_SIZE folder e → Asks {A = A} (Err e) old new
+  -- the files were refused
+  pub refused_ends : (folder : Folder) (e : StoreFault) (end : Tended) (w : SinkState) → IsToldOf e end → IsRefusal VERSION_1_SIZE folder e
+      → IsBeforeSlots e ⊎ HasSlots folder → (e ≡ fault.DiskFault → Rose old.faults new.faults)
       → ((name : List ℕ) (place : ℕ) (why : DamageReason) → IsDamaged folder name place why → Bad name place why) → EndsSo end w w
-  refused_ends folder fault.Broken end w told is wrong asks bad = absurd wrong
-  refused_ends folder fault.Exists end w told is wrong asks bad = absurd wrong
-  refused_ends folder (fault.Missing name) end w told is wrong asks bad =
-      damage_ends name 0 damage.Missing end w is (bad name 0 damage.Missing (fault.Missing name, wrong, (refl, refl, refl)))
-  refused_ends folder (fault.BadControl place) end w told is wrong asks bad =
-      damaged_ends control_name place damage.Control end w is (bad control_name place damage.Control (fault.BadControl place, wrong, (refl, refl, refl)))
-  refused_ends folder (fault.BadHistory tli found) end w told is wrong asks bad =
-      damaged_ends _ _ (damage.History found) end w is (bad _ _ (damage.History found) (fault.BadHistory tli found, wrong, (refl, refl, refl)))
-  refused_ends folder (fault.ShortFile name have wanted) end w told is wrong asks bad =
-      damage_ends name have damage.Short end w is (bad name have damage.Short (fault.ShortFile name have wanted, wrong, (refl, refl, refl)))
-  refused_ends folder fault.DiskFault end w told is wrong asks bad =
-      disk_ends end w is (⊎_elim (λ rose. rose) (λ lack. absurd (let same : (Some folder) ≡ None = sym told ∙ lack.0 in cc)) (asks.failed refl))
-  refused_ends folder fault.Memory end w told is wrong asks bad = memory_ends end w is
+  refused_ends folder fault.Broken end w is wrong before rose bad = absurd wrong
+  refused_ends folder fault.Exists end w is wrong before rose bad = absurd wrong
+  refused_ends folder (fault.Missing name) end w is wrong before rose bad =
+      damage_ends name 0 damage.Missing end w is (bad name 0 damage.Missing (inr (fault.Missing name, before, wrong, (refl, refl, refl))))
+  refused_ends folder (fault.BadControl place) end w is wrong before rose bad =
+      damaged_ends control_name place damage.Control end w is
+      (bad control_name place damage.Control (inr (fault.BadControl place, before, wrong, (refl, refl, refl))))
+  refused_ends folder (fault.BadHistory tli found) end w is wrong before rose bad =
+      damaged_ends _ _ (damage.History found) end w is (bad _ _ (damage.History found) (inr (fault.BadHistory tli found, before, wrong, (refl, refl, refl))))
+  refused_ends folder (fault.ShortFile name have wanted) end w is wrong before rose bad =
+      damage_ends name have damage.Short end w is
+      (bad name have damage.Short (inr (fault.ShortFile name have wanted, before, wrong, (refl, refl, refl))))
+  refused_ends folder fault.DiskFault end w is wrong before rose bad = disk_ends end w is (rose refl)
+  refused_ends folder fault.Memory end w is wrong before rose bad = memory_ends end w is
+
+  -- the control or the slots were refused
+  pub early_ends : (folder : Folder) (e : NodeFault) (end : Tended) (w : SinkState) → IsToldOfNode e end → IsFirstRefusal VERSION_1_SIZE folder e
+      → (e ≡ node.DiskFault → Rose old.faults new.faults)
+      → ((name : List ℕ) (place : ℕ) (why : DamageReason) → IsDamaged folder name place why → Bad name place why) → EndsSo end w w
+  early_ends folder e end w is (inl (f, same, before, wrong)) rose bad =
+      refused_ends folder f end w (told_as f end (subst (λ (x : NodeFault). IsToldOfNode x end) same is)) wrong (inl before)
+      (λ failed. rose (same ∙ ap of_store failed)) bad
+  early_ends folder e end w is (inr (place, same, wrong)) rose bad =
+      damaged_ends slots_name place damage.Slots end w (subst (λ (x : NodeFault). IsToldOfNode x end) same is)
+      (bad slots_name place damage.Slots (inl (wrong, refl, refl)))
 
   -- which ends are left, where nothing is faulty and no damage can be told
   pub done_of : (end : Tended) (w w' : SinkState) → EndsSo end w w' → IsCalm old new w w'

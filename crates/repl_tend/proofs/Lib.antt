@@ -1,3 +1,8 @@
+-- how a command ends where it was refused, or its lines were written
 pub mod Ending
+-- right slots and wrong ones
+pub mod Slotting
+-- a node is made
+pub mod Made
 pub mod Stating
 pub mod Judged

@@ -1,10 +1,11 @@
 -- How a refusal and a flaw are told. There may be no memory for the name of the file.
-use Rattle.std.specs.Prelude.{◌≡◌, ℕ, ◌%◌, ◌/◌, ◌⊎◌, List, Some}
+use Rattle.std.specs.Prelude.{◌≡◌, ℕ, ◌%◌, ◌/◌, ◌⊎◌, List, Some, Err}
 use Rattle.repl_control.specs.declared.control.TheConstants.{VERSION_1_SIZE}
 use Rattle.repl_counts.specs.Counts.{Rose, Stood}
-use Rattle.repl_disk.specs.Folder.{Folder}
+use Rattle.repl_disk.specs.Folder.{Folder, IfTold}
 use Rattle.repl_disk.specs.State.{DiskState}
 use Rattle.repl_lsn.specs.Segment.{history_name}
+use Rattle.repl_node.specs.Making.{IsFirstRefusal, IsJudged, IsOfSlots}
 use Rattle.repl_record.specs.declared.answer.WalkReason.{WalkReason}
 use Rattle.repl_slots.specs.Stored.{slots_name}
 use Rattle.repl_status.specs.declared.damage.DamageReason.{DamageReason}
@@ -45,6 +46,16 @@ IsToldOfNode (node.BadHistory tli wrong) end = IsDamagedOr (history_name tli) (l
 IsToldOfNode (node.ShortFile name have wanted) end = end ≡ tended.Damaged name have damage.Short
 IsToldOfNode node.Memory end = end ≡ tended.Memory
 IsToldOfNode e end = end ≡ tended.DiskFault
+
+-- ---- the slots are wrong
+
+-- the slots of a disk are refused, or its control before them, and that is told
+pub record IsToldOfSlots (end : Tended) (old new : DiskState) : Type 0 where
+  pub fault : NodeFault
+  pub told : IsToldOfNode fault end
+  pub refused : IfTold old.files (λ folder. IsFirstRefusal VERSION_1_SIZE folder fault)
+  pub answers : IsOfSlots fault
+  pub caused : IsJudged {A = Unit {0}} (Err fault) old new
 
 -- ---- the log behind the whole end is wrong
 
