@@ -8,6 +8,8 @@ pub mod Kept
 pub mod Listing
 -- saving them
 pub mod Saving
+-- a mount only reads
+pub mod Opening
 -- what calls on a log keep of it
 pub mod Taming
 -- removing slots

@@ -1,9 +1,10 @@
 //! Judging what stands before a node's log: its control and its slots.
-ghost use Rattle.std.specs.Prelude.{◌≡◌, ◌↔◌, ◌⊎◌, ℕ, List, false, Some, All, Ok, Err, IfOk, IfErr, IsTrue, MatchResult};
+ghost use Rattle.std.specs.Prelude.{◌≡◌, ◌≢◌, ◌↔◌, ◌⊎◌, ℕ, List, false, Some, All, Ok, Err, IfOk, IfErr, IsTrue, MatchResult};
 ghost use Rattle.repl_control.specs.declared.control.TheConstants.{VERSION_1_SIZE};
 ghost use Rattle.repl_disk.specs.Folder.{IfTold};
 ghost use Rattle.repl_slots.specs.SlotFile.{IsMounted as IsMountedSlot, FileStops, entries_of};
 ghost use Rattle.repl_slots.specs.Stored.{Stores, slots_name};
+ghost use Rattle.repl_slots.specs.declared.fault.SlotFault.TheVariants as SlotFault;
 ghost use Rattle.repl_store.specs.Backing.{OnlyReads};
 ghost use Rattle.repl_wal.specs.Faults.{of_store};
 ghost use Rattle.repl_wal.specs.declared.fault.NodeFault.TheVariants as NodeFault;
@@ -31,8 +32,18 @@ pub fn mount_slots<D: Disk>(alloc: Global, disk: D) -> Result<(Slots, D), (NodeF
     match Slots::mount(alloc, &mut disk) {
         Ok(slots) => Ok((slots, disk)),
         Err(SlotFault::BadSlots(place)) => Err(refuse_slots(alloc, disk, place)),
-        Err(SlotFault::Memory) => Err((NodeFault::Memory, disk)),
-        Err(_) => Err((NodeFault::DiskFault, disk)),
+        Err(fault) => Err((failure_of(fault), disk)),
+    }
+}
+
+/// What it is to whoever mounts slots that they were not read: the disk failed, or memory was wanting.
+fn failure_of(fault: SlotFault) -> NodeFault
+    ensures { ((fault ≡ SlotFault.DiskFault) × (result ≡ NodeFault.DiskFault)) ⊎ ((fault ≢ SlotFault.DiskFault) × (result ≡ NodeFault.Memory)) }
+{
+    if fault == SlotFault::DiskFault {
+        NodeFault::DiskFault
+    } else {
+        NodeFault::Memory
     }
 }
 

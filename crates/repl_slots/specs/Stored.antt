@@ -73,18 +73,6 @@ Mounted folder (Err (fault.Full limit)) = ⊥
 Mounted folder (Err fault.NoSlot) = ⊥
 Mounted folder (Err (fault.InUse session)) = ⊥
 
--- a mount may answer so, over any files
-abbrev pub IsOfMount : SlotFault → Type 0
-IsOfMount (fault.BadSlots place) = Unit {0}
-IsOfMount fault.DiskFault = Unit {0}
-IsOfMount fault.Memory = Unit {0}
-IsOfMount fault.Broken = ⊥
-IsOfMount fault.BadName = ⊥
-IsOfMount fault.Duplicate = ⊥
-IsOfMount (fault.Full limit) = ⊥
-IsOfMount fault.NoSlot = ⊥
-IsOfMount (fault.InUse session) = ⊥
-
 -- ---- causes
 
 -- A disk fault is answered only where the disk counted one, or, over a disk that does not tell its files, a missing file. Another

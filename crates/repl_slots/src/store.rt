@@ -5,7 +5,7 @@ ghost use Rattle.repl_disk.specs.Folder.{Became, Folder, IfTold, Stayed};
 ghost use Rattle.repl_disk.specs.Replacing.{IsAfter, IsBeforeOrAfter, IsHalfDone, IsUntouched, replaced};
 ghost use Rattle.repl_slots.specs.Slot.{AreSlots};
 ghost use Rattle.repl_slots.specs.SlotFile.{entries_of};
-ghost use Rattle.repl_slots.specs.Stored.{IsCaused, IsOfMount, Mounted, Saved, Stores, StoresThrough, aside_name, file_of, slots_name};
+ghost use Rattle.repl_slots.specs.Stored.{IsCaused, Mounted, Saved, Stores, StoresThrough, aside_name, file_of, slots_name};
 ghost use Rattle.repl_slots.specs.declared.fault.SlotFault.TheVariants as fault;
 
 use crate::each::settle_all;
@@ -36,9 +36,7 @@ impl Slots {
     /// disk refuses (`DiskFault`). Takes memory for the list.
     pub fn mount<D: Disk>(alloc: Global, disk: &mut D) -> Result<Slots, SlotFault>
         ensures answer { IfTold (D.state disk.old).files (λ folder. Mounted folder result) }
-        // So it is over any disk.
         ensures sound { IfOk result (λ slots. slots.broken ≡ false) }
-        ensures answers { IfErr result IsOfMount }
         ensures files { Stayed (D.state disk.old).files (D.state disk.new).files }
         ensures crash { NoneNew (D.state disk.old).may_leave (D.state disk.new).may_leave }
         ensures time { Elapses (D.state disk.old) (D.state disk.new) }
