@@ -1,15 +1,18 @@
 -- From what a store answered, and from how the writing ended, to how a command ends; and which ends are left, once nothing is
 -- faulty.
-use Rattle.std.proofs.Common.{◌≡◌, ◌⊎◌, ℕ, List, Bool, true, false, Some, None, Result, Ok, Err, refl, sym, ◌∙◌, ap, subst, inl, inr, ⊎_elim, arith}
+use Rattle.std.proofs.Common.{All, ◌≡◌, ◌⊎◌, ℕ, List, Bool, true, false, Some, None, Result, Ok, Err, refl, sym, ◌∙◌, ap, subst, inl, inr, ⊎_elim, arith}
 use Rattle.repl_control.specs.declared.control.TheConstants.{VERSION_1_SIZE}
-use Rattle.repl_counts.specs.Counts.{Rose, RoseExactly, Stood}
-use Rattle.repl_disk.specs.Folder.{Folder}
+use Rattle.repl_counts.specs.Counts.{DidNotFall, Rose, RoseExactly, Stood}
+use Rattle.repl_disk.specs.Folder.{Folder, IfTold, ToldFiles}
 use Rattle.repl_disk.specs.State.{DiskState}
 use Rattle.repl_io.specs.Sink.{SinkState, Sends}
 use Rattle.repl_io.specs.declared.sink.Sent.{Sent}
 use Rattle.repl_io.specs.declared.sink.Sent.TheVariants as sent
-use Rattle.repl_node.specs.Making.{IsBeforeSlots, IsFirstRefusal, IsOfSlots}
-use Rattle.repl_slots.specs.Stored.{slots_name}
+use Rattle.repl_node.specs.Making.{IsBeforeSlots, IsFirstRefusal, IsJudged, IsOfSlots}
+use Rattle.repl_slots.specs.SlotFile.{IsMounted, entries_of}
+use Rattle.repl_slots.specs.Stored.{Stores, slots_name}
+use Rattle.repl_slots.specs.declared.slot.Slot.{Slot}
+use Rattle.repl_store.proofs.Mounting.{told_map}
 use Rattle.repl_status.specs.declared.damage.DamageReason.{DamageReason}
 use Rattle.repl_status.specs.declared.damage.DamageReason.TheVariants as damage
 use Rattle.repl_store.specs.Backing.{Asks}
@@ -17,7 +20,7 @@ use Rattle.repl_store.specs.Durable.{Durable, StandsFor, control_name}
 use Rattle.repl_store.specs.Refusal.{IsOfMount, IsRefusal}
 use Rattle.repl_store.specs.declared.fault.StoreFault.{StoreFault}
 use Rattle.repl_store.specs.declared.fault.StoreFault.TheVariants as fault
-use Rattle.repl_tend.specs.Damages.{IsDamagedOr, IsToldOf, IsToldOfNode}
+use Rattle.repl_tend.specs.Damages.{IsDamagedOr, IsToldOf, IsToldOfNode, IsToldOfSlots}
 use Rattle.repl_tend.specs.Files.{HasSlots}
 use Rattle.repl_tend.specs.Printing.{IsPrinted}
 use Rattle.repl_tend.specs.Tending.{Damage, Ends, IsCalm, IsDamaged, IsDone, TellsFaults, is_write_fault, sent_end}
@@ -141,6 +144,18 @@ early_failed e end answer is failed = absurd answer
 pub node_failure_told : (e : NodeFault) (end : Tended) → IsToldOfNode e end → e ≡ node.DiskFault → end ≡ tended.DiskFault
 node_failure_told e end is same = let P : NodeFault → Type 0 = λ f. IsToldOfNode f end in subst P same is
 
+-- what is told of slots that were refused
+pub slots_told : (e : NodeFault) (end : Tended) (old new : DiskState) → IsToldOfNode e end
+    → IfTold old.files (λ folder. IsFirstRefusal VERSION_1_SIZE folder e) → IsOfSlots e → IsJudged {A = Unit {0}} (Err e) old new
+    → IsToldOfSlots end old new
+slots_told e end old new told refused answers caused = record { fault = e; told = told; refused = refused; answers = answers; caused = caused }
+
+-- slots that were read are stored
+pub slots_right : (told : ToldFiles) (slots : List Slot) → IfTold told (λ folder. All IsMounted slots × Stores (entries_of slots) folder)
+    → IfTold told HasSlots
+slots_right told slots mounted =
+    told_map told (λ folder. All IsMounted slots × Stores (entries_of slots) folder) HasSlots (λ folder stored. (entries_of slots, stored.1)) mounted
+
 -- ---- what a mount answers
 
 pub refused_faults : {A : Type 0} (e : StoreFault) (end : Tended) (old new : DiskState) (w : SinkState) → IsOfMount e → IsToldOf e end
@@ -222,9 +237,9 @@ module _ {X : Type 0} (Is : X → Type 0) (text : X → List ℕ) (IsThere : Typ
   early_ends folder e end w is (inl (f, same, before, wrong)) rose bad =
       refused_ends folder f end w (told_as f end (subst (λ (x : NodeFault). IsToldOfNode x end) same is)) wrong (inl before)
       (λ failed. rose (same ∙ ap of_store failed)) bad
-  early_ends folder e end w is (inr (place, same, wrong)) rose bad =
+  early_ends folder e end w is (inr (place, same, control, file)) rose bad =
       damaged_ends slots_name place damage.Slots end w (subst (λ (x : NodeFault). IsToldOfNode x end) same is)
-      (bad slots_name place damage.Slots (inl (wrong, refl, refl)))
+      (bad slots_name place damage.Slots (inl ((control, file), refl, refl)))
 
   -- which ends are left, where nothing is faulty and no damage can be told
   pub done_of : (end : Tended) (w w' : SinkState) → EndsSo end w w' → IsCalm old new w w'
@@ -235,3 +250,25 @@ module _ {X : Type 0} (Is : X → Type 0) (text : X → List ℕ) (IsThere : Typ
   done_of tended.DiskFault w w' ends calm fine none = absurd (calm.0 ends.0)
   done_of tended.WriteFault w w' ends calm fine none = absurd (calm.1 ends.0)
   done_of tended.Memory w w' ends calm fine none = inr refl
+
+-- ---- calls before it that only read
+
+pub ends_behind : {X : Type 0} (Is : X → Type 0) (text : X → List ℕ) (IsThere : Type 0) (Bad : Damage) (end : Tended) (old mid new : DiskState)
+    (w w' : SinkState) → Stood old.faults mid.faults → Ends Is text IsThere Bad end mid new w w' → Ends Is text IsThere Bad end old new w w'
+ends_behind Is text IsThere Bad tended.Done old mid new w w' stood ends = ends
+ends_behind Is text IsThere Bad (tended.Damaged name place why) old mid new w w' stood ends = ends
+ends_behind Is text IsThere Bad tended.Exists old mid new w w' stood ends = ends
+ends_behind Is text IsThere Bad tended.DiskFault old mid new w w' stood ends = (subst (λ n. Rose n new.faults) stood ends.0, ends.1)
+ends_behind Is text IsThere Bad tended.WriteFault old mid new w w' stood ends = ends
+ends_behind Is text IsThere Bad tended.Memory old mid new w w' stood ends = ends
+
+pub faults_behind : (end : Tended) (old mid new : DiskState) (w w' : SinkState) → Stood old.faults mid.faults → DidNotFall old.lacks mid.lacks
+    → TellsFaults end mid new w w' → TellsFaults end old new w w'
+faults_behind end old mid new w w' stood lacks faults = record {
+  disk = λ is. ⊎_elim (λ rose. inl (subst (λ n. Rose n new.faults) stood rose)) (λ lack. inr (omega (arith, lack, lacks))) (faults.disk is);
+  calm = ⊎_elim inl (λ still. inr (still ∙ stood)) faults.calm;
+  sink = faults.sink;
+}
+
+pub calm_behind : (old mid new : DiskState) (w w' : SinkState) → Stood old.faults mid.faults → IsCalm old new w w' → IsCalm mid new w w'
+calm_behind old mid new w w' stood calm = (λ rose. calm.0 (subst (λ n. Rose n new.faults) stood rose), calm.1)

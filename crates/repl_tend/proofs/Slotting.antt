@@ -14,6 +14,13 @@ use Rattle.repl_status.specs.declared.damage.DamageReason.{DamageReason}
 use Rattle.repl_status.specs.declared.damage.DamageReason.TheVariants as damage
 use Rattle.repl_store.specs.Durable.{control_name}
 use Rattle.repl_store.specs.Refusal.{HasControl, IsOfDisk, IsRefusal}
+use Rattle.repl_tend.proofs.Ending.{told_as}
+use Rattle.repl_tend.specs.Damages.{IsDamagedOr, IsToldOf, IsToldOfNode}
+use Rattle.repl_tend.specs.declared.tended.Tended.{Tended}
+use Rattle.repl_tend.specs.declared.tended.Tended.TheVariants as tended
+use Rattle.repl_wal.specs.Faults.{of_store}
+use Rattle.repl_wal.specs.declared.fault.NodeFault.{NodeFault}
+use Rattle.repl_wal.specs.declared.fault.NodeFault.TheVariants as node
 use Rattle.repl_store.specs.declared.fault.StoreFault.{StoreFault}
 use Rattle.repl_store.specs.declared.fault.StoreFault.TheVariants as fault
 use Rattle.repl_tend.specs.Files.{HasSlots, HasWrongSlots}
@@ -68,3 +75,25 @@ slots_damaged folder at wrong name place why (inl bad) = (bad.1, one_wrong folde
 slots_damaged folder at wrong name place why (inr (e, inl before, refusal, is)) =
     absurd (no_damage e name place why (none_before folder e wrong.0 before refusal) is)
 slots_damaged folder at wrong name place why (inr (e, inr slots, refusal, is)) = absurd (slots_apart folder at slots wrong)
+
+-- ---- wrong slots are told
+
+-- a failure of memory is told so
+of_disk_told : (f : StoreFault) (end : Tended) → IsOfDisk f → IsToldOf f end → (f ≡ fault.DiskFault → ⊥) → end ≡ tended.Memory
+of_disk_told fault.Broken end of is other = absurd of
+of_disk_told fault.Exists end of is other = absurd of
+of_disk_told (fault.Missing name) end of is other = absurd of
+of_disk_told (fault.BadControl place) end of is other = absurd of
+of_disk_told (fault.BadHistory tli wrong) end of is other = absurd of
+of_disk_told (fault.ShortFile name have wanted) end of is other = absurd of
+of_disk_told fault.DiskFault end of is other = absurd (other refl)
+of_disk_told fault.Memory end of is other = is
+
+pub early_slots : (folder : Folder) (place : ℕ) (e : NodeFault) (end : Tended) → IsToldOfNode e end → IsFirstRefusal VERSION_1_SIZE folder e
+    → HasWrongSlots folder place → (e ≡ node.DiskFault → ⊥) → (end ≡ tended.Damaged slots_name place damage.Slots) ⊎ (end ≡ tended.Memory)
+early_slots folder place e end is (inl (f, same, before, refusal)) wrong other =
+    inr (of_disk_told f end (none_before folder f wrong.0 before refusal) (told_as f end (subst (λ (x : NodeFault). IsToldOfNode x end) same is))
+    (λ failed. other (same ∙ ap of_store failed)))
+early_slots folder place e end is (inr (at, same, control, file)) wrong other =
+    let one : at ≡ place = one_wrong folder at place (control, file) wrong in
+    subst (λ (p : ℕ). IsDamagedOr slots_name p damage.Slots end) one (subst (λ (x : NodeFault). IsToldOfNode x end) same is)

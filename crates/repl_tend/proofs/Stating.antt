@@ -25,19 +25,12 @@ use Rattle.repl_tend.specs.declared.tended.Tended.{Tended}
 some : 0 < VERSION_1_SIZE
 some = omega arith
 
--- no damage can be told of files that stand for a store
-pub undamaged : (folder : Folder) (d : Durable) → StandsFor VERSION_1_SIZE folder d → (name : List ℕ) (place : ℕ) (why : DamageReason)
-    → IsDamaged folder name place why → ⊥
-undamaged folder d stands name place why (fault.Broken, wrong, is) = is
-undamaged folder d stands name place why (fault.Exists, wrong, is) = is
-undamaged folder d stands name place why (fault.Missing file, wrong, is) = unrefused VERSION_1_SIZE folder d some stands (fault.Missing file) wrong
-undamaged folder d stands name place why (fault.BadControl at, wrong, is) = unrefused VERSION_1_SIZE folder d some stands (fault.BadControl at) wrong
-undamaged folder d stands name place why (fault.BadHistory tli found, wrong, is) =
-    unrefused VERSION_1_SIZE folder d some stands (fault.BadHistory tli found) wrong
-undamaged folder d stands name place why (fault.ShortFile file have wanted, wrong, is) =
-    unrefused VERSION_1_SIZE folder d some stands (fault.ShortFile file have wanted) wrong
-undamaged folder d stands name place why (fault.DiskFault, wrong, is) = is
-undamaged folder d stands name place why (fault.Memory, wrong, is) = is
+-- no damage can be told of files that stand for a store and for slots
+pub undamaged : (folder : Folder) (d : Durable) → StandsFor VERSION_1_SIZE folder d → HasSlots folder → (name : List ℕ) (place : ℕ)
+    (why : DamageReason) → IsDamaged folder name place why → ⊥
+undamaged folder d stands slots name place why (inl bad) = slots_apart folder place slots bad.0
+undamaged folder d stands slots name place why (inr (e, before, wrong, is)) =
+    no_damage e name place why (unrefused VERSION_1_SIZE folder d some stands e wrong) is
 
 -- what is printed of a store that was just mounted is what its files stand for
 pub status_same : (h : Head) (d : Durable) → IsMounted h VERSION_1_SIZE d → head.status_of h ≡ status_of d

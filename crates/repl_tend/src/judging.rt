@@ -3,10 +3,12 @@ ghost use Rattle.std.specs.Prelude.{◌≡◌, ◌%◌, ◌/◌, IfOk, IfErr, Ma
 ghost use Rattle.repl_control.specs.declared.control.TheConstants.{VERSION_1_SIZE};
 ghost use Rattle.repl_status.specs.declared.damage.DamageReason.TheVariants as reason;
 ghost use Rattle.repl_disk.specs.Folder.{IfTold};
+ghost use Rattle.repl_counts.specs.Counts.{Stood};
+ghost use Rattle.repl_store.specs.Backing.{OnlyReads};
 ghost use Rattle.repl_store.specs.Durable.{segment_file};
 ghost use Rattle.repl_store.specs.Head.{status_of};
 ghost use Rattle.repl_tend.specs.Checking.{Checked, IsToldAt};
-ghost use Rattle.repl_tend.specs.Damages.{IsDamagedOr};
+ghost use Rattle.repl_tend.specs.Damages.{IsDamagedOr, IsToldOfSlots};
 ghost use Rattle.repl_tend.specs.Files.{HasSlots};
 ghost use Rattle.repl_tend.specs.Lines.{check_lines};
 ghost use Rattle.repl_tend.specs.Printing.{IsPrinted};
@@ -51,8 +53,11 @@ pub fn check<D: Disk, K: Sink>(alloc: Global, disk: D, out: &mut K) -> (Tended, 
 }
 
 /// Judges the file of the slots; where that is wrong, the control first.
+#[tactic(auto, using(crate::proofs::Ending::slots_told))]
 fn judge_slots<D: Disk>(alloc: Global, disk: D) -> Result<D, (Tended, D)>
     ensures right { IfOk result (λ left. IfTold (D.state disk).files HasSlots) }
+    ensures reads { IfOk result (λ left. OnlyReads (D.state disk) (D.state left) × Stood (D.state disk).faults (D.state left).faults) }
+    ensures told { IfErr result (λ ended. IsToldOfSlots ended.0 (D.state disk) (D.state ended.1)) }
     ensures keeps { MatchResult result (λ left. D.keeps disk left) (λ ended. D.keeps disk ended.1) }
 {
     match mount_slots(alloc, disk) {
