@@ -6,5 +6,4 @@ pub mod Slotting
 pub mod Standing
 -- a node is made
 pub mod Made
-pub mod Stating
 pub mod Judged
