@@ -18,3 +18,5 @@ pub mod Clearing
 pub mod Begun
 -- what a copy leaves of its source
 pub mod Copied
+-- and of its disk
+pub mod Copying

@@ -1,6 +1,7 @@
 //! Making a node.
 ghost use Rattle.std.specs.Prelude.{◌≡◌, ◌⊎◌, ℕ, [], None, Some, IsSome, IfOk, IfErr, Ok, Err, OnOk, MatchResult};
 ghost use Rattle.repl_control.specs.declared.control.TheConstants.{VERSION_1_SIZE};
+ghost use Rattle.repl_counts.specs.Counts.{Stood};
 ghost use Rattle.repl_disk.specs.Crash.{Elapses, LeavesOnly};
 ghost use Rattle.repl_disk.specs.Folder.{Folder, IfTold};
 ghost use Rattle.repl_store.specs.Creating.{fresh};
@@ -68,6 +69,7 @@ pub(crate) fn clear<D: Disk>(disk: &mut D) -> Result<(), NodeFault>
     ensures refused { IfErr result (λ e. IsUnmade (D.state disk.old).files e) }
     ensures moments { IfTold (D.state disk.old).files (λ folder. LeavesOnly (D.state disk.old) (D.state disk.new) (IsClearing (D.state disk.old).may_leave)) }
     ensures caused { IsMadeOf result (D.state disk.old) (D.state disk.new) }
+    ensures others { IfErr result (λ e. (e ≡ NodeFault.DiskFault) ⊎ Stood (D.state disk.old).faults (D.state disk.new).faults) }
     ensures keeps { D.keeps disk.old disk.new }
 {
     match disk.size(CONTROL) {
@@ -85,6 +87,7 @@ fn remove_slots<D: Disk>(disk: &mut D) -> Result<(), NodeFault>
     ensures left { IfTold (D.state disk.old).files (λ folder. (image : Folder) → (D.state disk.new).may_leave image → IsClearing (D.state disk.old).may_leave image) }
     ensures time { Elapses (D.state disk.old) (D.state disk.new) }
     ensures caused { IsMadeOf result (D.state disk.old) (D.state disk.new) }
+    ensures others { IfErr result (λ e. (e ≡ NodeFault.DiskFault) ⊎ Stood (D.state disk.old).faults (D.state disk.new).faults) }
     ensures keeps { D.keeps disk.old disk.new }
 {
     match disk.remove(SLOTS) {

@@ -1,7 +1,7 @@
--- What is left of a source, and what a copy that is mounted refuses.
-use Rattle.std.proofs.Common.{◌≡◌, ◌≢◌, ℕ, ◌⊎◌, ◌↔◌, Bool, true, false, List, Option, Some, None, IsSome, is_some, Result, Ok, Err, IfOk, IfErr, MatchResult, refl, sym, ap, ◌∙◌, subst, inl, inr}
+-- What is left of a source and of the disk of its copy, and who is told of failures.
+use Rattle.std.proofs.Common.{◌≡◌, ◌≢◌, ℕ, ◌⊎◌, Bool, true, false, Option, Some, None, IsSome, is_some, Result, Ok, Err, IfOk, IfErr, MatchResult, refl, sym, ap, ◌∙◌, subst, inl, inr}
 use Rattle.std.proofs.lemmas.Bool.{cases_Bool}
-use Rattle.repl_clone.specs.Causes.{BreaksSource, IsOfSource, Lasts}
+use Rattle.repl_clone.specs.Causes.{BreaksSource, IsOfDisk, IsOfSource, Lasts}
 use Rattle.repl_clone.specs.Copied.{IsCopying, copied}
 use Rattle.repl_clone.specs.declared.fault.CopyFault.{CopyFault}
 use Rattle.repl_clone.specs.declared.fault.CopyFault.TheVariants as copy
@@ -10,25 +10,21 @@ use Rattle.repl_control.specs.declared.control.TheConstants.{VERSION_1_SIZE}
 use Rattle.repl_counts.specs.Counts.{Rose, Stood}
 use Rattle.repl_disk.specs.Crash.{LeavesOnly}
 use Rattle.repl_disk.specs.Folder.{Folder, IfTold, ToldFiles}
+use Rattle.repl_disk.specs.Moments.{joined, started, weakened}
 use Rattle.repl_disk.specs.Runs.{told_so}
 use Rattle.repl_disk.specs.State.{DiskState}
-use Rattle.repl_store.specs.Backing.{Backs, LeavesOne, State}
+use Rattle.repl_store.specs.Backing.{Backs, LeavesOne, Only, State}
 use Rattle.repl_store.specs.Durable.{Durable, IsKnown, StandsFor}
 use Rattle.repl_store.specs.Head.{Head, Held, status_of}
-use Rattle.repl_store.specs.Refusal.{IsRefusal}
-use Rattle.repl_store.specs.declared.fault.StoreFault.{StoreFault}
-use Rattle.repl_store.specs.declared.fault.StoreFault.TheVariants as store
 use Rattle.repl_store.specs.declared.store.StoreStatus.{StoreStatus}
-use Rattle.repl_wal.specs.Cloning.{LeavesSource, of_copy, source_stopped}
-use Rattle.repl_wal.specs.Faults.{of_store}
+use Rattle.repl_wal.specs.Cloning.{IsKnownSource, LeavesSource, of_copy, source_stopped}
 use Rattle.repl_wal.specs.Holding.{HeldLog, Holds, Runs}
-use Rattle.repl_wal.specs.Making.{IsMountRefusal, IsWrongTail}
+use Rattle.repl_wal.specs.Making.{IsOpened, OnlyOpens}
 use Rattle.repl_wal.specs.State.{LogState, breaking, own_timeline}
 use Rattle.repl_wal.specs.Steps.{Old}
 use Rattle.repl_wal.specs.declared.fault.NodeFault.{NodeFault}
 use Rattle.repl_wal.specs.declared.fault.NodeFault.TheVariants as fault
-use Rattle.repl_store.proofs.Mounting.{durable_one}
-use Rattle.repl_wal.proofs.Ending.{running, same_status, untouched}
+use Rattle.repl_wal.proofs.Ending.{failure, running, same_status, untouched}
 
 -- ---- the source
 
@@ -157,34 +153,6 @@ of_long copy.SourceFault e have answer is = absurd cc
 of_long copy.DiskFault e have answer is = absurd cc
 of_long copy.Memory e have answer is = absurd cc
 
--- what a mount does not answer
-abbrev pub IsOther : NodeFault → Type 0
-IsOther e = (e ≢ fault.Exists) × (e ≢ fault.SourceFault) × ((have : ℕ) → e ≢ fault.HistoryFull have)
-
-refused_other : (size : ℕ) (folder : Folder) (f : StoreFault) → IsRefusal size folder f → IsOther (of_store f)
-refused_other size folder store.Broken is = absurd is
-refused_other size folder store.Exists is = absurd is
-refused_other size folder (store.Missing name) is = (λ e. cc, λ e. cc, λ have e. cc)
-refused_other size folder (store.BadControl place) is = (λ e. cc, λ e. cc, λ have e. cc)
-refused_other size folder (store.BadHistory tli wrong) is = (λ e. cc, λ e. cc, λ have e. cc)
-refused_other size folder (store.ShortFile name have needed) is = (λ e. cc, λ e. cc, λ have e. cc)
-refused_other size folder store.DiskFault is = (λ e. cc, λ e. cc, λ have e. cc)
-refused_other size folder store.Memory is = (λ e. cc, λ e. cc, λ have e. cc)
-
-wrong_other : (size : ℕ) (d : Durable) (e : NodeFault) → IsWrongTail size d e → IsOther e
-wrong_other size d fault.Exists is = absurd is
-wrong_other size d fault.SourceFault is = absurd is
-wrong_other size d (fault.HistoryFull have) is = absurd is
-wrong_other size d e is = (λ same. cc, λ same. cc, λ have same. cc)
-
-mounted_other : (size : ℕ) (folder : Folder) (d : Durable) (leaves : Folder → Type 0) (e : NodeFault) → StandsFor size folder d
-    → ((image : Folder) → leaves image → StandsFor size image d) → IsMountRefusal size folder leaves e → IsOther e
-mounted_other size folder d leaves e stands all (inl refused) = subst IsOther (sym refused.1) (refused_other size folder refused.0 refused.2)
-mounted_other size folder d leaves e stands all (inr wrong) =
-    let same : d ≡ wrong.0 = durable_one size folder d wrong.0 stands wrong.1 in
-    let every : (image : Folder) → leaves image → StandsFor size image wrong.0 = λ image left. subst (StandsFor size image) same (all image left) in
-    wrong_other size wrong.0 e (wrong.2 every)
-
 -- the folder that is told behind some calls
 pub told_on : (old new : ToldFiles) → is_some new ≡ is_some old → IsSome old → (folder : Folder) × (new ≡ Some folder)
 told_on None new same some = absurd (let k = some in cc)
@@ -194,12 +162,6 @@ told_on (Some f) (Some folder) same some = (folder, refl)
 -- all of a disk stands for the copy
 abbrev pub AllStand : ℕ → Durable → DiskState → Folder → Type 0
 AllStand size d disk folder = StandsFor size folder d × ((image : Folder) → disk.may_leave image → StandsFor size image d)
-
-pub copy_other : (size : ℕ) (d : Durable) (disk : DiskState) (folder : Folder) (e : NodeFault) → disk.files ≡ Some folder
-    → IfTold disk.files (AllStand size d disk) → IfTold disk.files (λ f. IsMountRefusal size f disk.may_leave e) → IsOther e
-copy_other size d disk folder e told stand refused =
-    let all = told_so disk.files folder (AllStand size d disk) told stand in
-    mounted_other size folder d disk.may_leave e all.0 all.1 (told_so disk.files folder (λ f. IsMountRefusal size f disk.may_leave e) told refused)
 
 -- ---- behind a copy that was made
 
@@ -220,6 +182,11 @@ pub matched : {A E : Type 0} (result : Result A E) (P Q : A → Type 0) (R S : E
 matched (Ok x) P Q R S leads fails h = leads x h
 matched (Err e) P Q R S leads fails h = fails e h
 
+pub err_of : {A E : Type 0} (result : Result A E) (P : A → Type 0) (R S : E → Type 0) → ((e : E) → R e → S e) → MatchResult result P R
+    → IfErr result S
+err_of (Ok x) P R S fails h = tt
+err_of (Err e) P R S fails h = fails e h
+
 -- all of the disk stands for the copy of the log
 pub all_stand : {E : Type 0} (source : DiskState) (old : HeldLog E) (before mid : DiskState) (n : LogState) (known : ℕ) → Holds source old n
     → old.stopped ≡ None → n.told ≡ true → n.size ≡ VERSION_1_SIZE
@@ -235,6 +202,18 @@ all_stand source old before mid n known holds none told size heard stand =
     subst (λ (k : ℕ). IfTold mid.files (AllStand k (copied n.kept.durable known) mid)) (runs.2.size ∙ size)
     (stand n.kept known (holds.backs told runs.0) own)
 
+-- the folder behind the copy of a known source
+pub known_copy : {E : Type 0} (source : DiskState) (old : HeldLog E) (before mid : DiskState) (n : LogState) (known : ℕ)
+    → IsKnownSource source old before n known → old.stopped ≡ None → is_some mid.files ≡ is_some before.files
+    → ((s : State) (known : ℕ) → Backs source old.store.head s
+    → ((image : Folder) → before.may_leave image → IsKnown image old.store.head.control.tli known)
+    → IfTold mid.files (AllStand old.store.head.size (copied s.durable known) mid))
+    → (folder : Folder) × (mid.files ≡ Some folder) × AllStand VERSION_1_SIZE (copied n.kept.durable known) mid folder
+known_copy source old before mid n known is none tells stand =
+    let there = told_on before.files mid.files tells is.files in
+    let all = all_stand source old before mid n known is.holds none is.told is.size is.heard stand in
+    (there.0, there.1, told_so mid.files there.0 (AllStand VERSION_1_SIZE (copied n.kept.durable known) mid) there.1 all)
+
 -- what a crash leaves while the copy is made
 pub copy_moments : {E : Type 0} (source : DiskState) (old : HeldLog E) (before mid : DiskState) (folder : Folder) (n : LogState) → Holds source old n
     → old.stopped ≡ None → n.told ≡ true → before.files ≡ Some folder
@@ -247,6 +226,74 @@ copy_moments source old before mid folder n holds none told files moments =
     → LeavesOnly before mid (IsCopying before.may_leave old.store.head.size s.durable) in
     subst (λ (k : ℕ). LeavesOnly before mid (IsCopying before.may_leave k n.kept.durable)) runs.2.size
     (told_so before.files folder Each files moments n.kept (holds.backs told runs.0))
+
+-- of a known source
+pub known_moments : {E : Type 0} (source : DiskState) (old : HeldLog E) (before mid : DiskState) (n : LogState) (known : ℕ)
+    → IsKnownSource source old before n known → old.stopped ≡ None
+    → IfTold before.files (λ f. (s : State) → Backs source old.store.head s
+    → LeavesOnly before mid (IsCopying before.may_leave old.store.head.size s.durable))
+    → LeavesOnly before mid (IsCopying before.may_leave n.size n.kept.durable)
+known_moments source old before mid n known is none moments =
+    let there = told_on before.files before.files refl is.files in
+    copy_moments source old before mid there.0 n is.holds none is.told there.1 moments
+
+-- and while it is mounted
+pub mounted_moments : {A : Type 0} (result : Result A NodeFault) (before mid new : DiskState) (n : LogState) (known : ℕ) → n.size ≡ VERSION_1_SIZE
+    → LeavesOnly before mid (IsCopying before.may_leave n.size n.kept.durable)
+    → OnlyOpens result mid new VERSION_1_SIZE (copied n.kept.durable known) → LeavesOnly before new (IsCopying before.may_leave n.size n.kept.durable)
+mounted_moments result before mid new n known size first opens =
+    let d = copied n.kept.durable known in
+    let P = IsCopying before.may_leave n.size n.kept.durable in
+    joined before mid new P first
+    (weakened mid new (λ image. (x : Durable) × Only d x × StandsFor VERSION_1_SIZE image x) P opens.moments (λ image one.
+    inr (known, subst (λ (k : ℕ). StandsFor k image d) (sym size) (subst (StandsFor VERSION_1_SIZE image) one.1 one.2))))
+
+-- without a call
+pub uncopied_moments : (old : DiskState) (size : ℕ) (d : Durable) → ((image : Folder) → old.left_since old.moment image → old.may_leave image)
+    → LeavesOnly old old (IsCopying old.may_leave size d)
+uncopied_moments old size d only = started old (IsCopying old.may_leave size d) (λ image left. inl (image, only image left, refl))
+
+-- ---- faults of the copy's disk
+
+disk_fault : (f : CopyFault) (e : NodeFault) → e ≡ of_copy f → e ≡ fault.DiskFault → f ≡ copy.DiskFault
+disk_fault copy.DiskFault e answer is = refl
+disk_fault copy.SourceFault e answer is = absurd cc
+disk_fault copy.Exists e answer is = absurd cc
+disk_fault (copy.HistoryTooLong have) e answer is = absurd cc
+disk_fault copy.Memory e answer is = absurd cc
+
+other_fault : (f : CopyFault) (e : NodeFault) (old new : DiskState) → e ≡ of_copy f → IsOfDisk {A = Unit {0}} (Err f) old new
+    → (e ≡ fault.DiskFault) ⊎ Stood old.faults new.faults
+other_fault copy.DiskFault e old new answer of = inl answer
+other_fault copy.SourceFault e old new answer of = inr (of.others (λ is. cc))
+other_fault copy.Exists e old new answer of = inr (of.others (λ is. cc))
+other_fault (copy.HistoryTooLong have) e old new answer of = inr (of.others (λ is. cc))
+other_fault copy.Memory e old new answer of = inr (of.others (λ is. cc))
+
+-- it is told where the copy is refused
+pub uncopied_caused : {A : Type 0} (f : CopyFault) (e : NodeFault) (old new : DiskState) → e ≡ of_copy f → IsOfDisk {A = Unit {0}} (Err f) old new
+    → IsOpened {A = A} (Err e) old new
+uncopied_caused {A} f e old new answer of =
+    let Fails : CopyFault → Result (Unit {0}) CopyFault = λ x. Err x in
+    record {
+      ok = tt;
+      failed = λ is. elim (of.failed (ap Fails (disk_fault f e answer (failure {A = A} e is)))) [
+        | inl rose ↦ inl rose
+        | inr lack ↦ inr lack.1
+      ];
+      others = other_fault f e old new answer of;
+    }
+
+-- where the disk tells its files
+pub uncopied_rose : (f : CopyFault) (e : NodeFault) (old new : DiskState) → e ≡ of_copy f → IsSome old.files
+    → IsOfDisk {A = Unit {0}} (Err f) old new → e ≡ fault.DiskFault → Rose old.faults new.faults
+uncopied_rose f e old new answer files of is =
+    let Fails : CopyFault → Result (Unit {0}) CopyFault = λ x. Err x in
+    let There : ToldFiles → Type 0 = λ t. IsSome t in
+    elim (of.failed (ap Fails (disk_fault f e answer is))) [
+      | inl rose ↦ rose
+      | inr lack ↦ let none : There None = subst There lack.0 files in absurd cc
+    ]
 
 -- ---- faults of the source's disk
 

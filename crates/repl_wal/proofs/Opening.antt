@@ -1,71 +1,26 @@
 -- Who is told of the disk's failures in a mount, and that it only reads.
-use Rattle.std.proofs.Common.{◌≡◌, ◌≢◌, ℕ, ◌≤◌, ◌⊎◌, Result, Ok, Err, OnOk, IfErr, refl, sym, ap, ◌∙◌, subst, inl, inr, ⊎_elim, arith}
+use Rattle.std.proofs.Common.{◌≡◌, ℕ, ◌≤◌, ◌⊎◌, Result, Ok, Err, OnOk, IfErr, refl, ap, ◌∙◌, subst, inl, inr, ⊎_elim, arith}
 use Rattle.repl_counts.specs.Counts.{Rose, Stood}
 use Rattle.repl_disk.specs.Folder.{Folder}
 use Rattle.repl_disk.specs.Moments.{joined, started}
 use Rattle.repl_disk.specs.State.{DiskState}
-use Rattle.repl_store.specs.Backing.{Backs, Before, IsAnswer, IsCaused, LeavesOne, Only, State}
+use Rattle.repl_store.specs.Backing.{Backs, Before, LeavesOne, Only, State}
 use Rattle.repl_store.specs.Durable.{Durable, StandsFor}
 use Rattle.repl_store.specs.Head.{Head}
 use Rattle.repl_store.specs.declared.fault.StoreFault.{StoreFault}
 use Rattle.repl_store.specs.declared.fault.StoreFault.TheVariants as store
-use Rattle.repl_store.specs.Refusal.{IsOfMount as IsOfStoreMount}
 use Rattle.repl_wal.specs.Faults.{of_store}
-use Rattle.repl_wal.specs.Making.{IsOfMount, IsOpened, OnlyOpens}
+use Rattle.repl_wal.specs.Making.{IsOpened, OnlyOpens}
 use Rattle.repl_wal.specs.declared.fault.NodeFault.{NodeFault}
 use Rattle.repl_wal.specs.declared.fault.NodeFault.TheVariants as fault
 use Rattle.repl_wal.proofs.Ending.{failure}
 
--- ---- answers
-
-pub mount_answer : (f : StoreFault) → IsOfStoreMount f → IsOfMount (of_store f)
-mount_answer store.Broken is = absurd is
-mount_answer store.Exists is = absurd is
-mount_answer (store.Missing name) is = tt
-mount_answer (store.BadControl place) is = tt
-mount_answer (store.BadHistory tli wrong) is = tt
-mount_answer (store.ShortFile name have needed) is = tt
-mount_answer store.DiskFault is = tt
-mount_answer store.Memory is = tt
-
-pub read_answer : (f : StoreFault) (e : NodeFault) → e ≡ of_store f → (f ≡ store.Broken → ⊥) → IsAnswer f → IsOfMount e
-read_answer f e told sound (inl broken) = absurd (sound broken)
-read_answer f e told sound (inr (inl failed)) = subst IsOfMount (sym (told ∙ ap of_store failed)) tt
-read_answer f e told sound (inr (inr memory)) = subst IsOfMount (sym (told ∙ ap of_store memory)) tt
+-- ---- counts
 
 -- a failure of the disk is one that the store told
 pub failed_of : (f : StoreFault) (e : NodeFault) → e ≡ of_store f → e ≡ fault.DiskFault → f ≡ store.DiskFault
 failed_of store.DiskFault e told is = refl
 failed_of f e told is = absurd cc
-
--- ---- counts
-
-pub opened_ok : {A : Type 0} (x : A) (old new : DiskState) → Stood old.faults new.faults → Stood old.wants new.wants
-    → IsOpened (Ok x) old new
-opened_ok x old new faults wants = record { ok = (faults, wants); failed = λ is. absurd cc; others = tt }
-
--- what is wrong in the files is no failure
-pub opened_wrong : {A : Type 0} (e : NodeFault) (old new : DiskState) → e ≢ fault.DiskFault → Stood old.faults new.faults
-    → IsOpened {A = A} (Err e) old new
-opened_wrong {A} e old new other faults = record { ok = tt; failed = λ is. absurd (other (failure {A = A} e is)); others = inr faults }
-
--- a read failed
-pub opened_failed : {A : Type 0} (f : StoreFault) (e : NodeFault) (old new : DiskState) → e ≡ of_store f → (f ≡ store.Broken → ⊥)
-    → IsCaused {A = Unit {0}} (Err f) old new → IsOpened {A = A} (Err e) old new
-opened_failed {A} f e old new told sound caused =
-    let Fails : StoreFault → Result (Unit {0}) StoreFault = λ x. Err x in
-    let others : IsAnswer f → (e ≡ fault.DiskFault) ⊎ Stood old.faults new.faults = λ answer. elim answer [
-      | inl broken ↦ absurd (sound broken)
-      | inr more ↦ elim more [
-        | inl failed ↦ inl (told ∙ ap of_store failed)
-        | inr memory ↦ inr (caused.no_memory (ap Fails memory))
-      ]
-    ] in
-    record {
-      ok = tt;
-      failed = λ is. caused.failed (ap Fails (failed_of f e told (failure {A = A} e is)));
-      others = others caused.answers;
-    }
 
 -- behind calls that did not fail
 pub opened_on : {A : Type 0} (result : Result A NodeFault) (old mid new : DiskState) → Stood old.faults mid.faults → Stood old.wants mid.wants

@@ -9,8 +9,8 @@ ghost use Rattle.repl_disk.specs.Folder.{Folder, IfTold};
 ghost use Rattle.repl_store.specs.Apart.{StaysApart};
 ghost use Rattle.repl_store.specs.Durable.{IsKnown, control_name};
 ghost use Rattle.repl_wal.specs.Cloning.{IsKnownSource, LeavesSource, of_copy, source_stopped};
-ghost use Rattle.repl_wal.specs.Holding.{Holds};
-ghost use Rattle.repl_wal.specs.Making.{mounted_log};
+ghost use Rattle.repl_wal.specs.Holding.{Holds, Remembers};
+ghost use Rattle.repl_wal.specs.Making.{IsOpened, mounted_log};
 ghost use Rattle.repl_wal.specs.State.{LogState, own_timeline, path_of};
 ghost use Rattle.repl_wal.specs.declared.fault.NodeFault.TheVariants as NodeFault;
 
@@ -36,22 +36,29 @@ impl<D: Disk> Wal<D> {
             → IsSome (D.state disk).files → ((image : Folder) → (D.state disk).may_leave image → IsKnown image (own_timeline n) known)
             → IfOk result (λ wal. Holds (D.state wal.store.disk) wal (mounted_log VERSION_1_SIZE (copied n.kept.durable known))) }
         ensures none { IfOk result (λ wal. IfTold (D.state disk).files (λ folder. folder control_name ≡ None)) }
-        ensures exists { (n : LogState) (known : ℕ) → IsKnownSource (E.state from.old.store.disk) from.old (D.state disk) n known
-            → IfErr result (λ e. e.0 ≡ NodeFault.Exists → IfTold (D.state disk).files (λ folder. IsSome (folder control_name))) }
-        ensures too_long { (n : LogState) (known : ℕ) → IsKnownSource (E.state from.old.store.disk) from.old (D.state disk) n known
-            → IfErr result (λ e. (have : ℕ) → e.0 ≡ NodeFault.HistoryFull have → IsTooLong (path_of n) have) }
-        // Up to the copy that is then mounted, a crash leaves the control that was there, or the copy.
-        ensures moments { (n : LogState) → Holds (E.state from.old.store.disk) from.old n → n.told ≡ true → IfTold (D.state disk).files (λ folder. (made : D)
+        ensures exists { IfErr result (λ e. e.0 ≡ NodeFault.Exists → IfTold (D.state disk).files (λ folder. IsSome (folder control_name))) }
+        ensures too_long { (n : LogState) → Remembers from.old n →
+            IfErr result (λ e. (have : ℕ) → e.0 ≡ NodeFault.HistoryFull have → IsTooLong (path_of n) have) }
+        // A crash leaves the control that was there, or the copy.
+        ensures moments { (n : LogState) (known : ℕ) → IsKnownSource (E.state from.old.store.disk) from.old (D.state disk) n known → MatchResult result
+            (λ wal. LeavesOnly (D.state disk) (D.state wal.store.disk) (IsCopying (D.state disk).may_leave n.size n.kept.durable))
+            (λ e. LeavesOnly (D.state disk) (D.state e.1) (IsCopying (D.state disk).may_leave n.size n.kept.durable)) }
+        // Whatever timelines were heard of, that is so up to the copy that is then mounted.
+        ensures copying { (n : LogState) → Holds (E.state from.old.store.disk) from.old n → n.told ≡ true → IfTold (D.state disk).files (λ folder. (made : D)
             × LeavesOnly (D.state disk) (D.state made) (IsCopying (D.state disk).may_leave n.size n.kept.durable)
             × MatchResult result (λ wal. D.keeps made wal.store.disk) (λ e. D.keeps made e.1)) }
+        // Each failure of the disk is told, and none is told without one, or without a lack.
+        ensures caused { MatchResult result (λ wal. IsOpened (Ok wal) (D.state disk) (D.state wal.store.disk)) (λ e. IsOpened {A = Wal D} (Err e.0) (D.state disk) (D.state e.1)) }
+        ensures rose { (n : LogState) (known : ℕ) → IsKnownSource (E.state from.old.store.disk) from.old (D.state disk) n known
+            → IfErr result (λ e. e.0 ≡ NodeFault.DiskFault → Rose (D.state disk).faults (D.state e.1).faults) }
         // The source stays as it was, unless its disk failed.
         ensures source { (n : LogState) → Holds (E.state from.old.store.disk) from.old n →
             LeavesSource result (E.state from.old.store.disk) (E.state from.new.store.disk) from.new n }
         // Each failure of the source's disk is told, and none is told without one, or without a lack, but where the source is broken.
         ensures counted { MatchResult result (λ wal. Stood (E.state from.old.store.disk).faults (E.state from.new.store.disk).faults × Stood (E.state from.old.store.disk).wants (E.state from.new.store.disk).wants)
             (λ e. (e.0 ≡ NodeFault.SourceFault) ⊎ Stood (E.state from.old.store.disk).faults (E.state from.new.store.disk).faults) }
-        ensures failed { (n : LogState) (known : ℕ) → IsKnownSource (E.state from.old.store.disk) from.old (D.state disk) n known
-            → IfErr result (λ e. e.0 ≡ NodeFault.SourceFault → (n.broken ≡ true) ⊎ Rose (E.state from.old.store.disk).faults (E.state from.new.store.disk).faults ⊎ Rose (E.state from.old.store.disk).lacks (E.state from.new.store.disk).lacks) }
+        ensures failed { (n : LogState) → Remembers from.old n → IfErr result (λ e. e.0 ≡ NodeFault.SourceFault → (n.broken ≡ true)
+            ⊎ Rose (E.state from.old.store.disk).faults (E.state from.new.store.disk).faults ⊎ Rose (E.state from.old.store.disk).lacks (E.state from.new.store.disk).lacks) }
         // The files of the slots stay on both disks.
         ensures apart { MatchResult result (λ wal. StaysApart (D.state disk) (D.state wal.store.disk)) (λ e. StaysApart (D.state disk) (D.state e.1)) }
         ensures source_apart { StaysApart (E.state from.old.store.disk) (E.state from.new.store.disk) }

@@ -28,7 +28,6 @@ returns-in-Err-BadSlots-clause-refused g c =
     (c.in-Err-BadSlots.ensures.files ∙ told) c.refuse_slots.ensures.refused in
     first found.0 found.1 found.2)
 
-
 -- they were not read
 unread : (folder : Folder) (f : SlotFault) (e : NodeFault)
     → ((f ≡ slots.DiskFault) × (e ≡ fault.DiskFault)) ⊎ ((f ≢ slots.DiskFault) × (e ≡ fault.Memory)) → IsFirstRefusal VERSION_1_SIZE folder e

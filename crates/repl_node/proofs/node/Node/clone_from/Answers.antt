@@ -1,21 +1,29 @@
 -- The slots go, and then the log is copied.
-use Rattle.std.proofs.Common.{◌≡◌, ℕ, [], false, Result, Ok, Err, IfOk, IfErr, MatchResult, refl, sym, ap, subst}
-use Rattle.repl_clone.specs.Copied.{copied}
+use Rattle.std.proofs.Common.{◌≡◌, ℕ, ◌⊎◌, [], true, false, Result, Ok, Err, IfOk, IfErr, MatchResult, refl, sym, ap, subst}
+use Rattle.repl_clone.specs.Causes.{IsTooLong}
+use Rattle.repl_clone.specs.Copied.{IsCopying, copied}
 use Rattle.repl_control.specs.declared.control.TheConstants.{VERSION_1_SIZE}
+use Rattle.repl_counts.specs.Counts.{Rose}
+use Rattle.repl_disk.specs.Crash.{LeavesOnly}
+use Rattle.repl_disk.specs.Moments.{weakened}
 use Rattle.repl_disk.specs.Runs.{told_so}
 use Rattle.repl_disk.specs.State.{DiskState}
 use Rattle.repl_slots.specs.Slot.{SlotList}
+use Rattle.repl_wal.specs.Cloning.{IsKnownSource}
 use Rattle.repl_wal.specs.Holding.{HeldLog, Holds as HoldsLog}
 use Rattle.repl_wal.specs.Making.{mounted_log}
+use Rattle.repl_wal.specs.State.{path_of}
 use Rattle.repl_wal.specs.declared.fault.NodeFault.{NodeFault}
 use Rattle.repl_wal.specs.declared.fault.NodeFault.TheVariants as fault
 use Rattle.repl_store.specs.Apart.{StaysApart}
 use Rattle.repl_store.specs.Durable.{Durable}
-use Rattle.repl_node.specs.Cloning.{LeavesNode}
-use Rattle.repl_node.specs.Holding.{AllStore, HeldNode, Holds}
-use Rattle.repl_node.specs.Making.{IsCleared, mounted_node}
+use Rattle.repl_wal.proofs.Cloning.{if_err}
+use Rattle.repl_node.specs.Cloning.{IsCopyingNode, LeavesNode}
+use Rattle.repl_node.specs.Holding.{AllStore, HeldNode, Holds, Remembers}
+use Rattle.repl_node.specs.Making.{IsCleared, IsClearing, mounted_node}
 use Rattle.repl_node.proofs.Begun.{is_some_as, known_on, some_folder, without_slots}
 use Rattle.repl_node.proofs.Copied.{source_left}
+use Rattle.repl_node.proofs.Copying.{copying_cleared, copying_moments, joint, known_behind, passed}
 use Rattle.repl_node.proofs.node.Node.clone_from.Goals as goal
 
 -- the node of a log that is so, without slots
@@ -65,3 +73,83 @@ returns-clause-source g c n =
     source_left c.clone_from.result c.without_slots.result (state before.wal.store.disk) (state after.wal.store.disk) before after n
     (refused_as c.clone_from.result c.without_slots.result (λ e. e.0 ≡ fault.SourceFault) c.without_slots.ensures.refused) holds
     c.clone_from.ensures.source_apart refl (c.clone_from.ensures.source n.log holds.log))
+
+-- ---- the disk
+
+pub returns-in-Err-clause-moments : goal.returns-in-Err-clause-moments
+returns-in-Err-clause-moments g c n known is =
+    let state = g.D.Disk.state in
+    let old = state c.args.disk in
+    let mid = state c.clear.new.disk in
+    let folder = some_folder old.files is.files in
+    weakened old mid (IsClearing old.may_leave) (IsCopyingNode old n.log.size n.log.kept.durable)
+    (told_so old.files folder.0 (λ f. LeavesOnly old mid (IsClearing old.may_leave)) folder.1 c.in-Err.ensures.moments)
+    (copying_cleared old n.log.size n.log.kept.durable)
+
+pub returns-clause-moments : goal.returns-clause-moments
+returns-clause-moments g c n known is =
+    let state = g.D.Disk.state in
+    let old = state c.args.disk in
+    let mid = state c.clear.new.disk in
+    let size = n.log.size in
+    let d = n.log.kept.durable in
+    let folder = some_folder old.files is.files in
+    let slots = (told_so old.files folder.0 (λ f. IsCleared old mid f) folder.1 c.in-Ok.ensures.cleared).slots in
+    let first = told_so old.files folder.0 (λ f. LeavesOnly old mid (IsClearing old.may_leave)) folder.1 c.in-Ok.ensures.moments in
+    let Leaves : g.row.D.Denot → Type 0 = λ new. LeavesOnly mid (state new) (IsCopying mid.may_leave size d) in
+    let Apart : g.row.D.Denot → Type 0 = λ new. StaysApart mid (state new) in
+    let All : g.row.D.Denot → Type 0 = λ new. LeavesOnly old (state new) (IsCopyingNode old size d) in
+    let every : (new : g.row.D.Denot) → Leaves new × Apart new → All new = λ new both. copying_moments old mid folder.0 slots (state new) size d first
+    both.0 both.1 in
+    let From : HeldNode g.row.E.Denot → Type 0 = λ h. IsKnownSource (g.E.Disk.state h.wal.store.disk) h.wal old n.log known
+    → MatchResult c.without_slots.result (λ node. All node.wal.store.disk) (λ e. All e.1) in
+    let before : HeldNode g.row.E.Denot = record { wal = c.from.inside.wal; slots = c.from.inside.slots } in
+    let here : From before = λ is.
+    let copy = c.clone_from.ensures.moments n.log known (known_behind old mid folder.0 slots (g.E.Disk.state before.wal.store.disk) before.wal n.log known is) in
+    passed c.clone_from.result c.without_slots.result (λ wal. Leaves wal.store.disk × Apart wal.store.disk) (λ node. All node.wal.store.disk)
+    (λ e. Leaves e.1 × Apart e.1) (λ e. All e.1) c.without_slots.ensures.made c.without_slots.ensures.refused (λ node. every node.wal.store.disk)
+    (λ e. every e.1) (joint c.clone_from.result (λ wal. Leaves wal.store.disk) (λ wal. Apart wal.store.disk) (λ e. Leaves e.1) (λ e. Apart e.1) copy
+    c.clone_from.ensures.apart) in
+    subst From c.from.view_is here is
+
+pub returns-clause-rose : goal.returns-clause-rose
+returns-clause-rose g c n known is =
+    let state = g.D.Disk.state in
+    let old = state c.args.disk in
+    let mid = state c.clear.new.disk in
+    let folder = some_folder old.files is.files in
+    let slots = (told_so old.files folder.0 (λ f. IsCleared old mid f) folder.1 c.in-Ok.ensures.cleared).slots in
+    let First : NodeFault × g.row.D.Denot → Type 0 = λ e. e.0 ≡ fault.DiskFault → Rose mid.faults (state e.1).faults in
+    let Rises : NodeFault × g.row.D.Denot → Type 0 = λ e. e.0 ≡ fault.DiskFault → Rose old.faults (state e.1).faults in
+    let From : HeldNode g.row.E.Denot → Type 0 = λ h. IsKnownSource (g.E.Disk.state h.wal.store.disk) h.wal old n.log known
+    → IfErr c.without_slots.result Rises in
+    let before : HeldNode g.row.E.Denot = record { wal = c.from.inside.wal; slots = c.from.inside.slots } in
+    let here : From before = λ is.
+    refused_as c.clone_from.result c.without_slots.result Rises c.without_slots.ensures.refused
+    (if_err c.clone_from.result First Rises (λ e rose same. subst (λ (k : ℕ). Rose k (state e.1).faults) c.in-Ok.ensures.caused.ok.0 (rose same))
+    (c.clone_from.ensures.rose n.log known (known_behind old mid folder.0 slots (g.E.Disk.state before.wal.store.disk) before.wal n.log known is))) in
+    subst From c.from.view_is here is
+
+-- ---- refusals that speak of the source
+
+pub returns-clause-too_long : goal.returns-clause-too_long
+returns-clause-too_long g c n remembers =
+    let Long : NodeFault × g.row.D.Denot → Type 0 = λ e. (have : ℕ) → e.0 ≡ fault.HistoryFull have → IsTooLong (path_of n.log) have in
+    let From : HeldNode g.row.E.Denot → Type 0 = λ h. Remembers h n → IfErr c.without_slots.result Long in
+    let before : HeldNode g.row.E.Denot = record { wal = c.from.inside.wal; slots = c.from.inside.slots } in
+    let here : From before = λ remembers.
+    refused_as c.clone_from.result c.without_slots.result Long c.without_slots.ensures.refused (c.clone_from.ensures.too_long n.log remembers.log) in
+    subst From c.from.view_is here remembers
+
+pub returns-clause-failed : goal.returns-clause-failed
+returns-clause-failed g c n remembers =
+    let state = g.E.Disk.state in
+    let new = state c.clone_from.new.from.store.disk in
+    let Because : HeldNode g.row.E.Denot → NodeFault × g.row.D.Denot → Type 0 = λ h e. e.0 ≡ fault.SourceFault
+    → (n.log.broken ≡ true) ⊎ Rose (state h.wal.store.disk).faults new.faults ⊎ Rose (state h.wal.store.disk).lacks new.lacks in
+    let From : HeldNode g.row.E.Denot → Type 0 = λ h. Remembers h n → IfErr c.without_slots.result (Because h) in
+    let before : HeldNode g.row.E.Denot = record { wal = c.from.inside.wal; slots = c.from.inside.slots } in
+    let here : From before = λ remembers.
+    refused_as c.clone_from.result c.without_slots.result (Because before) c.without_slots.ensures.refused
+    (c.clone_from.ensures.failed n.log remembers.log) in
+    subst From c.from.view_is here remembers

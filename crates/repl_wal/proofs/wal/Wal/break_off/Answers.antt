@@ -1,7 +1,7 @@
 -- What runs is remembered from here on.
 use Rattle.std.proofs.Common.{◌≡◌, Some, not, ap, refl, ◌∙◌, inr}
-use Rattle.repl_wal.specs.Holding.{HeldLog, Remembers}
-use Rattle.repl_wal.specs.State.{LogState, breaking, status_of_log}
+use Rattle.repl_wal.specs.Holding.{HeldLog}
+use Rattle.repl_wal.specs.State.{breaking, status_of_log}
 use Rattle.repl_wal.proofs.Ending.{none_of, running, same_status}
 use Rattle.repl_wal.proofs.wal.Wal.break_off.Goals as goal
 

@@ -1,5 +1,5 @@
 -- The copy is mounted, and the source stays or stops.
-use Rattle.std.proofs.Common.{◌≡◌, ◌⊎◌, ℕ, true, None, Some, IsSome, Result, Ok, Err, IfOk, IfErr, MatchResult, sym, ap, subst, inl, inr}
+use Rattle.std.proofs.Common.{◌≡◌, ◌⊎◌, ℕ, true, None, Some, IsSome, Result, Ok, Err, IfOk, IfErr, MatchResult, sym, ap, subst, inr}
 use Rattle.repl_clone.specs.Causes.{IsTooLong}
 use Rattle.repl_lsn.specs.History.{Path}
 use Rattle.repl_clone.specs.Copied.{IsCopying, copied}
@@ -11,18 +11,17 @@ use Rattle.repl_disk.specs.Folder.{Folder, IfTold}
 use Rattle.repl_disk.specs.Runs.{told_so, where_told}
 use Rattle.repl_store.proofs.Apart.{apart_on}
 use Rattle.repl_store.specs.Apart.{StaysApart}
-use Rattle.repl_store.specs.Backing.{Backs, State}
 use Rattle.repl_store.specs.Durable.{StandsFor, control_name}
-use Rattle.repl_clone.specs.Copied.{IsCopy}
 use Rattle.repl_wal.specs.Cloning.{IsKnownSource, LeavesSource}
-use Rattle.repl_wal.specs.Holding.{HeldLog, Holds}
-use Rattle.repl_wal.specs.Making.{IsMountRefusal, mounted_log}
-use Rattle.repl_wal.specs.State.{LogState, path_of}
+use Rattle.repl_wal.specs.Holding.{HeldLog, Holds, Remembers}
+use Rattle.repl_wal.specs.Making.{IsOfMount, IsOpened, OnlyOpens, mounted_log}
+use Rattle.repl_wal.specs.State.{path_of}
 use Rattle.repl_wal.specs.declared.fault.NodeFault.{NodeFault}
 use Rattle.repl_wal.specs.declared.fault.NodeFault.TheVariants as fault
 use Rattle.repl_wal.specs.declared.wal.Wal.{Wal}
-use Rattle.repl_wal.proofs.Cloning.{all_stand, copy_moments, copy_other, counted, if_err, if_ok, left_as_it_was, left_refused, matched, of_existing, of_long, ok_any, source_failed, told_on}
+use Rattle.repl_wal.proofs.Cloning.{copy_moments, counted, err_of, if_err, if_ok, known_copy, known_moments, left_as_it_was, left_refused, matched, mounted_moments, of_existing, of_long, ok_any, source_failed, uncopied_caused, uncopied_rose}
 use Rattle.repl_wal.proofs.Ending.{none_of, running, untold, untold_holds}
+use Rattle.repl_wal.proofs.Opening.{opened_on}
 use Rattle.repl_wal.proofs.wal.Wal.clone_from.Goals as goal
 
 pub invariant_of-from : goal.invariant_of-from
@@ -66,11 +65,16 @@ returns-in-Ok-clause-holds g c n known holds told size files heard =
     → Holds (state wal.store.disk) wal (mounted_log VERSION_1_SIZE x) in
     let Goes : HeldLog g.row.E.Denot → Type 0 = λ h. Holds (source h.store.disk) h n → IfOk c.mount.result Mounted in
     let here : Goes old = λ holds.
-    let stand = all_stand (source old.store.disk) old (state before) (state mid) n known holds (none_of old.stopped (sym c.if-is_some.ensures)) told
-    size heard c.in-Ok.ensures.known in
-    let there = told_on (state before).files (state mid).files (g.met.D.Disk.never_falls before mid c.in-Ok.ensures.keeps).tells files in
-    let all = told_so (state mid).files there.0 _ there.1 stand in
-    if_ok c.mount.result Tells Mounted (λ wal tells. tells there.0 d there.1 all.0 all.1) c.mount.ensures.holds in
+    let is : IsKnownSource (source old.store.disk) old (state before) n known = record {
+      holds = holds;
+      told = told;
+      size = size;
+      files = files;
+      heard = heard;
+    } in
+    let all = known_copy (source old.store.disk) old (state before) (state mid) n known is (none_of old.stopped (sym c.if-is_some.ensures))
+    (g.met.D.Disk.never_falls before mid c.in-Ok.ensures.keeps).tells c.in-Ok.ensures.known in
+    if_ok c.mount.result Tells Mounted (λ wal tells. tells all.0 d all.1 all.2.0 all.2.1) c.mount.ensures.holds in
     subst Goes c.from.view_is here holds
 
 pub returns-in-Ok-clause-none : goal.returns-in-Ok-clause-none
@@ -81,68 +85,92 @@ returns-in-Ok-clause-none g c =
     let none : IfTold files None_there = where_told files None_there (λ folder told. (told_so files folder _ told c.in-Ok.ensures.done).0) in
     ok_any c.mount.result (IfTold files None_there) none
 
+-- a mount answers nothing that is the copy's
 pub returns-in-Ok-clause-exists : goal.returns-in-Ok-clause-exists
-returns-in-Ok-clause-exists g c n known is =
-    let source = g.E.Disk.state in
-    let state = g.D.Disk.state in
-    let old : HeldLog g.row.E.Denot = record { store = c.from.inside.store; walker = c.from.inside.walker; stopped = c.from.inside.stopped } in
-    let before = c.args.disk in
-    let mid = c.copy_store.new.disk in
-    let Refused : NodeFault × g.row.D.Denot → Type 0 = λ e. IfTold (state mid).files (λ folder.
-    IsMountRefusal VERSION_1_SIZE folder (state mid).may_leave e.0) in
-    let There : NodeFault × g.row.D.Denot → Type 0 = λ e. e.0 ≡ fault.Exists → IfTold (state before).files (λ folder. IsSome (folder control_name)) in
-    let Goes : HeldLog g.row.E.Denot → Type 0 = λ h. IsKnownSource (source h.store.disk) h (state before) n known → IfErr c.mount.result There in
-    let here : Goes old = λ is.
-    let stand = all_stand (source old.store.disk) old (state before) (state mid) n known is.holds (none_of old.stopped (sym c.if-is_some.ensures))
-    is.told is.size is.heard c.in-Ok.ensures.known in
-    let there = told_on (state before).files (state mid).files (g.met.D.Disk.never_falls before mid c.in-Ok.ensures.keeps).tells is.files in
-    if_err c.mount.result Refused There (λ e refused same. absurd ((copy_other VERSION_1_SIZE (copied n.kept.durable known) (state mid) there.0 e.0
-    there.1 stand refused).0 same)) c.mount.ensures.refused in
-    subst Goes c.from.view_is here is
+returns-in-Ok-clause-exists g c =
+    let files = (g.D.Disk.state c.args.disk).files in
+    if_err c.mount.result (λ e. IsOfMount e.0) (λ e. e.0 ≡ fault.Exists → IfTold files (λ folder. IsSome (folder control_name)))
+    (λ e is same. absurd (subst IsOfMount same is)) c.mount.ensures.answers
 
 pub returns-in-Ok-clause-too_long : goal.returns-in-Ok-clause-too_long
-returns-in-Ok-clause-too_long g c n known is =
-    let source = g.E.Disk.state in
-    let state = g.D.Disk.state in
-    let old : HeldLog g.row.E.Denot = record { store = c.from.inside.store; walker = c.from.inside.walker; stopped = c.from.inside.stopped } in
-    let before = c.args.disk in
-    let mid = c.copy_store.new.disk in
-    let Refused : NodeFault × g.row.D.Denot → Type 0 = λ e. IfTold (state mid).files (λ folder.
-    IsMountRefusal VERSION_1_SIZE folder (state mid).may_leave e.0) in
-    let Long : NodeFault × g.row.D.Denot → Type 0 = λ e. (have : ℕ) → e.0 ≡ fault.HistoryFull have → IsTooLong (path_of n) have in
-    let Goes : HeldLog g.row.E.Denot → Type 0 = λ h. IsKnownSource (source h.store.disk) h (state before) n known → IfErr c.mount.result Long in
-    let here : Goes old = λ is.
-    let stand = all_stand (source old.store.disk) old (state before) (state mid) n known is.holds (none_of old.stopped (sym c.if-is_some.ensures))
-    is.told is.size is.heard c.in-Ok.ensures.known in
-    let there = told_on (state before).files (state mid).files (g.met.D.Disk.never_falls before mid c.in-Ok.ensures.keeps).tells is.files in
-    if_err c.mount.result Refused Long (λ e refused have same. absurd ((copy_other VERSION_1_SIZE (copied n.kept.durable known) (state mid) there.0 e.0
-    there.1 stand refused).2 have same)) c.mount.ensures.refused in
-    subst Goes c.from.view_is here is
+returns-in-Ok-clause-too_long g c n remembers =
+    if_err c.mount.result (λ e. IsOfMount e.0) (λ e. (have : ℕ) → e.0 ≡ fault.HistoryFull have → IsTooLong (path_of n) have)
+    (λ e is have same. absurd (subst IsOfMount same is)) c.mount.ensures.answers
 
 pub returns-in-Ok-clause-failed : goal.returns-in-Ok-clause-failed
-returns-in-Ok-clause-failed g c n known is =
+returns-in-Ok-clause-failed g c n remembers =
+    let source = g.E.Disk.state in
+    let old = c.args.from.now in
+    let new = c.copy_store.new.from.disk in
+    let Caused : NodeFault × g.row.D.Denot → Type 0 = λ e. e.0 ≡ fault.SourceFault → (n.broken ≡ true)
+    ⊎ Rose (source old.store.disk).faults (source new).faults ⊎ Rose (source old.store.disk).lacks (source new).lacks in
+    if_err c.mount.result (λ e. IsOfMount e.0) Caused (λ e is same. absurd (subst IsOfMount same is)) c.mount.ensures.answers
+
+pub returns-in-Ok-clause-caused : goal.returns-in-Ok-clause-caused
+returns-in-Ok-clause-caused g c =
+    let state = g.D.Disk.state in
+    let before = c.args.disk in
+    let mid = c.copy_store.new.disk in
+    let W = Wal g.row.D.Denot in
+    let First : W → Type 0 = λ wal. IsOpened (Ok wal) (state mid) (state wal.store.disk) in
+    let Ends : W → Type 0 = λ wal. IsOpened (Ok wal) (state before) (state wal.store.disk) in
+    let Refused : NodeFault × g.row.D.Denot → Type 0 = λ e. IsOpened {A = W} (Err e.0) (state mid) (state e.1) in
+    let Fails : NodeFault × g.row.D.Denot → Type 0 = λ e. IsOpened {A = W} (Err e.0) (state before) (state e.1) in
+    let of = c.in-Ok.ensures.of_disk in
+    let lacks = (g.met.D.Disk.never_falls before mid c.in-Ok.ensures.keeps).lacks in
+    matched c.mount.result First Ends Refused Fails
+    (λ wal. opened_on (Ok wal) (state before) (state mid) (state wal.store.disk) of.ok.0 of.ok.1 lacks)
+    (λ e. opened_on {A = W} (Err e.0) (state before) (state mid) (state e.1) of.ok.0 of.ok.1 lacks) c.mount.ensures.caused
+
+pub returns-in-Ok-clause-moments : goal.returns-in-Ok-clause-moments
+returns-in-Ok-clause-moments g c n known is =
     let source = g.E.Disk.state in
     let state = g.D.Disk.state in
     let old : HeldLog g.row.E.Denot = record { store = c.from.inside.store; walker = c.from.inside.walker; stopped = c.from.inside.stopped } in
-    let new = c.copy_store.new.from.disk in
     let before = c.args.disk in
     let mid = c.copy_store.new.disk in
-    let Refused : NodeFault × g.row.D.Denot → Type 0 = λ e. IfTold (state mid).files (λ folder.
-    IsMountRefusal VERSION_1_SIZE folder (state mid).may_leave e.0) in
-    let Caused : HeldLog g.row.E.Denot → NodeFault × g.row.D.Denot → Type 0 = λ h. λ e. e.0 ≡ fault.SourceFault
-    → (n.broken ≡ true) ⊎ Rose (source h.store.disk).faults (source new).faults ⊎ Rose (source h.store.disk).lacks (source new).lacks in
+    let W = Wal g.row.D.Denot in
+    let d = copied n.kept.durable known in
+    let Leaves : g.row.D.Denot → Type 0 = λ new. LeavesOnly (state before) (state new) (IsCopying (state before).may_leave n.size n.kept.durable) in
+    let Opens : W → Type 0 = λ wal. OnlyOpens (Ok wal) (state mid) (state wal.store.disk) VERSION_1_SIZE d in
+    let Refused : NodeFault × g.row.D.Denot → Type 0 = λ e. OnlyOpens {A = W} (Err e.0) (state mid) (state e.1) VERSION_1_SIZE d in
     let Goes : HeldLog g.row.E.Denot → Type 0 = λ h. IsKnownSource (source h.store.disk) h (state before) n known
-    → IfErr c.mount.result (Caused h) in
+    → MatchResult c.mount.result (λ wal. Leaves wal.store.disk) (λ e. Leaves e.1) in
     let here : Goes old = λ is.
-    let stand = all_stand (source old.store.disk) old (state before) (state mid) n known is.holds (none_of old.stopped (sym c.if-is_some.ensures))
-    is.told is.size is.heard c.in-Ok.ensures.known in
-    let there = told_on (state before).files (state mid).files (g.met.D.Disk.never_falls before mid c.in-Ok.ensures.keeps).tells is.files in
-    if_err c.mount.result Refused (Caused old) (λ e refused same. absurd ((copy_other VERSION_1_SIZE (copied n.kept.durable known) (state mid) there.0
-    e.0 there.1 stand refused).1 same)) c.mount.ensures.refused in
+    let none = none_of old.stopped (sym c.if-is_some.ensures) in
+    let all = known_copy (source old.store.disk) old (state before) (state mid) n known is none
+    (g.met.D.Disk.never_falls before mid c.in-Ok.ensures.keeps).tells c.in-Ok.ensures.known in
+    let first = known_moments (source old.store.disk) old (state before) (state mid) n known is none c.in-Ok.ensures.moments in
+    matched c.mount.result Opens (λ wal. Leaves wal.store.disk) Refused (λ e. Leaves e.1)
+    (λ wal. mounted_moments (Ok wal) (state before) (state mid) (state wal.store.disk) n known is.size first)
+    (λ e. mounted_moments {A = W} (Err e.0) (state before) (state mid) (state e.1) n known is.size first)
+    (c.mount.ensures.only all.0 d all.1 all.2.0 all.2.1) in
     subst Goes c.from.view_is here is
 
-pub returns-in-Ok-clause-moments : goal.returns-in-Ok-clause-moments
-returns-in-Ok-clause-moments g c n holds told =
+pub returns-in-Ok-clause-rose : goal.returns-in-Ok-clause-rose
+returns-in-Ok-clause-rose g c n known is =
+    let source = g.E.Disk.state in
+    let state = g.D.Disk.state in
+    let old : HeldLog g.row.E.Denot = record { store = c.from.inside.store; walker = c.from.inside.walker; stopped = c.from.inside.stopped } in
+    let before = c.args.disk in
+    let mid = c.copy_store.new.disk in
+    let W = Wal g.row.D.Denot in
+    let d = copied n.kept.durable known in
+    let Opens : W → Type 0 = λ wal. OnlyOpens (Ok wal) (state mid) (state wal.store.disk) VERSION_1_SIZE d in
+    let Refused : NodeFault × g.row.D.Denot → Type 0 = λ e. OnlyOpens {A = W} (Err e.0) (state mid) (state e.1) VERSION_1_SIZE d in
+    let Rises : NodeFault × g.row.D.Denot → Type 0 = λ e. e.0 ≡ fault.DiskFault → Rose (state before).faults (state e.1).faults in
+    let Goes : HeldLog g.row.E.Denot → Type 0 = λ h. IsKnownSource (source h.store.disk) h (state before) n known → IfErr c.mount.result Rises in
+    let here : Goes old = λ is.
+    let all = known_copy (source old.store.disk) old (state before) (state mid) n known is (none_of old.stopped (sym c.if-is_some.ensures))
+    (g.met.D.Disk.never_falls before mid c.in-Ok.ensures.keeps).tells c.in-Ok.ensures.known in
+    let Wrong : NodeFault → Result W NodeFault = λ f. Err f in
+    err_of c.mount.result Opens Refused Rises
+    (λ e opens same. subst (λ (k : ℕ). Rose k (state e.1).faults) c.in-Ok.ensures.of_disk.ok.0 (opens.failed (ap Wrong same)))
+    (c.mount.ensures.only all.0 d all.1 all.2.0 all.2.1) in
+    subst Goes c.from.view_is here is
+
+pub returns-in-Ok-clause-copying : goal.returns-in-Ok-clause-copying
+returns-in-Ok-clause-copying g c n holds told =
     let source = g.E.Disk.state in
     let state = g.D.Disk.state in
     let old : HeldLog g.row.E.Denot = record { store = c.from.inside.store; walker = c.from.inside.walker; stopped = c.from.inside.stopped } in
@@ -198,25 +226,48 @@ returns-in-Ok-clause-keeps g c =
 -- ---- it is not made
 
 pub returns-in-Err-clause-exists : goal.returns-in-Err-clause-exists
-returns-in-Err-clause-exists g c n known is same =
+returns-in-Err-clause-exists g c same =
     let Fails : CopyFault → Result (Unit {0}) CopyFault = λ e. Err e in
     c.in-Err.ensures.exists (ap Fails (of_existing c.in-Err.fault c.stop_source.result c.stop_source.ensures.answer same))
 
 pub returns-in-Err-clause-too_long : goal.returns-in-Err-clause-too_long
-returns-in-Err-clause-too_long g c n known is have same =
-    let source = g.E.Disk.state in
+returns-in-Err-clause-too_long g c n remembers have same =
     let old : HeldLog g.row.E.Denot = record { store = c.from.inside.store; walker = c.from.inside.walker; stopped = c.from.inside.stopped } in
-    let before = g.D.Disk.state c.args.disk in
     let Fails : CopyFault → Result (Unit {0}) CopyFault = λ e. Err e in
-    let Goes : HeldLog g.row.E.Denot → Type 0 = λ h. IsKnownSource (source h.store.disk) h before n known → IsTooLong (path_of n) have in
-    let here : Goes old = λ is.
-    let runs = running old n (none_of old.stopped (sym c.if-is_some.ensures)) is.holds.remembers in
+    let Goes : HeldLog g.row.E.Denot → Type 0 = λ h. Remembers h n → IsTooLong (path_of n) have in
+    let here : Goes old = λ remembers.
+    let runs = running old n (none_of old.stopped (sym c.if-is_some.ensures)) remembers in
     subst (λ (p : Path). IsTooLong p have) runs.2.path
     (c.in-Err.ensures.too_long have (ap Fails (of_long c.in-Err.fault c.stop_source.result have c.stop_source.ensures.answer same))) in
-    subst Goes c.from.view_is here is
+    subst Goes c.from.view_is here remembers
+
+pub returns-in-Err-clause-caused : goal.returns-in-Err-clause-caused
+returns-in-Err-clause-caused g c =
+    let state = g.D.Disk.state in
+    uncopied_caused {A = Wal g.row.D.Denot} c.in-Err.fault c.stop_source.result (state c.args.disk) (state c.copy_store.new.disk)
+    c.stop_source.ensures.answer c.in-Err.ensures.of_disk
+
+pub returns-in-Err-clause-rose : goal.returns-in-Err-clause-rose
+returns-in-Err-clause-rose g c n known is =
+    let state = g.D.Disk.state in
+    uncopied_rose c.in-Err.fault c.stop_source.result (state c.args.disk) (state c.copy_store.new.disk) c.stop_source.ensures.answer is.files
+    c.in-Err.ensures.of_disk
 
 pub returns-in-Err-clause-moments : goal.returns-in-Err-clause-moments
-returns-in-Err-clause-moments g c n holds told =
+returns-in-Err-clause-moments g c n known is =
+    let source = g.E.Disk.state in
+    let state = g.D.Disk.state in
+    let old : HeldLog g.row.E.Denot = record { store = c.from.inside.store; walker = c.from.inside.walker; stopped = c.from.inside.stopped } in
+    let before = state c.args.disk in
+    let mid = state c.copy_store.new.disk in
+    let Goes : HeldLog g.row.E.Denot → Type 0 = λ h. IsKnownSource (source h.store.disk) h before n known
+    → LeavesOnly before mid (IsCopying before.may_leave n.size n.kept.durable) in
+    let here : Goes old = λ is.
+    known_moments (source old.store.disk) old before mid n known is (none_of old.stopped (sym c.if-is_some.ensures)) c.in-Err.ensures.moments in
+    subst Goes c.from.view_is here is
+
+pub returns-in-Err-clause-copying : goal.returns-in-Err-clause-copying
+returns-in-Err-clause-copying g c n holds told =
     let source = g.E.Disk.state in
     let state = g.D.Disk.state in
     let old : HeldLog g.row.E.Denot = record { store = c.from.inside.store; walker = c.from.inside.walker; stopped = c.from.inside.stopped } in
@@ -260,16 +311,14 @@ returns-in-Err-clause-counted g c =
     subst Goes c.from.view_is here
 
 pub returns-in-Err-clause-failed : goal.returns-in-Err-clause-failed
-returns-in-Err-clause-failed g c n known is same =
+returns-in-Err-clause-failed g c n remembers same =
     let source = g.E.Disk.state in
     let old : HeldLog g.row.E.Denot = record { store = c.from.inside.store; walker = c.from.inside.walker; stopped = c.from.inside.stopped } in
     let new = c.copy_store.new.from.disk in
-    let before = g.D.Disk.state c.args.disk in
-    let e = c.stop_source.result in
-    let Goes : HeldLog g.row.E.Denot → Type 0 = λ h. IsKnownSource (source h.store.disk) h before n known
+    let Goes : HeldLog g.row.E.Denot → Type 0 = λ h. Remembers h n
     → (n.broken ≡ true) ⊎ Rose (source h.store.disk).faults (source new).faults ⊎ Rose (source h.store.disk).lacks (source new).lacks in
-    let here : Goes old = λ is.
-    let runs = running old n (none_of old.stopped (sym c.if-is_some.ensures)) is.holds.remembers in
-    inr (source_failed c.in-Err.fault e (source old.store.disk) (source new) old.store.broken c.stop_source.ensures.answer same runs.1
-    c.in-Err.ensures.of_source) in
-    subst Goes c.from.view_is here is
+    let here : Goes old = λ remembers.
+    let runs = running old n (none_of old.stopped (sym c.if-is_some.ensures)) remembers in
+    inr (source_failed c.in-Err.fault c.stop_source.result (source old.store.disk) (source new) old.store.broken c.stop_source.ensures.answer same
+    runs.1 c.in-Err.ensures.of_source) in
+    subst Goes c.from.view_is here remembers
