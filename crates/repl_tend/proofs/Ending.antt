@@ -88,11 +88,11 @@ told_as fault.DiskFault end is = is
 told_as fault.Memory end is = is
 
 -- this is damage, or memory was wanting
-damaged_quiet : (name : List ℕ) (place : ℕ) (why : DamageReason) (end : Tended) → IsDamagedOr name place why end → is_write_fault end ≡ false
+pub damaged_quiet : (name : List ℕ) (place : ℕ) (why : DamageReason) (end : Tended) → IsDamagedOr name place why end → is_write_fault end ≡ false
 damaged_quiet name place why end (inl is) = ap is_write_fault is
 damaged_quiet name place why end (inr is) = ap is_write_fault is
 
-damaged_other : (name : List ℕ) (place : ℕ) (why : DamageReason) (end : Tended) → IsDamagedOr name place why end → end ≡ tended.DiskFault → ⊥
+pub damaged_other : (name : List ℕ) (place : ℕ) (why : DamageReason) (end : Tended) → IsDamagedOr name place why end → end ≡ tended.DiskFault → ⊥
 damaged_other name place why end (inl is) failed = let same : tended.Damaged name place why ≡ tended.DiskFault = sym is ∙ failed in cc
 damaged_other name place why end (inr is) failed = let same : tended.Memory ≡ tended.DiskFault = sym is ∙ failed in cc
 
@@ -180,14 +180,14 @@ printed_faults text end old new w w' (inr none) stood =
 
 -- ---- ends
 
-module _ {X : Type 0} (Is : X → Type 0) (text : X → List ℕ) (IsThere : Type 0) (Bad : Damage) (old new : DiskState) where
+module _ {X : Type 0} (Is : X → Type 0) (text : X → List ℕ) (IsThere : Type 0) (Bad : Damage) (Failed : Type 0) where
   abbrev EndsSo : Tended → SinkState → SinkState → Type 0
-  EndsSo end w w' = Ends Is text IsThere Bad end old new w w'
+  EndsSo end w w' = Ends Is text IsThere Bad Failed end w w'
 
   pub memory_ends : (end : Tended) (w : SinkState) → end ≡ tended.Memory → EndsSo end w w
   memory_ends end w is = rw is (inl refl)
 
-  damage_ends : (name : List ℕ) (place : ℕ) (why : DamageReason) (end : Tended) (w : SinkState)
+  pub damage_ends : (name : List ℕ) (place : ℕ) (why : DamageReason) (end : Tended) (w : SinkState)
       → end ≡ tended.Damaged name place why → Bad name place why → EndsSo end w w
   damage_ends name place why end w is bad = rw is ((bad, refl))
 
@@ -196,8 +196,8 @@ module _ {X : Type 0} (Is : X → Type 0) (text : X → List ℕ) (IsThere : Typ
   damaged_ends name place why end w (inl is) bad = damage_ends name place why end w is bad
   damaged_ends name place why end w (inr is) bad = memory_ends end w is
 
-  pub disk_ends : (end : Tended) (w : SinkState) → end ≡ tended.DiskFault → Rose old.faults new.faults → EndsSo end w w
-  disk_ends end w is rose = rw is ((rose, refl))
+  pub disk_ends : (end : Tended) (w : SinkState) → end ≡ tended.DiskFault → Failed → EndsSo end w w
+  disk_ends end w is failed = rw is ((failed, refl))
 
   -- the lines of this were written
   pub printed_ends : (x : X) (end : Tended) (w w' : SinkState) → Is x → IsPrinted (text x) end w w' → EndsSo end w w'
@@ -213,7 +213,7 @@ module _ {X : Type 0} (Is : X → Type 0) (text : X → List ℕ) (IsThere : Typ
 
   -- the files were refused
   pub refused_ends : (folder : Folder) (e : StoreFault) (end : Tended) (w : SinkState) → IsToldOf e end → IsRefusal VERSION_1_SIZE folder e
-      → IsBeforeSlots e ⊎ HasSlots folder → (e ≡ fault.DiskFault → Rose old.faults new.faults)
+      → IsBeforeSlots e ⊎ HasSlots folder → (e ≡ fault.DiskFault → Failed)
       → ((name : List ℕ) (place : ℕ) (why : DamageReason) → IsDamaged folder name place why → Bad name place why) → EndsSo end w w
   refused_ends folder fault.Broken end w is wrong before rose bad = absurd wrong
   refused_ends folder fault.Exists end w is wrong before rose bad = absurd wrong
@@ -232,7 +232,7 @@ module _ {X : Type 0} (Is : X → Type 0) (text : X → List ℕ) (IsThere : Typ
 
   -- the control or the slots were refused
   pub early_ends : (folder : Folder) (e : NodeFault) (end : Tended) (w : SinkState) → IsToldOfNode e end → IsFirstRefusal VERSION_1_SIZE folder e
-      → (e ≡ node.DiskFault → Rose old.faults new.faults)
+      → (e ≡ node.DiskFault → Failed)
       → ((name : List ℕ) (place : ℕ) (why : DamageReason) → IsDamaged folder name place why → Bad name place why) → EndsSo end w w
   early_ends folder e end w is (inl (f, same, before, wrong)) rose bad =
       refused_ends folder f end w (told_as f end (subst (λ (x : NodeFault). IsToldOfNode x end) same is)) wrong (inl before)
@@ -242,25 +242,25 @@ module _ {X : Type 0} (Is : X → Type 0) (text : X → List ℕ) (IsThere : Typ
       (bad slots_name place damage.Slots (inl ((control, file), refl, refl)))
 
   -- which ends are left, where nothing is faulty and no damage can be told
-  pub done_of : (end : Tended) (w w' : SinkState) → EndsSo end w w' → IsCalm old new w w'
+  pub done_of : (end : Tended) (w w' : SinkState) → EndsSo end w w' → (Failed → ⊥) → (Rose w.faults w'.faults → ⊥)
       → ((name : List ℕ) (place : ℕ) (why : DamageReason) → Bad name place why → ⊥) → (IsThere → ⊥) → IsDone end
-  done_of tended.Done w w' ends calm fine none = inl refl
-  done_of (tended.Damaged name place why) w w' ends calm fine none = absurd (fine name place why ends.0)
-  done_of tended.Exists w w' ends calm fine none = absurd (none ends.0)
-  done_of tended.DiskFault w w' ends calm fine none = absurd (calm.0 ends.0)
-  done_of tended.WriteFault w w' ends calm fine none = absurd (calm.1 ends.0)
-  done_of tended.Memory w w' ends calm fine none = inr refl
+  done_of tended.Done w w' ends still quiet fine none = inl refl
+  done_of (tended.Damaged name place why) w w' ends still quiet fine none = absurd (fine name place why ends.0)
+  done_of tended.Exists w w' ends still quiet fine none = absurd (none ends.0)
+  done_of tended.DiskFault w w' ends still quiet fine none = absurd (still ends.0)
+  done_of tended.WriteFault w w' ends still quiet fine none = absurd (quiet ends.0)
+  done_of tended.Memory w w' ends still quiet fine none = inr refl
 
 -- ---- calls before it that only read
 
-pub ends_behind : {X : Type 0} (Is : X → Type 0) (text : X → List ℕ) (IsThere : Type 0) (Bad : Damage) (end : Tended) (old mid new : DiskState)
-    (w w' : SinkState) → Stood old.faults mid.faults → Ends Is text IsThere Bad end mid new w w' → Ends Is text IsThere Bad end old new w w'
-ends_behind Is text IsThere Bad tended.Done old mid new w w' stood ends = ends
-ends_behind Is text IsThere Bad (tended.Damaged name place why) old mid new w w' stood ends = ends
-ends_behind Is text IsThere Bad tended.Exists old mid new w w' stood ends = ends
-ends_behind Is text IsThere Bad tended.DiskFault old mid new w w' stood ends = (subst (λ n. Rose n new.faults) stood ends.0, ends.1)
-ends_behind Is text IsThere Bad tended.WriteFault old mid new w w' stood ends = ends
-ends_behind Is text IsThere Bad tended.Memory old mid new w w' stood ends = ends
+pub ends_behind : {X : Type 0} (Is : X → Type 0) (text : X → List ℕ) (IsThere : Type 0) (Bad : Damage) (Failed More : Type 0) (end : Tended)
+    (w w' : SinkState) → (Failed → More) → Ends Is text IsThere Bad Failed end w w' → Ends Is text IsThere Bad More end w w'
+ends_behind Is text IsThere Bad Failed More tended.Done w w' more ends = ends
+ends_behind Is text IsThere Bad Failed More (tended.Damaged name place why) w w' more ends = ends
+ends_behind Is text IsThere Bad Failed More tended.Exists w w' more ends = ends
+ends_behind Is text IsThere Bad Failed More tended.DiskFault w w' more ends = (more ends.0, ends.1)
+ends_behind Is text IsThere Bad Failed More tended.WriteFault w w' more ends = ends
+ends_behind Is text IsThere Bad Failed More tended.Memory w w' more ends = ends
 
 pub faults_behind : (end : Tended) (old mid new : DiskState) (w w' : SinkState) → Stood old.faults mid.faults → DidNotFall old.lacks mid.lacks
     → TellsFaults end mid new w w' → TellsFaults end old new w w'

@@ -78,7 +78,7 @@ unflawed folder d whole name place why (inr (other, wrong, stands, slots, has, a
 
 module _ (end : Tended) (old new : DiskState) (w w' : SinkState) where
   abbrev EndsAt : Folder → Type 0
-  EndsAt folder = Ends (FitsWhole folder) whole_lines ⊥ (IsFlawed folder) end old new w w'
+  EndsAt folder = Ends (FitsWhole folder) whole_lines ⊥ (IsFlawed folder) (Rose old.faults new.faults) end w w'
 
   -- wrong slots are told
   abbrev TellsSlots : Type 0
@@ -91,7 +91,7 @@ module _ (end : Tended) (old new : DiskState) (w w' : SinkState) where
     ends = ends;
     faults = faults;
     complete = λ folder d told settled whole calm.
-        done_of (FitsWhole folder) whole_lines ⊥ (IsFlawed folder) old new end w w' (ends folder told settled) calm
+        done_of (FitsWhole folder) whole_lines ⊥ (IsFlawed folder) (Rose old.faults new.faults) end w w' (ends folder told settled) calm.0 calm.1
         (unflawed folder d whole) (λ none. none);
     slots = slots;
   }
@@ -112,7 +112,7 @@ early_checked end old new w is =
     let rose : (folder : Folder) → old.files ≡ Some folder → is.fault ≡ node.DiskFault → Rose old.faults new.faults =
     λ folder told same. ⊎_elim (λ rose. rose) (λ lack. absurd (let both : Some folder ≡ None = sym told ∙ lack.0 in cc)) (failed same) in
     checked_of end old new w w
-    (λ folder told settled. early_ends (FitsWhole folder) whole_lines ⊥ (IsFlawed folder) old new folder e end w is.told (first folder told)
+    (λ folder told settled. early_ends (FitsWhole folder) whole_lines ⊥ (IsFlawed folder) (Rose old.faults new.faults) folder e end w is.told (first folder told)
     (rose folder told) (λ name place why bad. inl bad))
     (refusal_faults end old new w (early_quiet e end is.answers is.told)
     (λ ends. ⊎_elim inl (λ lack. inr lack.1) (failed (early_failed e end is.answers is.told ends)))
@@ -126,7 +126,7 @@ pub refused_checked : {A : Type 0} (e : StoreFault) (end : Tended) (old new : Di
     → Checked end old new w w
 refused_checked e end old new w slots refused answer is asks =
     checked_of end old new w w
-    (λ folder told settled. refused_ends (FitsWhole folder) whole_lines ⊥ (IsFlawed folder) old new folder e end w is
+    (λ folder told settled. refused_ends (FitsWhole folder) whole_lines ⊥ (IsFlawed folder) (Rose old.faults new.faults) folder e end w is
     (told_so old.files folder (λ f. IsRefusal VERSION_1_SIZE f e) told refused) (inr (told_so old.files folder HasSlots told slots))
     (λ same. ⊎_elim (λ rose. rose) (λ lack. absurd (let both : Some folder ≡ None = sym told ∙ lack.0 in cc)) (asks.failed (ap (λ f. Err f) same)))
     (λ name place why bad. inl bad))
@@ -171,7 +171,7 @@ module _ {A : Type 0} (x : A) (h : Head) (end : Tended) (old mid new : DiskState
         slots = slots_in folder told;
         fits = log_fits h d.0 d.2 (fits (mounted_state d.0) (backs_in folder told settled));
       } in
-      printed_ends (FitsWhole folder) whole_lines ⊥ (IsFlawed folder) old new d.0 end w w' whole
+      printed_ends (FitsWhole folder) whole_lines ⊥ (IsFlawed folder) (Rose old.faults new.faults) d.0 end w w' whole
       (subst (λ s. IsPrinted (check_lines (identity_in s)) end w w') (status_same h d.0 d.2) printed))
       (printed_faults (lines_of h) end old new w w' printed (stood ∙ asks.ok.0)) (no_slots end old new w w' slots)
 
@@ -183,7 +183,7 @@ module _ {A : Type 0} (x : A) (h : Head) (end : Tended) (old mid new : DiskState
       checked_of end old new w w
       (λ folder told settled.
       let d = found_in folder told in
-      damaged_ends (FitsWhole folder) whole_lines ⊥ (IsFlawed folder) old new name place why end w is
+      damaged_ends (FitsWhole folder) whole_lines ⊥ (IsFlawed folder) (Rose old.faults new.faults) name place why end w is
       (inr (
         d.0,
         wrong,
@@ -211,12 +211,12 @@ module _ {A : Type 0} (x : A) (h : Head) (end : Tended) (old mid new : DiskState
       (λ folder told settled.
       let d = found_in folder told in
       let rose : Rose mid.faults new.faults = (comes (mounted_state d.0) (backs_in folder told settled)).failed refl in
-      disk_ends (FitsWhole folder) whole_lines ⊥ (IsFlawed folder) old new end w is (omega (arith, rose, asks.ok.0)))
+      disk_ends (FitsWhole folder) whole_lines ⊥ (IsFlawed folder) (Rose old.faults new.faults) end w is (omega (arith, rose, asks.ok.0)))
       (disk_faults end old new w is (⊎_elim (λ rose. inl (omega (arith, rose, asks.ok.0))) (λ lack. inr (omega (arith, lack, asks.lacks))) (caused.failed refl)))
       (no_slots end old new w w slots)
   answered_checked check.Memory is unbroken has caused comes =
       checked_of end old new w w
-      (λ folder told settled. memory_ends (FitsWhole folder) whole_lines ⊥ (IsFlawed folder) old new end w is)
+      (λ folder told settled. memory_ends (FitsWhole folder) whole_lines ⊥ (IsFlawed folder) (Rose old.faults new.faults) end w is)
       (memory_faults end old new w is (caused.no_memory refl ∙ asks.ok.0)) (no_slots end old new w w slots)
 
 -- what is told of a log that was judged
@@ -245,7 +245,8 @@ pub checked_behind : (end : Tended) (old mid new : DiskState) (w w' : SinkState)
 checked_behind end old mid new w w' only stood lacks checked =
     let told_then : (folder : Folder) → old.files ≡ Some folder → mid.files ≡ Some folder = λ folder told. only.stayed ∙ told in
     checked_of end old new w w'
-    (λ folder told settled. ends_behind (FitsWhole folder) whole_lines ⊥ (IsFlawed folder) end old mid new w w' stood
+    (λ folder told settled. ends_behind (FitsWhole folder) whole_lines ⊥ (IsFlawed folder) (Rose mid.faults new.faults) (Rose old.faults new.faults) end w w'
+    (subst (λ n. Rose n new.faults) stood)
     (checked.ends folder (told_then folder told) (λ d image stands now. settled d image stands (only.none_new image now))))
     (faults_behind end old mid new w w' stood lacks checked.faults)
     (λ folder place told wrong calm. checked.slots folder place (told_then folder told) wrong (calm_behind old mid new w w' stood calm))

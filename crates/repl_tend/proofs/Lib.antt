@@ -4,6 +4,15 @@ pub mod Ending
 pub mod Slotting
 -- files that stand for a store
 pub mod Standing
+-- what is flushed behind the whole end
+pub mod Behind
+-- the file in which that is wrong
+pub mod Named
 -- a node is made
 pub mod Made
+-- a node is told
+pub mod Stating
+-- none is
+pub mod Refused
+-- the whole store is judged
 pub mod Judged

@@ -40,7 +40,8 @@ none_wrong name place why = ⊥
 
 module _ (role : Role) (ident : Ident) (old new : DiskState) where
   abbrev EndsAt : Tended → SinkState → SinkState → Folder → Type 0
-  EndsAt end w w' folder = Ends (IsNew role ident folder old new) (λ _. ok_line) (IsSome (folder control_name)) none_wrong end old new w w'
+  EndsAt end w w' folder = Ends (IsNew role ident folder old new) (λ _. ok_line) (IsSome (folder control_name)) none_wrong
+      (Rose old.faults new.faults) end w w'
 
   -- which ends are left where a store is there, and nothing is faulty
   left_there : (folder : Folder) (end : Tended) (w w' : SinkState) → EndsAt end w w' folder → IsSome (folder control_name) → IsCalm old new w w'
@@ -60,8 +61,8 @@ module _ (role : Role) (ident : Ident) (old new : DiskState) where
     moments = moments;
     faults = faults;
     complete = λ folder told none calm.
-        done_of (IsNew role ident folder old new) (λ _. ok_line) (IsSome (folder control_name)) none_wrong old new end w w'
-        (told_so old.files folder (EndsAt end w w') told ends) calm (λ name place why bad. bad) (not_there (folder control_name) none);
+        done_of (IsNew role ident folder old new) (λ _. ok_line) (IsSome (folder control_name)) none_wrong (Rose old.faults new.faults) end w w'
+        (told_so old.files folder (EndsAt end w w') told ends) calm.0 calm.1 (λ name place why bad. bad) (not_there (folder control_name) none);
     there = λ folder told there calm. left_there folder end w w' (told_so old.files folder (EndsAt end w w') told ends) there calm;
   }
 
@@ -89,7 +90,7 @@ module _ (role : Role) (ident : Ident) (old new : DiskState) where
       let printed : IsPrinted ok_line (sent_end sent) w w' = inl (sent, refl, sends) in
       initiated_of end w w'
       (where_told old.files (EndsAt end w w') (λ folder told.
-      printed_ends (IsNew role ident folder old new) (λ _. ok_line) (IsSome (folder control_name)) none_wrong old new tt end w w'
+      printed_ends (IsNew role ident folder old new) (λ _. ok_line) (IsSome (folder control_name)) none_wrong (Rose old.faults new.faults) tt end w w'
       (told_so old.files folder (λ f. IsNew role ident f old new tt) told made) printed))
       moments (printed_faults ok_line end old new w w' printed stood)
 
@@ -114,9 +115,9 @@ module _ (role : Role) (ident : Ident) (old new : DiskState) where
   unmade_ends folder (fault.BadHistory tli wrong) end w none is rose = absurd none
   unmade_ends folder (fault.ShortFile name have wanted) end w none is rose = absurd none
   unmade_ends folder fault.DiskFault end w none is rose =
-      disk_ends (IsNew role ident folder old new) (λ _. ok_line) (IsSome (folder control_name)) none_wrong old new end w is (rose refl)
+      disk_ends (IsNew role ident folder old new) (λ _. ok_line) (IsSome (folder control_name)) none_wrong (Rose old.faults new.faults) end w is (rose refl)
   unmade_ends folder fault.Memory end w none is rose =
-      memory_ends (IsNew role ident folder old new) (λ _. ok_line) (IsSome (folder control_name)) none_wrong old new end w is
+      memory_ends (IsNew role ident folder old new) (λ _. ok_line) (IsSome (folder control_name)) none_wrong (Rose old.faults new.faults) end w is
 
   pub unmade_initiated : {A : Type 0} (e : NodeFault) (end : Tended) (w : SinkState) → IsUnmade old.files e → IsToldOfNode e end
       → IfTold old.files (λ folder. LeavesOnly old new (IsBegun old.may_leave role ident)) → IsMadeOf {A = A} (Err e) old new

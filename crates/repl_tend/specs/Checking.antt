@@ -7,6 +7,7 @@ use Rattle.repl_check.specs.declared.flaw.Flaw.TheVariants as flaw
 use Rattle.repl_check.specs.Fits.{Fits}
 use Rattle.repl_check.specs.Flaws.{IsFlaw}
 use Rattle.repl_control.specs.declared.control.TheConstants.{VERSION_1_SIZE}
+use Rattle.repl_counts.specs.Counts.{Rose}
 use Rattle.repl_disk.specs.Folder.{Folder}
 use Rattle.repl_disk.specs.State.{DiskState}
 use Rattle.repl_io.specs.Sink.{SinkState}
@@ -76,7 +77,7 @@ whole_lines d = check_lines (identity_in (status_of d))
 -- tells the first that is wrong: of control, slots, history, segments, and then of the log.
 pub record Checked (end : Tended) (old new : DiskState) (w w' : SinkState) : Type 0 where
   pub ends : (folder : Folder) → old.files ≡ Some folder → IsSettled old folder
-      → Ends (FitsWhole folder) whole_lines ⊥ (IsFlawed folder) end old new w w'
+      → Ends (FitsWhole folder) whole_lines ⊥ (IsFlawed folder) (Rose old.faults new.faults) end w w'
   pub faults : TellsFaults end old new w w'
   -- Unless an object is faulty or memory runs out, a store whose log fits is told to fit,
   pub complete : (folder : Folder) (d : Durable) → old.files ≡ Some folder → IsSettled old folder → FitsWhole folder d → IsCalm old new w w' → IsDone end

@@ -23,6 +23,7 @@ use Rattle.repl_status.specs.declared.damage.DamageReason.TheVariants as damage
 use Rattle.repl_store.specs.declared.fault.StoreFault.{StoreFault}
 use Rattle.repl_store.specs.declared.fault.StoreFault.TheVariants as fault
 use Rattle.repl_store.specs.declared.store.StoreStatus.{StoreStatus}
+use Rattle.repl_store.specs.Backing.{OnlyReads}
 use Rattle.repl_store.specs.Creating.{fresh}
 use Rattle.repl_store.specs.Durable.{Durable, IsKnown, StandsFor, control_name, segment_file}
 use Rattle.repl_store.specs.Refusal.{IsRefusal}
@@ -124,15 +125,15 @@ is_write_fault tended.Exists = false
 is_write_fault tended.DiskFault = false
 is_write_fault tended.Memory = false
 
--- How a command ends that writes the text `text x` for some x that `Is`. Where it is damaged, or memory runs out before the
--- writing, nothing is written.
-abbrev pub Ends : {X : Type 0} → (X → Type 0) → (X → List ℕ) → Type 0 → Damage → Tended → DiskState → DiskState → SinkState → SinkState → Type 0
-Ends {X} Is text IsThere Bad tended.Done old new w w' = (x : X) × Is x × Wrote (text x) w w'
-Ends {X} Is text IsThere Bad (tended.Damaged name place why) old new w w' = Bad name place why × WroteNothing w w'
-Ends {X} Is text IsThere Bad tended.Exists old new w w' = IsThere × WroteNothing w w'
-Ends {X} Is text IsThere Bad tended.DiskFault old new w w' = Rose old.faults new.faults × WroteNothing w w'
-Ends {X} Is text IsThere Bad tended.WriteFault old new w w' = Rose w.faults w'.faults × ((x : X) × Is x × WroteFront (text x) w w')
-Ends {X} Is text IsThere Bad tended.Memory old new w w' = WroteNothing w w' ⊎ (Rose w.wants w'.wants × ((x : X) × Is x × WroteFront (text x) w w'))
+-- How a command ends that writes the text `text x` for some x that `Is`. Where it is damaged, where the disk `Failed`, or where
+-- memory runs out before the writing, nothing is written.
+abbrev pub Ends : {X : Type 0} → (X → Type 0) → (X → List ℕ) → Type 0 → Damage → Type 0 → Tended → SinkState → SinkState → Type 0
+Ends {X} Is text IsThere Bad Failed tended.Done w w' = (x : X) × Is x × Wrote (text x) w w'
+Ends {X} Is text IsThere Bad Failed (tended.Damaged name place why) w w' = Bad name place why × WroteNothing w w'
+Ends {X} Is text IsThere Bad Failed tended.Exists w w' = IsThere × WroteNothing w w'
+Ends {X} Is text IsThere Bad Failed tended.DiskFault w w' = Failed × WroteNothing w w'
+Ends {X} Is text IsThere Bad Failed tended.WriteFault w w' = Rose w.faults w'.faults × ((x : X) × Is x × WroteFront (text x) w w')
+Ends {X} Is text IsThere Bad Failed tended.Memory w w' = WroteNothing w w' ⊎ (Rose w.wants w'.wants × ((x : X) × Is x × WroteFront (text x) w w'))
 
 -- What holds over every disk: faults are told where an object counted one. A disk that does not tell its files may count a lack
 -- in place of a fault.
@@ -157,22 +158,25 @@ pub record IsNode (disk : DiskState) (folder : Folder) (d : Durable) : Type 0 wh
   pub slots : HasSlots folder
   pub tail : AreSettled disk folder → TailFits d
 
--- they stand for a store and for slots, and a crash would leave that
-pub record IsKeptNode (disk : DiskState) (folder : Folder) : Type 0 where
+-- they stand for a store and for slots, and where a crash would leave that, it does at any moment, and behind it
+pub record LeavesNode (old new : DiskState) (folder : Folder) : Type 0 where
   pub store : Durable
+  pub saved : List Entry
   pub stands : StandsFor VERSION_1_SIZE folder store
-  pub slots : HasSlots folder
-  pub settled : AreSettled disk folder
+  pub stored : Stores saved folder
+  pub moments : AreSettled old folder → LeavesOnly old new (λ image. StandsFor VERSION_1_SIZE image store × Stores saved image)
+  pub now : AreSettled old folder → (image : Folder) → new.may_leave image → StandsFor VERSION_1_SIZE image store × Stores saved image
 
 abbrev pub node_line : Durable → List ℕ
 node_line d = status_line (identity_in (status_of d))
 
--- What `status` does: it prints the line of the node that the files stand for, or tells the first that is wrong.
+-- What `status` does: it prints the line of the node that the files stand for, or tells the first that is wrong. That a failure
+-- of the disk was counted is known where a crash would leave what the disk has.
 pub record Stated (end : Tended) (old new : DiskState) (w w' : SinkState) : Type 0 where
-  pub ends : IfTold old.files (λ folder. (end ≡ tended.DiskFault → IsKeptNode old folder)
-      → Ends (IsNode old folder) node_line ⊥ (IsDamagedNode old folder) end old new w w')
-  -- It changes nothing.
-  pub only : (folder : Folder) → old.files ≡ Some folder → IsKeptNode old folder → LeavesOnly old new (λ image. Unit {0})
+  pub ends : IfTold old.files (λ folder. Ends (IsNode old folder) node_line ⊥ (IsDamagedNode old folder)
+      (AreSettled old folder → Rose old.faults new.faults) end w w')
+  -- It changes nothing: it only reads, and this is known of what is read before the log.
+  pub only : OnlyReads old new ⊎ IfTold old.files (LeavesNode old new)
   pub faults : TellsFaults end old new w w'
   -- Unless an object is faulty or memory runs out, a node is told,
   pub complete : (folder : Folder) (d : Durable) → old.files ≡ Some folder → AreSettled old folder → IsNode old folder d → IsCalm old new w w'
@@ -191,7 +195,8 @@ pub record IsNew (role : Role) (ident : Ident) (folder : Folder) (old new : Disk
 
 -- What `init` does: it makes a node, unless a store is there.
 pub record Initiated (role : Role) (ident : Ident) (end : Tended) (old new : DiskState) (w w' : SinkState) : Type 0 where
-  pub ends : IfTold old.files (λ folder. Ends (IsNew role ident folder old new) (λ _. ok_line) (IsSome (folder control_name)) (λ name place why. ⊥) end old new w w')
+  pub ends : IfTold old.files (λ folder. Ends (IsNew role ident folder old new) (λ _. ok_line) (IsSome (folder control_name)) (λ name place why. ⊥)
+      (Rose old.faults new.faults) end w w')
   -- A crash leaves what one before might have left, but for its slots, or the new store.
   pub moments : IfTold old.files (λ folder. LeavesOnly old new (IsBegun old.may_leave role ident))
   pub faults : TellsFaults end old new w w'

@@ -34,6 +34,6 @@ returns-in-Err-clause-initiated g c =
     let ident : ℕ → Ident = λ size. record { sysid = c.args.sysid; magic = c.args.magic; size = size } in
     let ensures = c.in-Err.ensures in
     let unmade = unmade_initiated c.args.role (ident c.version_1_size.result) (state c.args.disk) (state c.in-Err.disk) c.in-Err.fault
-    c.end_of_node.result w ensures.refused c.end_of_node.ensures ensures.moments ensures.caused ? in
+    c.end_of_node.result w ensures.refused c.end_of_node.ensures ensures.moments ensures.caused ensures.caused.others in
     let Sized : ℕ → Type 0 = λ n. Initiated c.args.role (ident n) c.end_of_node.result (state c.args.disk) (state c.in-Err.disk) w w in
     subst Sized c.version_1_size.ensures.value unmade
