@@ -1,8 +1,8 @@
 -- From what a store answered, and from how the writing ended, to how a command ends; and which ends are left, once nothing is
 -- faulty.
-use Rattle.std.proofs.Common.{All, ◌≡◌, ◌⊎◌, ℕ, List, Bool, true, false, Some, None, Result, Ok, Err, refl, sym, ◌∙◌, ap, subst, inl, inr, ⊎_elim, arith}
+use Rattle.std.proofs.Common.{All, ◌≡◌, ◌⊎◌, ℕ, List, false, Err, refl, sym, ◌∙◌, ap, subst, inl, inr, ⊎_elim, arith}
 use Rattle.repl_control.specs.declared.control.TheConstants.{VERSION_1_SIZE}
-use Rattle.repl_counts.specs.Counts.{DidNotFall, Rose, RoseExactly, Stood}
+use Rattle.repl_counts.specs.Counts.{DidNotFall, Rose, Stood}
 use Rattle.repl_disk.specs.Folder.{Folder, IfTold, ToldFiles}
 use Rattle.repl_disk.specs.State.{DiskState}
 use Rattle.repl_io.specs.Sink.{SinkState, Sends}
@@ -16,7 +16,7 @@ use Rattle.repl_store.proofs.Mounting.{told_map}
 use Rattle.repl_status.specs.declared.damage.DamageReason.{DamageReason}
 use Rattle.repl_status.specs.declared.damage.DamageReason.TheVariants as damage
 use Rattle.repl_store.specs.Backing.{Asks}
-use Rattle.repl_store.specs.Durable.{Durable, StandsFor, control_name}
+use Rattle.repl_store.specs.Durable.{control_name}
 use Rattle.repl_store.specs.Refusal.{IsOfMount, IsRefusal}
 use Rattle.repl_store.specs.declared.fault.StoreFault.{StoreFault}
 use Rattle.repl_store.specs.declared.fault.StoreFault.TheVariants as fault

@@ -1,39 +1,32 @@
 -- What `check` does, from what a mount, the check of the log and the writing of the lines did.
-use Rattle.std.proofs.Common.{◌≡◌, ◌↔◌, ◌⊎◌, ◌^◌, ◌<◌, ◌≤◌, ◌%◌, ◌*◌, ℕ, List, [], true, false, Some, None, Result, Ok, Err, OnOk, IsOk, MatchResult, refl, sym, ◌∙◌, ap, subst, inl, inr, ⊎_elim, arith}
-use Rattle.std.proofs.Math.Nat.{mod-add-div'}
+use Rattle.std.proofs.Common.{◌≡◌, ◌↔◌, ◌⊎◌, ℕ, List, [], Some, None, Result, Ok, Err, OnOk, IsOk, MatchResult, refl, sym, ◌∙◌, ap, subst, inl, inr, ⊎_elim, arith}
 use Rattle.repl_check.proofs.Verdicts.{fits_no_flaw}
 use Rattle.repl_check.specs.Found as found
 use Rattle.repl_check.specs.Found.{read_of, told}
-use Rattle.repl_check.specs.Fits.{Fits}
-use Rattle.repl_check.specs.Flaws.{IsFlaw}
 use Rattle.repl_check.specs.declared.check.CheckFault.{CheckFault}
 use Rattle.repl_check.specs.declared.check.CheckFault.TheVariants as check
 use Rattle.repl_check.specs.declared.flaw.Flaw.{Flaw}
 use Rattle.repl_check.specs.declared.flaw.Flaw.TheVariants as flaw
-use Rattle.repl_control.specs.declared.control.Control.{Control}
 use Rattle.repl_control.specs.declared.control.TheConstants.{VERSION_1_SIZE}
 use Rattle.repl_counts.specs.Counts.{DidNotFall, Rose, Stood}
 use Rattle.repl_disk.specs.Folder.{Folder, IfTold}
 use Rattle.repl_disk.specs.Runs.{told_so}
 use Rattle.repl_disk.specs.State.{DiskState}
 use Rattle.repl_io.specs.Sink.{SinkState}
-use Rattle.repl_lsn.specs.History.{Path}
 use Rattle.repl_lsn.specs.Path.{timeline_at}
 use Rattle.repl_lsn.specs.Segment.{IsSegSize}
 use Rattle.repl_node.specs.Making.{IsFirstRefusal}
 use Rattle.repl_page.specs.Page.{IsPage}
-use Rattle.repl_page.specs.declared.ident.Ident.{Ident}
 use Rattle.repl_slots.specs.Stored.{slots_name}
 use Rattle.repl_status.specs.declared.damage.DamageReason.{DamageReason}
 use Rattle.repl_status.specs.declared.damage.DamageReason.TheVariants as damage
 use Rattle.repl_store.proofs.Mounting.{durable_one}
 use Rattle.repl_store.specs.Backing.{Asks, Backs, Before, Comes, IsCaused, OnlyReads, State}
-use Rattle.repl_store.specs.Durable.{Durable, StandsFor, control_name}
+use Rattle.repl_store.specs.Durable.{Durable, StandsFor}
 use Rattle.repl_store.specs.Head.{Head, IsMounted}
 use Rattle.repl_store.specs.Head as head
 use Rattle.repl_store.specs.Refusal.{IsOfMount, IsRefusal}
 use Rattle.repl_store.specs.declared.fault.StoreFault.{StoreFault}
-use Rattle.repl_store.specs.declared.fault.StoreFault.TheVariants as fault
 use Rattle.repl_tend.proofs.Ending.{calm_behind, damaged_ends, damaged_faults, disk_ends, disk_faults, done_of, early_ends, early_failed, early_quiet, ends_behind, faults_behind, memory_ends, memory_faults, node_failure_told, printed_ends, printed_faults, refusal_faults, refused_ends, refused_faults}
 use Rattle.repl_tend.proofs.Slotting.{early_slots, slots_apart}
 use Rattle.repl_tend.proofs.Standing.{status_same, undamaged}
@@ -42,7 +35,7 @@ use Rattle.repl_tend.specs.Damages.{IsDamagedOr, IsToldOf, IsToldOfSlots}
 use Rattle.repl_tend.specs.Files.{HasSlots, HasWrongSlots, IsSettled}
 use Rattle.repl_tend.specs.Lines.{check_lines}
 use Rattle.repl_tend.specs.Printing.{IsPrinted}
-use Rattle.repl_tend.specs.Tending.{Ends, IsCalm, IsDamaged, IsDone, TellsFaults, status_of}
+use Rattle.repl_tend.specs.Tending.{Ends, IsCalm, TellsFaults}
 use Rattle.repl_tend.specs.declared.tended.Tended.{Tended}
 use Rattle.repl_tend.specs.declared.tended.Tended.TheVariants as tended
 use Rattle.repl_wal.specs.State.{identity_in}

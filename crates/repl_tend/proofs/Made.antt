@@ -1,5 +1,5 @@
 -- What `init` does, from what the making of a node and the writing of the line did.
-use Rattle.std.proofs.Common.{◌≡◌, ◌⊎◌, ℕ, List, [], Option, Some, None, IsSome, Ok, Err, refl, sym, ◌∙◌, ap, subst, inl, inr, ⊎_elim}
+use Rattle.std.proofs.Common.{◌≡◌, ◌⊎◌, ℕ, List, [], Option, Some, None, IsSome, Err, refl, sym, ◌∙◌, ap, subst, inl, inr, ⊎_elim}
 use Rattle.repl_control.specs.declared.control.Role.{Role}
 use Rattle.repl_control.specs.declared.control.TheConstants.{VERSION_1_SIZE}
 use Rattle.repl_counts.specs.Counts.{Rose, Stood}

@@ -2,7 +2,7 @@
 use Rattle.std.proofs.Common.{◌≡◌, ◌⊎◌, ◌%◌, ◌/◌, ◌<◌, ℕ, List, Some, None, Ok, Err, refl, sym, ◌∙◌, ap, subst, inl, inr, ⊎_elim, arith}
 use Rattle.repl_control.specs.declared.control.TheConstants.{VERSION_1_SIZE}
 use Rattle.repl_counts.specs.Counts.{Rose}
-use Rattle.repl_disk.specs.Folder.{Folder, IfTold}
+use Rattle.repl_disk.specs.Folder.{IfTold}
 use Rattle.repl_disk.specs.Runs.{told_so}
 use Rattle.repl_disk.specs.State.{DiskState}
 use Rattle.repl_lsn.specs.History.{Path}

@@ -1,12 +1,12 @@
 -- What `status` does where the mount of a node is refused.
 use Rattle.std.proofs.Common.{◌≡◌, ◌⊎◌, ◌%◌, ◌/◌, ℕ, List, Some, None, is_some, false, Err, refl, sym, ◌∙◌, ap, subst, inl, inr, ⊎_elim, arith}
 use Rattle.repl_control.specs.declared.control.TheConstants.{VERSION_1_SIZE}
-use Rattle.repl_counts.specs.Counts.{DidNotFall, Rose, Stood}
-use Rattle.repl_disk.specs.Folder.{Folder, IfTold, ToldFiles}
+use Rattle.repl_counts.specs.Counts.{Rose, Stood}
+use Rattle.repl_disk.specs.Folder.{Folder, IfTold}
 use Rattle.repl_disk.specs.Runs.{told_so, where_told}
 use Rattle.repl_disk.specs.State.{DiskState, GoesOn}
 use Rattle.repl_io.specs.Sink.{SinkState}
-use Rattle.repl_node.specs.Making.{IsFirstRefusal, IsNodeRefusal, IsOfNodeMount}
+use Rattle.repl_node.specs.Making.{IsNodeRefusal, IsOfNodeMount}
 use Rattle.repl_record.specs.declared.answer.WalkReason.{WalkReason}
 use Rattle.repl_slots.specs.SlotFile.{Entry}
 use Rattle.repl_slots.specs.Stored.{Stores, slots_name}
@@ -23,8 +23,8 @@ use Rattle.repl_tend.proofs.Ending.{damage_ends, damaged_ends, damaged_other, da
 use Rattle.repl_tend.proofs.Slotting.{early_slots, slots_apart}
 use Rattle.repl_tend.proofs.Stating.{EndsAt, OpensOnly, TellsSlots, images_of, leaves_of, leaves_on, stated_of}
 use Rattle.repl_tend.specs.Damages.{IsDamageOrFailure, IsDamagedOr, IsToldOfLog, IsToldOfMount, IsToldOfNode}
-use Rattle.repl_tend.specs.Files.{AreSettled, HasSlots}
-use Rattle.repl_tend.specs.Tending.{Ends, HasWrongTail, IsDamagedNode, IsNode, LeavesNode, Stated, TellsFaults, is_write_fault, line_of, node_line}
+use Rattle.repl_tend.specs.Files.{AreSettled}
+use Rattle.repl_tend.specs.Tending.{Ends, HasWrongTail, IsDamagedNode, IsNode, LeavesNode, Stated, is_write_fault, node_line}
 use Rattle.repl_tend.specs.declared.tended.Tended.{Tended}
 use Rattle.repl_tend.specs.declared.tended.Tended.TheVariants as tended
 use Rattle.repl_wal.specs.Faults.{of_store}
@@ -142,8 +142,13 @@ module _ (old : DiskState) (folder : Folder) (d : Durable) (saved : List Entry) 
   log_ends : (at : ℕ) (reason : WalkReason) (end : Tended) (w : SinkState) → IsWrong (node.Damaged at reason) → IsDamageOrFailure end
       → (AreSettled old folder → Named at reason end ⊎ (end ≡ tended.DiskFault)) → (end ≡ tended.DiskFault → Failed) → EndsSo end w
   log_ends at reason (tended.Damaged name place why) w wrong kind named failed = (
-    inr (d, stands, (saved, stored), λ settled.
-    ⊎_elim (λ is. bad_named at reason name place why (wrong (λ image now. settled.log d image stands now)) is) (λ is. absurd cc) (named settled)),
+    inr (
+      d,
+      stands,
+      (saved, stored),
+      λ settled.
+          ⊎_elim (λ is. bad_named at reason name place why (wrong (λ image now. settled.log d image stands now)) is) (λ is. absurd cc) (named settled),
+    ),
     refl,
   )
   log_ends at reason tended.DiskFault w wrong kind named failed = (failed refl, refl)

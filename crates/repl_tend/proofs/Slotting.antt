@@ -1,6 +1,6 @@
 -- Where the slots are wrong, nothing else is told: what is wrong before them is not, and what would be told behind them is passed
 -- over.
-use Rattle.std.proofs.Common.{◌≡◌, ◌⊎◌, ℕ, List, Option, Some, None, refl, sym, ◌∙◌, ap, subst, inl, inr}
+use Rattle.std.proofs.Common.{◌≡◌, ◌⊎◌, ℕ, List, Some, None, refl, sym, ◌∙◌, ap, subst, inl, inr}
 use Rattle.repl_control.proofs.Spelled.{spelled_right}
 use Rattle.repl_control.specs.Control.{IsControlFault}
 use Rattle.repl_control.specs.declared.control.Control.{Control}
@@ -12,7 +12,6 @@ use Rattle.repl_slots.specs.SlotFile.{FileStops}
 use Rattle.repl_slots.specs.Stored.{StoredIn, slots_name}
 use Rattle.repl_status.specs.declared.damage.DamageReason.{DamageReason}
 use Rattle.repl_status.specs.declared.damage.DamageReason.TheVariants as damage
-use Rattle.repl_store.specs.Durable.{control_name}
 use Rattle.repl_store.specs.Refusal.{HasControl, IsOfDisk, IsRefusal}
 use Rattle.repl_tend.proofs.Ending.{told_as}
 use Rattle.repl_tend.specs.Damages.{IsDamagedOr, IsToldOf, IsToldOfNode}

@@ -1,41 +1,34 @@
 -- What `status` does, from what a mount of a node and the writing of the line did.
-use Rattle.std.proofs.Common.{◌≡◌, ◌⊎◌, ◌%◌, ◌/◌, ℕ, List, Some, None, Result, Ok, Err, refl, sym, ◌∙◌, ap, subst, inl, inr, ⊎_elim, arith}
+use Rattle.std.proofs.Common.{◌≡◌, ◌⊎◌, ℕ, List, Some, Result, Ok, ◌∙◌, ap, subst, inl, inr}
 use Rattle.repl_control.specs.declared.control.TheConstants.{VERSION_1_SIZE}
-use Rattle.repl_counts.specs.Counts.{DidNotFall, Rose, Stood}
-use Rattle.repl_disk.specs.Crash.{LeavesOnly}
-use Rattle.repl_disk.specs.Folder.{Folder, IfTold, ToldFiles}
+use Rattle.repl_counts.specs.Counts.{Rose, Stood}
+use Rattle.repl_disk.specs.Folder.{Folder, IfTold}
 use Rattle.repl_disk.specs.Moments.{joined, weakened}
 use Rattle.repl_disk.specs.Runs.{told_so, where_told}
 use Rattle.repl_disk.specs.State.{DiskState}
 use Rattle.repl_io.specs.Sink.{SinkState}
-use Rattle.repl_node.specs.Making.{IsFirstRefusal, IsNodeRefusal, IsOfNodeMount, OnlyOpensNode}
-use Rattle.repl_record.specs.declared.answer.WalkReason.{WalkReason}
+use Rattle.repl_node.specs.Making.{OnlyOpensNode}
 use Rattle.repl_slots.specs.SlotFile.{Entry}
 use Rattle.repl_slots.specs.Stored.{Stores, slots_name}
 use Rattle.repl_status.specs.declared.damage.DamageReason.{DamageReason}
 use Rattle.repl_status.specs.declared.damage.DamageReason.TheVariants as damage
-use Rattle.repl_store.proofs.Asking.{reads_then}
 use Rattle.repl_store.proofs.Mounting.{durable_one}
 use Rattle.repl_store.specs.Backing.{OnlyReads}
-use Rattle.repl_store.specs.Durable.{Durable, StandsFor, control_name, segment_file}
+use Rattle.repl_store.specs.Durable.{Durable, StandsFor}
 use Rattle.repl_store.specs.Head.{Head, IsMounted}
 use Rattle.repl_store.specs.Head as head
 use Rattle.repl_tend.proofs.Behind.{tail_right}
-use Rattle.repl_tend.proofs.Ending.{damage_ends, damaged_ends, disk_ends, done_of, early_ends, memory_ends, node_failure_told, printed_ends, printed_faults, refusal_faults, refused_ends, told_as}
-use Rattle.repl_tend.proofs.Slotting.{early_slots, slots_apart}
+use Rattle.repl_tend.proofs.Ending.{done_of, printed_ends, printed_faults}
+use Rattle.repl_tend.proofs.Slotting.{slots_apart}
 use Rattle.repl_tend.proofs.Standing.{status_same, undamaged}
-use Rattle.repl_tend.specs.Damages.{IsDamageOrFailure, IsDamagedOr, IsToldOfLog, IsToldOfMount, IsToldOfNode}
 use Rattle.repl_tend.specs.Files.{AreSettled, HasSlots, HasWrongSlots, TailFits}
 use Rattle.repl_tend.specs.Lines.{status_line}
 use Rattle.repl_tend.specs.Printing.{IsPrinted}
-use Rattle.repl_tend.specs.Tending.{Ends, HasWrongTail, IsCalm, IsDamagedNode, IsNode, LeavesNode, Stated, TellsFaults, is_write_fault, node_line}
+use Rattle.repl_tend.specs.Tending.{Ends, HasWrongTail, IsCalm, IsDamagedNode, IsNode, LeavesNode, Stated, TellsFaults, node_line}
 use Rattle.repl_tend.specs.declared.tended.Tended.{Tended}
 use Rattle.repl_tend.specs.declared.tended.Tended.TheVariants as tended
-use Rattle.repl_wal.specs.Faults.{of_store}
-use Rattle.repl_wal.specs.Making.{IsEarly, IsOpened, IsWrongTail}
 use Rattle.repl_wal.specs.State.{identity_in}
 use Rattle.repl_wal.specs.declared.fault.NodeFault.{NodeFault}
-use Rattle.repl_wal.specs.declared.fault.NodeFault.TheVariants as node
 use Rattle.repl_wal.specs.declared.wal.Identity.{Identity}
 
 -- ---- a node
@@ -131,4 +124,3 @@ mounted_stated x h identity end old new w w' mounted slots tail line only stood 
     leaves_of (Ok x) old new folder d.0 s.0 only told d.1 s.1)))
     (printed_faults (status_line identity) end old new w w' printed stood)
     (λ folder place told wrong calm. absurd (slots_apart folder place (has folder told) wrong))
-

@@ -1,5 +1,5 @@
 -- The store is refused, or its log is judged and that is told.
-use Rattle.std.proofs.Common.{◌≡◌, ◌↔◌, Err, true, false, rules, sym, ap, subst, ◌∙◌}
+use Rattle.std.proofs.Common.{◌≡◌, Err, sym, ap, subst, ◌∙◌}
 use Rattle.std.proofs.lemmas.Bool.{false≢true}
 use Rattle.repl_check.specs.declared.check.CheckFault.TheVariants as check
 use Rattle.repl_disk.specs.State.{DiskState}

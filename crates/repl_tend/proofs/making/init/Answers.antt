@@ -1,5 +1,5 @@
 -- A node is made, or none is.
-use Rattle.std.proofs.Common.{◌≡◌, ℕ, ap, sym, subst}
+use Rattle.std.proofs.Common.{ℕ, ap, sym, subst}
 use Rattle.repl_disk.specs.State.{DiskState}
 use Rattle.repl_page.specs.declared.ident.Ident.{Ident}
 use Rattle.repl_tend.proofs.Made.{made_initiated, new_node, unmade_initiated}
