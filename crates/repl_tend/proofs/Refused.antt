@@ -1,5 +1,5 @@
 -- What `status` does where the mount of a node is refused.
-use Rattle.std.proofs.Common.{◌≡◌, ◌⊎◌, ◌%◌, ◌/◌, ℕ, List, Some, None, is_some, false, Err, refl, sym, ◌∙◌, ap, subst, inl, inr, ⊎_elim, arith}
+use Rattle.std.proofs.Common.{◌≡◌, ◌⊎◌, ◌%◌, ◌/◌, ℕ, List, Some, is_some, false, Err, refl, sym, ◌∙◌, ap, subst, inl, inr, ⊎_elim, arith}
 use Rattle.repl_control.specs.declared.control.TheConstants.{VERSION_1_SIZE}
 use Rattle.repl_counts.specs.Counts.{Rose, Stood}
 use Rattle.repl_disk.specs.Folder.{Folder, IfTold}
@@ -14,21 +14,20 @@ use Rattle.repl_status.specs.declared.damage.DamageReason.{DamageReason}
 use Rattle.repl_status.specs.declared.damage.DamageReason.TheVariants as damage
 use Rattle.repl_node.proofs.Begun.{some_folder}
 use Rattle.repl_store.proofs.Asking.{reads_then}
-use Rattle.repl_store.proofs.Mounting.{told_map}
 use Rattle.repl_store.specs.Backing.{OnlyReads}
 use Rattle.repl_store.specs.Durable.{Durable, StandsFor, control_name, segment_file}
 use Rattle.repl_store.specs.declared.fault.StoreFault.{StoreFault}
 use Rattle.repl_store.specs.declared.fault.StoreFault.TheVariants as fault
 use Rattle.repl_tend.proofs.Ending.{damage_ends, damaged_ends, damaged_other, damaged_quiet, disk_ends, early_ends, memory_ends, node_failure_told, refusal_faults, refused_ends, told_as}
 use Rattle.repl_tend.proofs.Slotting.{early_slots, slots_apart}
-use Rattle.repl_tend.proofs.Stating.{EndsAt, OpensOnly, TellsSlots, images_of, leaves_of, leaves_on, stated_of}
+use Rattle.repl_tend.proofs.Stating.{EndsAt, OpensOnly, TellsSlots, images_of, stated_of}
 use Rattle.repl_tend.specs.Damages.{IsDamageOrFailure, IsDamagedOr, IsToldOfLog, IsToldOfMount, IsToldOfNode}
 use Rattle.repl_tend.specs.Files.{AreSettled}
-use Rattle.repl_tend.specs.Tending.{Ends, HasWrongTail, IsDamagedNode, IsNode, LeavesNode, Stated, is_write_fault, node_line}
+use Rattle.repl_tend.specs.Tending.{Ends, HasWrongTail, IsDamagedNode, IsNode, Stated, is_write_fault, node_line}
 use Rattle.repl_tend.specs.declared.tended.Tended.{Tended}
 use Rattle.repl_tend.specs.declared.tended.Tended.TheVariants as tended
 use Rattle.repl_wal.specs.Faults.{of_store}
-use Rattle.repl_wal.specs.Making.{IsEarly, IsOpened, IsWrongTail}
+use Rattle.repl_wal.specs.Making.{IsOpened, IsWrongTail}
 use Rattle.repl_wal.specs.declared.fault.NodeFault.{NodeFault}
 use Rattle.repl_wal.specs.declared.fault.NodeFault.TheVariants as node
 
@@ -177,28 +176,20 @@ tail_of folder leaves at why (inr (saved, stored, inr (d, stands, wrong))) = (d,
 
 module _ {A : Type 0} (e : NodeFault) (end : Tended) (old mid new : DiskState) (w : SinkState)
     (refused : IfTold old.files (λ folder. IsNodeRefusal VERSION_1_SIZE folder old.may_leave e)) (answers : IsOfNodeMount e)
-    (caused : IsOpened {A = A} (Err e) old mid) (early : IsEarly e old mid ⊎ IfTold old.files Stands) (only : OpensOnly {A = A} (Err e) old mid) where
+    (caused : IsOpened {A = A} (Err e) old mid) (lost : e ≡ node.DiskFault → Rose old.faults mid.faults ⊎ IfTold old.files Stands)
+    (left : OnlyReads old mid) (only : OpensOnly {A = A} (Err e) old mid) where
   refused_in : (folder : Folder) → old.files ≡ Some folder → IsNodeRefusal VERSION_1_SIZE folder old.may_leave e
   refused_in folder told = told_so old.files folder (λ f. IsNodeRefusal VERSION_1_SIZE f old.may_leave e) told refused
 
   -- a failure was counted, or came behind what is right before the log
   rose_or : (folder : Folder) → old.files ≡ Some folder → e ≡ node.DiskFault → Rose old.faults mid.faults ⊎ Stands folder
-  rose_or folder told same =
-      ⊎_elim (λ (is : IsEarly e old mid). ⊎_elim inl (λ lack. absurd (let both : Some folder ≡ None = sym told ∙ lack.0 in cc)) (is.failed same))
-      (λ stands. inr (told_so old.files folder Stands told stands)) early
+  rose_or folder told same = ⊎_elim inl (λ stands. inr (told_so old.files folder Stands told stands)) (lost same)
 
   failed_in : (folder : Folder) → old.files ≡ Some folder → e ≡ node.DiskFault → AreSettled old folder → Rose old.faults mid.faults
   failed_in folder told same settled =
       ⊎_elim (λ rose. rose)
       (λ (s : Stands folder). (only folder s.0 s.1 told s.2 (images_of old folder s.0 s.1 s.2 s.3 settled)).failed (ap (λ (x : NodeFault). Err x) same))
       (rose_or folder told same)
-
-  only_in : OnlyReads old mid ⊎ IfTold old.files (LeavesNode old mid)
-  only_in =
-      ⊎_elim (λ (is : IsEarly e old mid). inl is.only)
-      (λ stands. inr (where_told old.files (LeavesNode old mid) (λ folder told.
-      let s = told_so old.files folder Stands told stands in
-      leaves_of (Err e) old mid folder s.0 s.1 only told s.2 s.3))) early
 
   -- ---- it names its file itself
 
@@ -224,7 +215,7 @@ module _ {A : Type 0} (e : NodeFault) (end : Tended) (old mid new : DiskState) (
   plain_stated : IsPlain e → IsToldOfNode e end → Stated end old mid w w
   plain_stated plain is =
       stated_of end old mid w w
-      (where_told old.files (EndsAt end old mid w w) (λ folder told. plain_ends folder told plain is (refused_in folder told))) only_in
+      (where_told old.files (EndsAt end old mid w w) (λ folder told. plain_ends folder told plain is (refused_in folder told))) left
       (refusal_faults end old mid w (plain_quiet e end is answers)
       (λ ends. caused.failed (ap (λ (x : NodeFault). Err x) (plain_failed e end is answers plain ends)))
       (⊎_elim (λ same. inl (node_failure_told e end is same)) inr caused.others))
@@ -266,8 +257,7 @@ module _ {A : Type 0} (e : NodeFault) (end : Tended) (old mid new : DiskState) (
         let t = tail_in folder told in
         log_ends old folder t.0 t.1 t.2 t.3 (AreSettled old folder → Rose old.faults new.faults) at why end w t.4 is.kind
         (λ settled. ⊎_elim inl (λ more. inr more.0) (named_in folder told settled)) (log_failed folder told)))
-        (⊎_elim (λ first. inl (reads_then old mid new first is.only))
-        (λ leaves. inr (told_map old.files (LeavesNode old mid) (LeavesNode old new) (λ folder l. leaves_on old mid new folder is.only l) leaves)) only_in)
+        (reads_then old mid new left is.only)
         (refusal_faults end old new w (failure_quiet end is.kind)
         (λ ends. ⊎_elim (λ rose. inl (subst (λ (n : ℕ). Rose n new.faults) still rose)) (λ lack. inr (omega (arith, lack, goes.lacks))) (is.failed ends))
         (⊎_elim inl (λ stood. inr (stood ∙ still)) is.others))

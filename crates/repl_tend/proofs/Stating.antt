@@ -1,9 +1,8 @@
 -- What `status` does, from what a mount of a node and the writing of the line did.
-use Rattle.std.proofs.Common.{◌≡◌, ◌⊎◌, ℕ, List, Some, Result, Ok, ◌∙◌, ap, subst, inl, inr}
+use Rattle.std.proofs.Common.{◌≡◌, ◌⊎◌, ℕ, List, Some, Result, ◌∙◌, ap, subst, inl, inr}
 use Rattle.repl_control.specs.declared.control.TheConstants.{VERSION_1_SIZE}
 use Rattle.repl_counts.specs.Counts.{Rose, Stood}
 use Rattle.repl_disk.specs.Folder.{Folder, IfTold}
-use Rattle.repl_disk.specs.Moments.{joined, weakened}
 use Rattle.repl_disk.specs.Runs.{told_so, where_told}
 use Rattle.repl_disk.specs.State.{DiskState}
 use Rattle.repl_io.specs.Sink.{SinkState}
@@ -24,7 +23,7 @@ use Rattle.repl_tend.proofs.Standing.{status_same, undamaged}
 use Rattle.repl_tend.specs.Files.{AreSettled, HasSlots, HasWrongSlots, TailFits}
 use Rattle.repl_tend.specs.Lines.{status_line}
 use Rattle.repl_tend.specs.Printing.{IsPrinted}
-use Rattle.repl_tend.specs.Tending.{Ends, HasWrongTail, IsCalm, IsDamagedNode, IsNode, LeavesNode, Stated, TellsFaults, node_line}
+use Rattle.repl_tend.specs.Tending.{Ends, HasWrongTail, IsCalm, IsDamagedNode, IsNode, Stated, TellsFaults, node_line}
 use Rattle.repl_tend.specs.declared.tended.Tended.{Tended}
 use Rattle.repl_tend.specs.declared.tended.Tended.TheVariants as tended
 use Rattle.repl_wal.specs.State.{identity_in}
@@ -50,7 +49,7 @@ module _ (end : Tended) (old new : DiskState) (w w' : SinkState) where
   TellsSlots = (folder : Folder) (place : ℕ) → old.files ≡ Some folder → HasWrongSlots folder place → IsCalm old new w w'
       → (end ≡ tended.Damaged slots_name place damage.Slots) ⊎ (end ≡ tended.Memory)
 
-  pub stated_of : IfTold old.files EndsAt → OnlyReads old new ⊎ IfTold old.files (LeavesNode old new) → TellsFaults end old new w w'
+  pub stated_of : IfTold old.files EndsAt → OnlyReads old new → TellsFaults end old new w w'
       → TellsSlots → Stated end old new w w'
   stated_of ends only faults slots = record {
     ends = ends;
@@ -73,42 +72,14 @@ OpensOnly result old new = (folder : Folder) (d : Durable) (saved : List Entry) 
     → ((image : Folder) → old.may_leave image → StandsFor VERSION_1_SIZE image d × Stores saved image)
     → OnlyOpensNode result old new VERSION_1_SIZE d saved
 
-pub leaves_of : {A : Type 0} (result : Result A NodeFault) (old new : DiskState) (folder : Folder) (d : Durable) (saved : List Entry)
-    → OpensOnly result old new → old.files ≡ Some folder → StandsFor VERSION_1_SIZE folder d → Stores saved folder → LeavesNode old new folder
-leaves_of result old new folder d saved only told stands stored =
-    let opens : AreSettled old folder → OnlyOpensNode result old new VERSION_1_SIZE d saved =
-    λ settled. only folder d saved told stands (images_of old folder d saved stands stored settled) in
-    record {
-      store = d;
-      saved = saved;
-      stands = stands;
-      stored = stored;
-      moments = λ settled. weakened old new _ (λ image. StandsFor VERSION_1_SIZE image d × Stores saved image) (opens settled).moments
-          (λ image left. (subst (StandsFor VERSION_1_SIZE image) left.2.0 left.3, subst (λ (l : List Entry). Stores l image) left.2.1 left.4));
-      now = λ settled. (opens settled).now;
-    }
-
--- the same behind further calls that only read
-pub leaves_on : (old mid new : DiskState) (folder : Folder) → OnlyReads mid new → LeavesNode old mid folder → LeavesNode old new folder
-leaves_on old mid new folder reads leaves =
-    let P : Folder → Type 0 = λ image. StandsFor VERSION_1_SIZE image leaves.store × Stores leaves.saved image in
-    record {
-      store = leaves.store;
-      saved = leaves.saved;
-      stands = leaves.stands;
-      stored = leaves.stored;
-      moments = λ settled. joined old mid new P (leaves.moments settled) (weakened mid new mid.may_leave P reads.moments (leaves.now settled));
-      now = λ settled image now. leaves.now settled image (reads.none_new image now);
-    }
-
 -- ---- it is told
 
-pub mounted_stated : {A : Type 0} (x : A) (h : Head) (identity : Identity) (end : Tended) (old new : DiskState) (w w' : SinkState)
+pub mounted_stated : (h : Head) (identity : Identity) (end : Tended) (old new : DiskState) (w w' : SinkState)
     → IfTold old.files (λ folder. (d : Durable) × StandsFor VERSION_1_SIZE folder d × IsMounted h VERSION_1_SIZE d) → IfTold old.files HasSlots
     → ((folder : Folder) (d : Durable) → old.files ≡ Some folder → StandsFor VERSION_1_SIZE folder d → AreSettled old folder → TailFits d)
-    → identity ≡ identity_in (head.status_of h) → OpensOnly (Ok x) old new → Stood old.faults new.faults
+    → identity ≡ identity_in (head.status_of h) → OnlyReads old new → Stood old.faults new.faults
     → IsPrinted (status_line identity) end w w' → Stated end old new w w'
-mounted_stated x h identity end old new w w' mounted slots tail line only stood printed =
+mounted_stated h identity end old new w w' mounted slots tail line only stood printed =
     let found : (folder : Folder) → old.files ≡ Some folder → (d : Durable) × StandsFor VERSION_1_SIZE folder d × IsMounted h VERSION_1_SIZE d =
     λ folder told. told_so old.files folder (λ f. (d : Durable) × StandsFor VERSION_1_SIZE f d × IsMounted h VERSION_1_SIZE d) told mounted in
     let has : (folder : Folder) → old.files ≡ Some folder → HasSlots folder = λ folder told. told_so old.files folder HasSlots told slots in
@@ -118,9 +89,6 @@ mounted_stated x h identity end old new w w' mounted slots tail line only stood 
     let is : IsNode old folder d.0 = record { stands = d.1; slots = has folder told; tail = tail folder d.0 told d.1 } in
     printed_ends (IsNode old folder) node_line ⊥ (IsDamagedNode old folder) (AreSettled old folder → Rose old.faults new.faults) d.0 end w w' is
     (subst (λ (i : Identity). IsPrinted (status_line i) end w w') (line ∙ ap identity_in (status_same h d.0 d.2)) printed)))
-    (inr (where_told old.files (LeavesNode old new) (λ folder told.
-    let d = found folder told in
-    let s = has folder told in
-    leaves_of (Ok x) old new folder d.0 s.0 only told d.1 s.1)))
+    only
     (printed_faults (status_line identity) end old new w w' printed stood)
     (λ folder place told wrong calm. absurd (slots_apart folder place (has folder told) wrong))

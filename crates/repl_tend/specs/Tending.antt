@@ -16,7 +16,6 @@ use Rattle.repl_lsn.specs.declared.fault.HistoryFault.TheVariants as history
 use Rattle.repl_lsn.specs.Segment.{history_name}
 use Rattle.repl_node.specs.Making.{IsBeforeSlots, IsBegun, SlotsAgree}
 use Rattle.repl_page.specs.declared.ident.Ident.{Ident}
-use Rattle.repl_slots.specs.SlotFile.{Entry}
 use Rattle.repl_slots.specs.Stored.{Stores, slots_name}
 use Rattle.repl_status.specs.declared.damage.DamageReason.{DamageReason}
 use Rattle.repl_status.specs.declared.damage.DamageReason.TheVariants as damage
@@ -158,15 +157,6 @@ pub record IsNode (disk : DiskState) (folder : Folder) (d : Durable) : Type 0 wh
   pub slots : HasSlots folder
   pub tail : AreSettled disk folder → TailFits d
 
--- they stand for a store and for slots, and where a crash would leave that, it does at any moment, and behind it
-pub record LeavesNode (old new : DiskState) (folder : Folder) : Type 0 where
-  pub store : Durable
-  pub saved : List Entry
-  pub stands : StandsFor VERSION_1_SIZE folder store
-  pub stored : Stores saved folder
-  pub moments : AreSettled old folder → LeavesOnly old new (λ image. StandsFor VERSION_1_SIZE image store × Stores saved image)
-  pub now : AreSettled old folder → (image : Folder) → new.may_leave image → StandsFor VERSION_1_SIZE image store × Stores saved image
-
 abbrev pub node_line : Durable → List ℕ
 node_line d = status_line (identity_in (status_of d))
 
@@ -175,8 +165,7 @@ node_line d = status_line (identity_in (status_of d))
 pub record Stated (end : Tended) (old new : DiskState) (w w' : SinkState) : Type 0 where
   pub ends : IfTold old.files (λ folder. Ends (IsNode old folder) node_line ⊥ (IsDamagedNode old folder)
       (AreSettled old folder → Rose old.faults new.faults) end w w')
-  -- It changes nothing: it only reads, and this is known of what is read before the log.
-  pub only : OnlyReads old new ⊎ IfTold old.files (LeavesNode old new)
+  pub only : OnlyReads old new
   pub faults : TellsFaults end old new w w'
   -- Unless an object is faulty or memory runs out, a node is told,
   pub complete : (folder : Folder) (d : Durable) → old.files ≡ Some folder → AreSettled old folder → IsNode old folder d → IsCalm old new w w'

@@ -35,8 +35,8 @@ returns-in-Ok-clause-stated g c =
     let n = mounted_node VERSION_1_SIZE d slots in
     let remembers : Remembers node n = record { log = holds.log.remembers; slots = holds.slots; sound = holds.sound } in
     tail_fits d (c.identify.ensures.right n remembers refl) in
-    let stated = mounted_stated node node.wal.store.head c.identify.result c.print_status-end.result old (state node.wal.store.disk) w w'
-    ensures.mounted.1 (slots_right old.files slots ensures.slots) tail (c.identify.ensures.memory ensures.mounted.0) ensures.only
+    let stated = mounted_stated node.wal.store.head c.identify.result c.print_status-end.result old (state node.wal.store.disk) w w'
+    ensures.mounted.1 (slots_right old.files slots ensures.slots) tail (c.identify.ensures.head ensures.mounted.0) ensures.reads
     ensures.caused.ok.0 c.print_status-end.ensures in
     let Over : DiskState → Type 0 = λ d. Stated c.print_status-end.result old d w w' in
     subst Over (sym (ap state c.into_disk.ensures)) stated
@@ -49,6 +49,6 @@ returns-in-Err-clause-stated g c =
     let after = c.end_of_mount.result.1 in
     let ensures = c.in-Err.ensures in
     refused_stated c.in-Err.fault c.end_of_mount.result.0 (state c.args.disk) (state disk) (state after) w ensures.refused ensures.answers
-    ensures.caused ensures.early ensures.only (c.end_of_mount.result.1 ≡ disk)
+    ensures.caused ensures.lost ensures.reads ensures.only (c.end_of_mount.result.1 ≡ disk)
     (λ same P p. subst (λ d. P (state d)) (sym same) p) c.end_of_mount.ensures.told (g.met.D.Disk.as_it_reads disk)
     (g.met.D.Disk.never_falls c.args.disk disk ensures.keeps)
