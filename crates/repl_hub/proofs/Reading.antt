@@ -135,3 +135,17 @@ read_wants disk held h tli at most sound only holds = record {
   goes = stays disk held h (IsReadEvent h tli at most (Err fault.Memory)) only holds (h.node, (h.node.log, (sound, refl), refl), refl);
   failed = λ is. absurd cc;
 }
+
+-- a broken node reads nothing
+pub read_broken : {D : Type 0} (disk : DiskState) (held : HeldHub D) (h : HubView) (tli at most : ℕ) → h.node.log.broken ≡ true
+    → ((image : Folder) → disk.left_since disk.moment image → disk.may_leave image) → Holds disk held h
+    → Comes {A = LogRead} (Err fault.Broken) disk disk held h (IsReadEvent h tli at most (Err fault.Broken)) (SameLeft h.node)
+read_broken disk held h tli at most broken only holds = record {
+  goes = stays disk held h (IsReadEvent h tli at most (Err fault.Broken)) only holds (h.node, (h.node.log, (broken, refl), refl), refl);
+  failed = λ is. absurd cc;
+}
+
+-- which it is not, where it says so
+pub sound_node : (b : Bool) → (b ≡ true → ⊥) → b ≡ false
+sound_node true is = absurd (is refl)
+sound_node false is = refl

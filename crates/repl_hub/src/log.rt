@@ -42,6 +42,9 @@ impl<D: Disk> HubState<D> {
             Comes result (D.state self.old.node.wal.store.disk) (D.state self.new.node.wal.store.disk) self.new h (IsRead h tli at most result) (SameLeft h.node) }
         ensures keeps { D.keeps self.old.node.wal.store.disk self.new.node.wal.store.disk }
     {
+        if self.node.is_broken() {
+            return Err(NodeFault::Broken);
+        }
         let mut room = match vec![in self.alloc; 0; read_room(most)] {
             Ok(room) => room,
             Err(_) => return Err(NodeFault::Memory),
