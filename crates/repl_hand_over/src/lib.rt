@@ -7,6 +7,7 @@
 
 mod crossing;
 mod faults;
+mod hubs;
 mod lists;
 mod messages;
 mod positions;
@@ -17,6 +18,7 @@ mod walks;
 
 pub use crossing::there_and_back;
 pub use faults::{hand_byte_faults, hand_refusals, hand_text_faults};
+pub use hubs::{hand_event, hand_hub, hand_node, hand_reply};
 pub use lists::{hand_certificates, hand_lists, hand_slots, hand_sync};
 pub use messages::{hand_command, hand_messages};
 pub use positions::{hand_histories, hand_positions, hand_segments, hand_texts};

@@ -1,46 +1,46 @@
 -- What `check` does, from what a mount, the check of the log and the writing of the lines did.
-use Rattle.std.proofs.Common.{◌≡◌, ◌↔◌, ◌⊎◌, ◌^◌, ◌<◌, ◌≤◌, ◌%◌, ◌*◌, ℕ, List, [], true, false, Some, None, Result, Ok, Err, OnOk, IsOk, MatchResult, refl, sym, ◌∙◌, ap, subst, inl, inr, ⊎_elim, arith}
-use Rattle.std.proofs.Math.Nat.{mod-add-div'}
+use Rattle.std.proofs.Common.{◌≡◌, ◌↔◌, ◌⊎◌, ℕ, List, [], Some, None, Result, Ok, Err, OnOk, IsOk, MatchResult, refl, sym, ◌∙◌, ap, subst, inl, inr, ⊎_elim, arith}
 use Rattle.repl_check.proofs.Verdicts.{fits_no_flaw}
 use Rattle.repl_check.specs.Found as found
 use Rattle.repl_check.specs.Found.{read_of, told}
-use Rattle.repl_check.specs.Fits.{Fits}
-use Rattle.repl_check.specs.Flaws.{IsFlaw}
 use Rattle.repl_check.specs.declared.check.CheckFault.{CheckFault}
 use Rattle.repl_check.specs.declared.check.CheckFault.TheVariants as check
 use Rattle.repl_check.specs.declared.flaw.Flaw.{Flaw}
 use Rattle.repl_check.specs.declared.flaw.Flaw.TheVariants as flaw
-use Rattle.repl_control.specs.declared.control.Control.{Control}
 use Rattle.repl_control.specs.declared.control.TheConstants.{VERSION_1_SIZE}
-use Rattle.repl_counts.specs.Counts.{Rose, Stood}
+use Rattle.repl_counts.specs.Counts.{DidNotFall, Rose, Stood}
 use Rattle.repl_disk.specs.Folder.{Folder, IfTold}
 use Rattle.repl_disk.specs.Runs.{told_so}
 use Rattle.repl_disk.specs.State.{DiskState}
 use Rattle.repl_io.specs.Sink.{SinkState}
-use Rattle.repl_lsn.specs.History.{Path}
 use Rattle.repl_lsn.specs.Path.{timeline_at}
 use Rattle.repl_lsn.specs.Segment.{IsSegSize}
+use Rattle.repl_node.specs.Making.{IsFirstRefusal}
 use Rattle.repl_page.specs.Page.{IsPage}
-use Rattle.repl_page.specs.declared.ident.Ident.{Ident}
+use Rattle.repl_slots.specs.Stored.{slots_name}
 use Rattle.repl_status.specs.declared.damage.DamageReason.{DamageReason}
 use Rattle.repl_status.specs.declared.damage.DamageReason.TheVariants as damage
 use Rattle.repl_store.proofs.Mounting.{durable_one}
-use Rattle.repl_store.specs.Backing.{Asks, Backs, Before, Comes, IsCaused, State}
-use Rattle.repl_store.specs.Durable.{Durable, StandsFor, control_name}
+use Rattle.repl_store.specs.Backing.{Asks, Backs, Before, Comes, IsCaused, OnlyReads, State}
+use Rattle.repl_store.specs.Durable.{Durable, StandsFor}
 use Rattle.repl_store.specs.Head.{Head, IsMounted}
 use Rattle.repl_store.specs.Head as head
 use Rattle.repl_store.specs.Refusal.{IsOfMount, IsRefusal}
 use Rattle.repl_store.specs.declared.fault.StoreFault.{StoreFault}
-use Rattle.repl_store.specs.declared.fault.StoreFault.TheVariants as fault
-use Rattle.repl_tend.proofs.Ending.{damaged_ends, damaged_faults, disk_ends, disk_faults, done_of, memory_ends, memory_faults, printed_ends, printed_faults, refused_ends, refused_faults}
-use Rattle.repl_tend.proofs.Stating.{status_same, undamaged}
-use Rattle.repl_tend.specs.Checking.{Checked, FitsWhole, IsDamageAt, IsFlawed, IsSettled, IsToldAt, LogFits, LogHas, identity_of}
-use Rattle.repl_tend.specs.Damages.{IsDamagedOr, IsToldOf}
+use Rattle.repl_tend.proofs.Ending.{calm_behind, damaged_ends, damaged_faults, disk_ends, disk_faults, done_of, early_ends, early_failed, early_quiet, ends_behind, faults_behind, memory_ends, memory_faults, node_failure_told, printed_ends, printed_faults, refusal_faults, refused_ends, refused_faults}
+use Rattle.repl_tend.proofs.Slotting.{early_slots, slots_apart}
+use Rattle.repl_tend.proofs.Standing.{status_same, undamaged}
+use Rattle.repl_tend.specs.Checking.{Checked, FitsWhole, IsDamageAt, IsFlawed, IsToldAt, LogFits, LogHas, identity_of, whole_lines}
+use Rattle.repl_tend.specs.Damages.{IsDamagedOr, IsToldOf, IsToldOfSlots}
+use Rattle.repl_tend.specs.Files.{HasSlots, HasWrongSlots, IsSettled}
 use Rattle.repl_tend.specs.Lines.{check_lines}
 use Rattle.repl_tend.specs.Printing.{IsPrinted}
-use Rattle.repl_tend.specs.Tending.{Ends, IsCalm, IsDamaged, IsDone, TellsFaults, status_of}
+use Rattle.repl_tend.specs.Tending.{Ends, IsCalm, TellsFaults}
 use Rattle.repl_tend.specs.declared.tended.Tended.{Tended}
 use Rattle.repl_tend.specs.declared.tended.Tended.TheVariants as tended
+use Rattle.repl_wal.specs.State.{identity_in}
+use Rattle.repl_wal.specs.declared.fault.NodeFault.{NodeFault}
+use Rattle.repl_wal.specs.declared.fault.NodeFault.TheVariants as node
 
 -- ---- the store of the files
 
@@ -63,36 +63,67 @@ log_has h d wrong mounted has = rw (mounted.same_size, mounted.same_control, mou
 
 -- no flaw can be told of a log that fits
 unflawed : (folder : Folder) (d : Durable) → FitsWhole folder d → (name : List ℕ) (place : ℕ) (why : DamageReason) → IsFlawed folder name place why → ⊥
-unflawed folder d whole name place why (inl bad) = undamaged folder d whole.stands name place why bad
-unflawed folder d whole name place why (inr (other, wrong, stands, has, at)) =
+unflawed folder d whole name place why (inl bad) = undamaged folder d whole.stands whole.slots name place why bad
+unflawed folder d whole name place why (inr (other, wrong, stands, slots, has, at)) =
     let same = durable_one VERSION_1_SIZE folder other d stands whole.stands in
     fits_no_flaw (identity_of d) (timeline_at d.path) d.control.floor d.bytes d.control.whole d.control.prev wrong size_is
     (floor_on_page folder d whole.stands) whole.fits (subst (λ (x : Durable). LogHas x wrong) same has)
 
 module _ (end : Tended) (old new : DiskState) (w w' : SinkState) where
   abbrev EndsAt : Folder → Type 0
-  EndsAt folder = Ends (FitsWhole folder) (λ d. check_lines (status_of d)) ⊥ (IsFlawed folder) end old new w w'
+  EndsAt folder = Ends (FitsWhole folder) whole_lines ⊥ (IsFlawed folder) (Rose old.faults new.faults) end w w'
+
+  -- wrong slots are told
+  abbrev TellsSlots : Type 0
+  TellsSlots = (folder : Folder) (place : ℕ) → old.files ≡ Some folder → HasWrongSlots folder place → IsCalm old new w w'
+      → (end ≡ tended.Damaged slots_name place damage.Slots) ⊎ (end ≡ tended.Memory)
 
   checked_of : ((folder : Folder) → old.files ≡ Some folder → IsSettled old folder → EndsAt folder) → TellsFaults end old new w w'
-      → Checked end old new w w'
-  checked_of ends faults = record {
+      → TellsSlots → Checked end old new w w'
+  checked_of ends faults slots = record {
     ends = ends;
     faults = faults;
     complete = λ folder d told settled whole calm.
-        done_of (FitsWhole folder) (λ x. check_lines (status_of x)) ⊥ (IsFlawed folder) old new end w w' (ends folder told settled) calm
+        done_of (FitsWhole folder) whole_lines ⊥ (IsFlawed folder) (Rose old.faults new.faults) end w w' (ends folder told settled) calm.0 calm.1
         (unflawed folder d whole) (λ none. none);
+    slots = slots;
   }
 
--- ---- the files are refused
+  -- none are wrong
+  no_slots : IfTold old.files HasSlots → TellsSlots
+  no_slots right folder place told wrong calm = absurd (slots_apart folder place (told_so old.files folder HasSlots told right) wrong)
 
-pub refused_checked : {A : Type 0} (e : StoreFault) (end : Tended) (old new : DiskState) (w : SinkState)
+-- ---- the control or the slots are refused
+
+pub early_checked : (end : Tended) (old new : DiskState) (w : SinkState) → IsToldOfSlots end old new → Checked end old new w w
+early_checked end old new w is =
+    let e = is.fault in
+    let first : (folder : Folder) → old.files ≡ Some folder → IsFirstRefusal VERSION_1_SIZE folder is.fault =
+    λ folder told. told_so old.files folder (λ f. IsFirstRefusal VERSION_1_SIZE f is.fault) told is.refused in
+    let failed : is.fault ≡ node.DiskFault → Rose old.faults new.faults ⊎ ((old.files ≡ None) × Rose old.lacks new.lacks) =
+    λ same. is.caused.failed (ap (λ (x : NodeFault). Err x) same) in
+    let rose : (folder : Folder) → old.files ≡ Some folder → is.fault ≡ node.DiskFault → Rose old.faults new.faults =
+    λ folder told same. ⊎_elim (λ rose. rose) (λ lack. absurd (let both : Some folder ≡ None = sym told ∙ lack.0 in cc)) (failed same) in
+    checked_of end old new w w
+    (λ folder told settled. early_ends (FitsWhole folder) whole_lines ⊥ (IsFlawed folder) (Rose old.faults new.faults) folder e end w is.told (first folder told)
+    (rose folder told) (λ name place why bad. inl bad))
+    (refusal_faults end old new w (early_quiet e end is.answers is.told)
+    (λ ends. ⊎_elim inl (λ lack. inr lack.1) (failed (early_failed e end is.answers is.told ends)))
+    (⊎_elim (λ same. inl (node_failure_told e end is.told same)) inr is.caused.others))
+    (λ folder place told wrong calm. early_slots folder place e end is.told (first folder told) wrong (λ same. calm.0 (rose folder told same)))
+
+-- ---- the store is refused
+
+pub refused_checked : {A : Type 0} (e : StoreFault) (end : Tended) (old new : DiskState) (w : SinkState) → IfTold old.files HasSlots
     → IfTold old.files (λ folder. IsRefusal VERSION_1_SIZE folder e) → IsOfMount e → IsToldOf e end → Asks {A = A} (Err e) old new
     → Checked end old new w w
-refused_checked e end old new w refused answer is asks =
+refused_checked e end old new w slots refused answer is asks =
     checked_of end old new w w
-    (λ folder told settled. refused_ends (FitsWhole folder) (λ d. check_lines (status_of d)) ⊥ (IsFlawed folder) old new folder e end w told is
-    (told_so old.files folder (λ f. IsRefusal VERSION_1_SIZE f e) told refused) asks (λ name place why bad. inl bad))
-    (refused_faults e end old new w answer is asks)
+    (λ folder told settled. refused_ends (FitsWhole folder) whole_lines ⊥ (IsFlawed folder) (Rose old.faults new.faults) folder e end w is
+    (told_so old.files folder (λ f. IsRefusal VERSION_1_SIZE f e) told refused) (inr (told_so old.files folder HasSlots told slots))
+    (λ same. ⊎_elim (λ rose. rose) (λ lack. absurd (let both : Some folder ≡ None = sym told ∙ lack.0 in cc)) (asks.failed (ap (λ f. Err f) same)))
+    (λ name place why bad. inl bad))
+    (refused_faults e end old new w answer is asks) (no_slots end old new w w slots)
 
 -- ---- the log is judged
 
@@ -104,10 +135,17 @@ abbrev BacksMounted : DiskState → DiskState → Head → Type 0
 BacksMounted old mid h = (folder : Folder) (d : Durable) → old.files ≡ Some folder → StandsFor VERSION_1_SIZE folder d
     → ((image : Folder) → old.may_leave image → StandsFor VERSION_1_SIZE image d) → Backs mid h (mounted_state d)
 
-module _ {A : Type 0} (x : A) (h : Head) (end : Tended) (old mid new : DiskState) (w w' : SinkState)
+-- the lines of a store that was mounted
+abbrev lines_of : Head → List ℕ
+lines_of h = check_lines (identity_in (head.status_of h))
+
+module _ {A : Type 0} (x : A) (h : Head) (end : Tended) (old mid new : DiskState) (w w' : SinkState) (slots : IfTold old.files HasSlots)
     (mounted : IfTold old.files (IsMountedOn h)) (backs : BacksMounted old mid h) (asks : Asks {A = A} (Ok x) old mid) where
   found_in : (folder : Folder) → old.files ≡ Some folder → IsMountedOn h folder
   found_in folder told = told_so old.files folder (IsMountedOn h) told mounted
+
+  slots_in : (folder : Folder) → old.files ≡ Some folder → HasSlots folder
+  slots_in folder told = told_so old.files folder HasSlots told slots
 
   backs_in : (folder : Folder) (told : old.files ≡ Some folder) → IsSettled old folder → Backs mid h (mounted_state (found_in folder told).0)
   backs_in folder told settled =
@@ -116,15 +154,19 @@ module _ {A : Type 0} (x : A) (h : Head) (end : Tended) (old mid new : DiskState
 
   -- the log fits, and that was printed
   pub printed_checked : ((s : State) → Backs mid h s → found.LogFits h s) → Stood mid.faults new.faults
-      → IsPrinted (check_lines (head.status_of h)) end w w' → Checked end old new w w'
+      → IsPrinted (lines_of h) end w w' → Checked end old new w w'
   printed_checked fits stood printed =
       checked_of end old new w w'
       (λ folder told settled.
       let d = found_in folder told in
-      let whole : FitsWhole folder d.0 = record { stands = d.1; fits = log_fits h d.0 d.2 (fits (mounted_state d.0) (backs_in folder told settled)) } in
-      printed_ends (FitsWhole folder) (λ d. check_lines (status_of d)) ⊥ (IsFlawed folder) old new d.0 end w w' whole
-      (subst (λ s. IsPrinted (check_lines s) end w w') (status_same h d.0 d.2) printed))
-      (printed_faults (check_lines (head.status_of h)) end old new w w' printed (stood ∙ asks.ok.0))
+      let whole : FitsWhole folder d.0 = record {
+        stands = d.1;
+        slots = slots_in folder told;
+        fits = log_fits h d.0 d.2 (fits (mounted_state d.0) (backs_in folder told settled));
+      } in
+      printed_ends (FitsWhole folder) whole_lines ⊥ (IsFlawed folder) (Rose old.faults new.faults) d.0 end w w' whole
+      (subst (λ s. IsPrinted (check_lines (identity_in s)) end w w') (status_same h d.0 d.2) printed))
+      (printed_faults (lines_of h) end old new w w' printed (stood ∙ asks.ok.0)) (no_slots end old new w w' slots)
 
   -- the log has a flaw, and that is told
   flawed_checked : (wrong : Flaw) (name : List ℕ) (place : ℕ) (why : DamageReason) → IsDamagedOr name place why end
@@ -134,9 +176,16 @@ module _ {A : Type 0} (x : A) (h : Head) (end : Tended) (old mid new : DiskState
       checked_of end old new w w
       (λ folder told settled.
       let d = found_in folder told in
-      damaged_ends (FitsWhole folder) (λ d. check_lines (status_of d)) ⊥ (IsFlawed folder) old new name place why end w is
-      (inr (d.0, wrong, d.1, log_has h d.0 wrong d.2 (has (mounted_state d.0) (backs_in folder told settled)), at d.0 (sym d.2.same_path))))
-      (damaged_faults name place why end old new w is (stood ∙ asks.ok.0))
+      damaged_ends (FitsWhole folder) whole_lines ⊥ (IsFlawed folder) (Rose old.faults new.faults) name place why end w is
+      (inr (
+        d.0,
+        wrong,
+        d.1,
+        slots_in folder told,
+        log_has h d.0 wrong d.2 (has (mounted_state d.0) (backs_in folder told settled)),
+        at d.0 (sym d.2.same_path),
+      )))
+      (damaged_faults name place why end old new w is (stood ∙ asks.ok.0)) (no_slots end old new w w slots)
 
   -- the log is not found to fit
   pub answered_checked : (e : CheckFault) → IsToldAt h.path e end → (e ≡ check.Broken → ⊥)
@@ -155,19 +204,19 @@ module _ {A : Type 0} (x : A) (h : Head) (end : Tended) (old mid new : DiskState
       (λ folder told settled.
       let d = found_in folder told in
       let rose : Rose mid.faults new.faults = (comes (mounted_state d.0) (backs_in folder told settled)).failed refl in
-      disk_ends (FitsWhole folder) (λ d. check_lines (status_of d)) ⊥ (IsFlawed folder) old new end w is (omega (arith, rose, asks.ok.0)))
+      disk_ends (FitsWhole folder) whole_lines ⊥ (IsFlawed folder) (Rose old.faults new.faults) end w is (omega (arith, rose, asks.ok.0)))
       (disk_faults end old new w is (⊎_elim (λ rose. inl (omega (arith, rose, asks.ok.0))) (λ lack. inr (omega (arith, lack, asks.lacks))) (caused.failed refl)))
+      (no_slots end old new w w slots)
   answered_checked check.Memory is unbroken has caused comes =
       checked_of end old new w w
-      (λ folder told settled. memory_ends (FitsWhole folder) (λ d. check_lines (status_of d)) ⊥ (IsFlawed folder) old new end w is)
-      (memory_faults end old new w is (caused.no_memory refl ∙ asks.ok.0))
+      (λ folder told settled. memory_ends (FitsWhole folder) whole_lines ⊥ (IsFlawed folder) (Rose old.faults new.faults) end w is)
+      (memory_faults end old new w is (caused.no_memory refl ∙ asks.ok.0)) (no_slots end old new w w slots)
 
 -- what is told of a log that was judged
 abbrev pub IsTold : Head → Result (Unit {0}) CheckFault → Tended → SinkState → SinkState → Type 0
-IsTold h result end w w' = MatchResult result (λ _. IsPrinted (check_lines (head.status_of h)) end w w')
-    (λ e. IsToldAt h.path e end × (w' ≡ w))
+IsTold h result end w w' = MatchResult result (λ _. IsPrinted (lines_of h) end w w') (λ e. IsToldAt h.path e end × (w' ≡ w))
 
-module _ {A : Type 0} (x : A) (h : Head) (end : Tended) (old mid new : DiskState) (w w' : SinkState)
+module _ {A : Type 0} (x : A) (h : Head) (end : Tended) (old mid new : DiskState) (w w' : SinkState) (slots : IfTold old.files HasSlots)
     (mounted : IfTold old.files (IsMountedOn h)) (backs : BacksMounted old mid h) (asks : Asks {A = A} (Ok x) old mid) where
   pub judged_checked : (result : Result (Unit {0}) CheckFault)
       → OnOk (read_of result) ((s : State) → Backs mid h s → IsOk result ↔ found.LogFits h s)
@@ -176,8 +225,21 @@ module _ {A : Type 0} (x : A) (h : Head) (end : Tended) (old mid new : DiskState
       → ((s : State) → Backs mid h s → Comes (read_of result) mid new h (Before s) s (λ t. t ≡ s))
       → IsTold h result end w w' → Checked end old new w w'
   judged_checked (Ok u) exact flawed unbroken caused comes is =
-      printed_checked x h end old mid new w w' mounted backs asks (λ s backed. (exact s backed).0 refl) caused.ok.0 is
+      printed_checked x h end old mid new w w' slots mounted backs asks (λ s backed. (exact s backed).0 refl) caused.ok.0 is
   judged_checked (Err e) exact flawed unbroken caused comes is =
       let P : SinkState → Type 0 = λ v. Checked end old new w v in
-      subst P (sym is.1) (answered_checked x h end old mid new w w mounted backs asks e is.0 (λ same. unbroken (ap Err same))
+      subst P (sym is.1) (answered_checked x h end old mid new w w slots mounted backs asks e is.0 (λ same. unbroken (ap Err same))
       (λ wrong same. flawed wrong (ap Err same)) caused comes)
+
+-- ---- behind a look at the slots
+
+pub checked_behind : (end : Tended) (old mid new : DiskState) (w w' : SinkState) → OnlyReads old mid → Stood old.faults mid.faults
+    → DidNotFall old.lacks mid.lacks → Checked end mid new w w' → Checked end old new w w'
+checked_behind end old mid new w w' only stood lacks checked =
+    let told_then : (folder : Folder) → old.files ≡ Some folder → mid.files ≡ Some folder = λ folder told. only.stayed ∙ told in
+    checked_of end old new w w'
+    (λ folder told settled. ends_behind (FitsWhole folder) whole_lines ⊥ (IsFlawed folder) (Rose mid.faults new.faults) (Rose old.faults new.faults) end w w'
+    (subst (λ n. Rose n new.faults) stood)
+    (checked.ends folder (told_then folder told) (λ d image stands now. settled d image stands (only.none_new image now))))
+    (faults_behind end old mid new w w' stood lacks checked.faults)
+    (λ folder place told wrong calm. checked.slots folder place (told_then folder told) wrong (calm_behind old mid new w w' stood calm))

@@ -7,6 +7,7 @@ use Rattle.repl_check.specs.declared.flaw.Flaw.TheVariants as flaw
 use Rattle.repl_check.specs.Fits.{Fits}
 use Rattle.repl_check.specs.Flaws.{IsFlaw}
 use Rattle.repl_control.specs.declared.control.TheConstants.{VERSION_1_SIZE}
+use Rattle.repl_counts.specs.Counts.{Rose}
 use Rattle.repl_disk.specs.Folder.{Folder}
 use Rattle.repl_disk.specs.State.{DiskState}
 use Rattle.repl_io.specs.Sink.{SinkState}
@@ -15,11 +16,14 @@ use Rattle.repl_lsn.specs.Path.{timeline_at}
 use Rattle.repl_page.specs.declared.ident.Ident.{Ident}
 use Rattle.repl_status.specs.declared.damage.DamageReason.TheVariants as damage
 use Rattle.repl_store.specs.Durable.{Durable, StandsFor, control_name, segment_file}
+use Rattle.repl_slots.specs.Stored.{slots_name}
 use Rattle.repl_tend.specs.Damages.{IsDamagedOr}
+use Rattle.repl_tend.specs.Files.{HasSlots, HasWrongSlots, IsSettled}
 use Rattle.repl_tend.specs.Lines.{check_lines}
 use Rattle.repl_tend.specs.Tending.{Damage, Ends, IsCalm, IsDamaged, IsDone, TellsFaults, status_of}
 use Rattle.repl_tend.specs.declared.tended.Tended.{Tended}
 use Rattle.repl_tend.specs.declared.tended.Tended.TheVariants as tended
+use Rattle.repl_wal.specs.State.{identity_in}
 
 -- ---- the log
 
@@ -33,10 +37,6 @@ LogFits d = Fits (identity_of d) (timeline_at d.path) d.control.floor d.bytes d.
 -- it has this flaw
 abbrev pub LogHas : Durable → Flaw → Type 0
 LogHas d wrong = IsFlaw (identity_of d) (timeline_at d.path) d.control.floor d.bytes d.control.whole d.control.prev wrong
-
--- a crash would leave files that stand for what these do
-abbrev pub IsSettled : DiskState → Folder → Type 0
-IsSettled disk folder = (d : Durable) (image : Folder) → StandsFor VERSION_1_SIZE folder d → disk.may_leave image → StandsFor VERSION_1_SIZE image d
 
 -- ---- damage
 
@@ -59,21 +59,28 @@ IsToldAt path check.Memory end = end ≡ tended.Memory
 
 -- ---- the command
 
--- the files stand for a store whose log fits
+-- the files stand for slots and for a store, whose log fits
 pub record FitsWhole (folder : Folder) (d : Durable) : Type 0 where
   pub stands : StandsFor VERSION_1_SIZE folder d
+  pub slots : HasSlots folder
   pub fits : LogFits d
 
--- the files stand for no store, or for one whose log has a flaw, which is this damage
+-- they do not, or the log of the store has a flaw, which is this damage
 abbrev pub IsFlawed : Folder → Damage
 IsFlawed folder name place why = IsDamaged folder name place why
-    ⊎ ((d : Durable) × (wrong : Flaw) × StandsFor VERSION_1_SIZE folder d × LogHas d wrong × IsDamageAt d wrong name place why)
+    ⊎ ((d : Durable) × (wrong : Flaw) × StandsFor VERSION_1_SIZE folder d × HasSlots folder × LogHas d wrong × IsDamageAt d wrong name place why)
+
+abbrev pub whole_lines : Durable → List ℕ
+whole_lines d = check_lines (identity_in (status_of d))
 
 -- What `check` does, where a crash would leave what the disk has: it prints that all fits, and the line of the store, or
--- tells the first that is wrong: of control, history, segments, and then of the log.
+-- tells the first that is wrong: of control, slots, history, segments, and then of the log.
 pub record Checked (end : Tended) (old new : DiskState) (w w' : SinkState) : Type 0 where
   pub ends : (folder : Folder) → old.files ≡ Some folder → IsSettled old folder
-      → Ends (FitsWhole folder) (λ d. check_lines (status_of d)) ⊥ (IsFlawed folder) end old new w w'
+      → Ends (FitsWhole folder) whole_lines ⊥ (IsFlawed folder) (Rose old.faults new.faults) end w w'
   pub faults : TellsFaults end old new w w'
-  -- Unless an object is faulty or memory runs out, a store whose log fits is told to fit.
+  -- Unless an object is faulty or memory runs out, a store whose log fits is told to fit,
   pub complete : (folder : Folder) (d : Durable) → old.files ≡ Some folder → IsSettled old folder → FitsWhole folder d → IsCalm old new w w' → IsDone end
+  -- and wrong slots are told.
+  pub slots : (folder : Folder) (place : ℕ) → old.files ≡ Some folder → HasWrongSlots folder place → IsCalm old new w w'
+      → (end ≡ tended.Damaged slots_name place damage.Slots) ⊎ (end ≡ tended.Memory)

@@ -1,4 +1,5 @@
 pub mod Lines
+pub mod Files
 pub mod Tending
 pub mod Damages
 pub mod Printing

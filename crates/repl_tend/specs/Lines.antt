@@ -4,7 +4,7 @@ use Rattle.std.specs.Fmt.{decimal}
 use Rattle.repl_control.specs.declared.control.Role.{Role}
 use Rattle.repl_control.specs.declared.control.Role.TheVariants as role
 use Rattle.repl_lsn.specs.Position.{position_text}
-use Rattle.repl_store.specs.declared.store.StoreStatus.{StoreStatus}
+use Rattle.repl_wal.specs.declared.wal.Identity.{Identity}
 
 abbrev pub ok_line : List ℕ
 ok_line = codes "ok" ++ 10 ∷ []
@@ -18,9 +18,9 @@ abbrev pub spaced : List ℕ → List ℕ → List ℕ
 spaced word rest = word ++ 32 ∷ rest
 
 -- the system's identifier, the role, the timeline, the floor, the whole end and the flushed end
-abbrev pub status_line : StoreStatus → List ℕ
-status_line status = spaced (decimal status.sysid) (spaced (role_word status.role) (spaced (decimal status.tli)
-    (spaced (position_text status.floor) (spaced (position_text status.whole) (position_text status.flushed ++ 10 ∷ [])))))
+abbrev pub status_line : Identity → List ℕ
+status_line identity = spaced (decimal identity.sysid) (spaced (role_word identity.role) (spaced (decimal identity.tli)
+    (spaced (position_text identity.floor) (spaced (position_text identity.whole) (position_text identity.flushed ++ 10 ∷ [])))))
 
-abbrev pub check_lines : StoreStatus → List ℕ
-check_lines status = ok_line ++ status_line status
+abbrev pub check_lines : Identity → List ℕ
+check_lines identity = ok_line ++ status_line identity

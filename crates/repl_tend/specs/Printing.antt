@@ -1,6 +1,5 @@
 -- How the writing of lines ends.
 use Rattle.std.specs.Prelude.{◌≡◌, ℕ, ◌⊎◌, List}
-use Rattle.repl_counts.specs.Counts.{Stood}
 use Rattle.repl_io.specs.Sink.{SinkState, Sends}
 use Rattle.repl_io.specs.declared.sink.Sent.{Sent}
 use Rattle.repl_tend.specs.declared.tended.Tended.{Tended}

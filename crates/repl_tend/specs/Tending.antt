@@ -1,6 +1,6 @@
 -- What the commands on a store do, by what the disk and the sink tell and count: `old` and `new` are the disk before and
 -- after it, `w` and `w'` the sink.
-use Rattle.std.specs.Prelude.{◌≡◌, ℕ, ◌⊎◌, List, Bool, true, false, Some, None, IsSome}
+use Rattle.std.specs.Prelude.{◌≡◌, ℕ, ◌%◌, ◌/◌, ◌⊎◌, List, [], Bool, true, false, Some, None, IsSome}
 use Rattle.repl_control.specs.declared.control.Role.{Role}
 use Rattle.repl_control.specs.declared.control.TheConstants.{VERSION_1_SIZE}
 use Rattle.repl_counts.specs.Counts.{Rose, RoseExactly, Stood}
@@ -14,19 +14,26 @@ use Rattle.repl_counts.specs.Told.{Gained, Kept}
 use Rattle.repl_lsn.specs.declared.fault.HistoryFault.{HistoryFault}
 use Rattle.repl_lsn.specs.declared.fault.HistoryFault.TheVariants as history
 use Rattle.repl_lsn.specs.Segment.{history_name}
+use Rattle.repl_node.specs.Making.{IsBeforeSlots, IsBegun, SlotsAgree}
 use Rattle.repl_page.specs.declared.ident.Ident.{Ident}
+use Rattle.repl_slots.specs.Stored.{Stores, slots_name}
 use Rattle.repl_status.specs.declared.damage.DamageReason.{DamageReason}
 use Rattle.repl_status.specs.declared.damage.DamageReason.TheVariants as damage
 use Rattle.repl_store.specs.declared.fault.StoreFault.{StoreFault}
 use Rattle.repl_store.specs.declared.fault.StoreFault.TheVariants as fault
 use Rattle.repl_store.specs.declared.store.StoreStatus.{StoreStatus}
 use Rattle.repl_store.specs.Backing.{OnlyReads}
-use Rattle.repl_store.specs.Creating.{IsMaking, fresh}
-use Rattle.repl_store.specs.Durable.{Durable, StandsFor, control_name}
+use Rattle.repl_store.specs.Creating.{fresh}
+use Rattle.repl_store.specs.Durable.{Durable, IsKnown, StandsFor, control_name, segment_file}
 use Rattle.repl_store.specs.Refusal.{IsRefusal}
 use Rattle.repl_tend.specs.declared.tended.Tended.{Tended}
 use Rattle.repl_tend.specs.declared.tended.Tended.TheVariants as tended
+use Rattle.repl_tend.specs.Files.{AreSettled, HasSlots, HasWrongSlots, TailFits}
 use Rattle.repl_tend.specs.Lines.{ok_line, status_line}
+use Rattle.repl_wal.specs.Making.{IsWrongTail}
+use Rattle.repl_wal.specs.State.{identity_in}
+use Rattle.repl_wal.specs.declared.fault.NodeFault.{NodeFault}
+use Rattle.repl_wal.specs.declared.fault.NodeFault.TheVariants as node
 
 -- ---- what is told of a store
 
@@ -70,9 +77,27 @@ IsDamageOf (fault.ShortFile file have wanted) name place why = (name ≡ file) �
 IsDamageOf fault.DiskFault name place why = ⊥
 IsDamageOf fault.Memory name place why = ⊥
 
--- the files stand for no store, and this is the first that is wrong, in the order control, history, segments
+-- The files stand for no store, or for one whose slots are wrong, and this is the first that is wrong, in the order control,
+-- slots, history, segments.
 abbrev pub IsDamaged : Folder → Damage
-IsDamaged folder name place why = (e : StoreFault) × IsRefusal VERSION_1_SIZE folder e × IsDamageOf e name place why
+IsDamaged folder name place why = (HasWrongSlots folder place × (name ≡ slots_name) × (why ≡ damage.Slots))
+    ⊎ ((e : StoreFault) × (IsBeforeSlots e ⊎ HasSlots folder) × IsRefusal VERSION_1_SIZE folder e × IsDamageOf e name place why)
+
+-- what is told where this is wrong behind the whole end: that end in the control, or the record or page
+abbrev pub IsDamageBehind : Durable → NodeFault → Damage
+IsDamageBehind d (node.BadControl at) name place why = (name ≡ control_name) × (place ≡ at) × (why ≡ damage.Control)
+IsDamageBehind d (node.Damaged at reason) name place why = (name ≡ segment_file VERSION_1_SIZE d.path (at / VERSION_1_SIZE))
+    × (place ≡ at % VERSION_1_SIZE) × (why ≡ damage.Bad reason)
+IsDamageBehind d e name place why = ⊥
+
+abbrev pub HasWrongTail : Durable → Damage
+HasWrongTail d name place why = (e : NodeFault) × IsWrongTail VERSION_1_SIZE d e × IsDamageBehind d e name place why
+
+-- That; or they stand for a store and for slots, and what is flushed behind the whole end is wrong. What stands there is known
+-- where a crash would leave what the disk has.
+abbrev pub IsDamagedNode : DiskState → Folder → Damage
+IsDamagedNode disk folder name place why = IsDamaged folder name place why
+    ⊎ ((d : Durable) × StandsFor VERSION_1_SIZE folder d × HasSlots folder × (AreSettled disk folder → HasWrongTail d name place why))
 
 -- ---- writing
 
@@ -99,15 +124,15 @@ is_write_fault tended.Exists = false
 is_write_fault tended.DiskFault = false
 is_write_fault tended.Memory = false
 
--- How a command ends that writes the text `text x` for some x that `Is`. Where it is damaged, or memory runs out before the
--- writing, nothing is written.
-abbrev pub Ends : {X : Type 0} → (X → Type 0) → (X → List ℕ) → Type 0 → Damage → Tended → DiskState → DiskState → SinkState → SinkState → Type 0
-Ends {X} Is text IsThere Bad tended.Done old new w w' = (x : X) × Is x × Wrote (text x) w w'
-Ends {X} Is text IsThere Bad (tended.Damaged name place why) old new w w' = Bad name place why × WroteNothing w w'
-Ends {X} Is text IsThere Bad tended.Exists old new w w' = IsThere × WroteNothing w w'
-Ends {X} Is text IsThere Bad tended.DiskFault old new w w' = Rose old.faults new.faults × WroteNothing w w'
-Ends {X} Is text IsThere Bad tended.WriteFault old new w w' = Rose w.faults w'.faults × ((x : X) × Is x × WroteFront (text x) w w')
-Ends {X} Is text IsThere Bad tended.Memory old new w w' = WroteNothing w w' ⊎ (Rose w.wants w'.wants × ((x : X) × Is x × WroteFront (text x) w w'))
+-- How a command ends that writes the text `text x` for some x that `Is`. Where it is damaged, where the disk `Failed`, or where
+-- memory runs out before the writing, nothing is written.
+abbrev pub Ends : {X : Type 0} → (X → Type 0) → (X → List ℕ) → Type 0 → Damage → Type 0 → Tended → SinkState → SinkState → Type 0
+Ends {X} Is text IsThere Bad Failed tended.Done w w' = (x : X) × Is x × Wrote (text x) w w'
+Ends {X} Is text IsThere Bad Failed (tended.Damaged name place why) w w' = Bad name place why × WroteNothing w w'
+Ends {X} Is text IsThere Bad Failed tended.Exists w w' = IsThere × WroteNothing w w'
+Ends {X} Is text IsThere Bad Failed tended.DiskFault w w' = Failed × WroteNothing w w'
+Ends {X} Is text IsThere Bad Failed tended.WriteFault w w' = Rose w.faults w'.faults × ((x : X) × Is x × WroteFront (text x) w w')
+Ends {X} Is text IsThere Bad Failed tended.Memory w w' = WroteNothing w w' ⊎ (Rose w.wants w'.wants × ((x : X) × Is x × WroteFront (text x) w w'))
 
 -- What holds over every disk: faults are told where an object counted one. A disk that does not tell its files may count a lack
 -- in place of a fault.
@@ -125,23 +150,44 @@ IsDone end = (end ≡ tended.Done) ⊎ (end ≡ tended.Memory)
 
 -- ---- the commands
 
--- What `status` does: it prints the line of the store that the files stand for, or tells the first that is wrong.
+-- The files stand for this store and for slots, and what is flushed behind the whole end is right, which is known where a crash
+-- would leave what the disk has.
+pub record IsNode (disk : DiskState) (folder : Folder) (d : Durable) : Type 0 where
+  pub stands : StandsFor VERSION_1_SIZE folder d
+  pub slots : HasSlots folder
+  pub tail : AreSettled disk folder → TailFits d
+
+abbrev pub node_line : Durable → List ℕ
+node_line d = status_line (identity_in (status_of d))
+
+-- What `status` does: it prints the line of the node that the files stand for, or tells the first that is wrong. That a failure
+-- of the disk was counted is known where a crash would leave what the disk has.
 pub record Stated (end : Tended) (old new : DiskState) (w w' : SinkState) : Type 0 where
-  pub ends : IfTold old.files (λ folder. Ends (λ d. StandsFor VERSION_1_SIZE folder d) (λ d. status_line (status_of d)) ⊥ (IsDamaged folder) end old new w w')
+  pub ends : IfTold old.files (λ folder. Ends (IsNode old folder) node_line ⊥ (IsDamagedNode old folder)
+      (AreSettled old folder → Rose old.faults new.faults) end w w')
   pub only : OnlyReads old new
   pub faults : TellsFaults end old new w w'
-  -- Unless an object is faulty or memory runs out, a store is told.
-  pub complete : (folder : Folder) (d : Durable) → old.files ≡ Some folder → StandsFor VERSION_1_SIZE folder d → IsCalm old new w w' → IsDone end
+  -- Unless an object is faulty or memory runs out, a node is told,
+  pub complete : (folder : Folder) (d : Durable) → old.files ≡ Some folder → AreSettled old folder → IsNode old folder d → IsCalm old new w w'
+      → IsDone end
+  -- and so are wrong slots.
+  pub slots : (folder : Folder) (place : ℕ) → old.files ≡ Some folder → HasWrongSlots folder place → IsCalm old new w w'
+      → (end ≡ tended.Damaged slots_name place damage.Slots) ⊎ (end ≡ tended.Memory)
 
--- every image is the new store, and there was none
-abbrev pub IsNew : Role → Ident → Folder → DiskState → Unit {0} → Type 0
-IsNew role ident folder new _ = (folder control_name ≡ None)
-    × ((image : Folder) → new.may_leave image → (known : ℕ) × StandsFor VERSION_1_SIZE image (fresh role ident known))
+-- There was no store, and every image is the new one. It has no slots: so does every image, where the disk read as if it had
+-- none and a crash left none, and where each image from before has heard of the same timelines.
+pub record IsNew (role : Role) (ident : Ident) (folder : Folder) (old new : DiskState) (u : Unit {0}) : Type 0 where
+  pub none : folder control_name ≡ None
+  pub images : (image : Folder) → new.may_leave image → (known : ℕ) × StandsFor VERSION_1_SIZE image (fresh role ident known)
+  pub slots : (known : ℕ) → SlotsAgree old → ((image : Folder) → old.may_leave image → IsKnown image 1 known)
+      → (image : Folder) → new.may_leave image → Stores [] image
 
--- What `init` does: it makes a store, unless one is there.
+-- What `init` does: it makes a node, unless a store is there.
 pub record Initiated (role : Role) (ident : Ident) (end : Tended) (old new : DiskState) (w w' : SinkState) : Type 0 where
-  pub ends : IfTold old.files (λ folder. Ends (IsNew role ident folder new) (λ _. ok_line) (IsSome (folder control_name)) (λ name place why. ⊥) end old new w w')
-  pub moments : IfTold old.files (λ folder. LeavesOnly old new (IsMaking old.may_leave role ident))
+  pub ends : IfTold old.files (λ folder. Ends (IsNew role ident folder old new) (λ _. ok_line) (IsSome (folder control_name)) (λ name place why. ⊥)
+      (Rose old.faults new.faults) end w w')
+  -- A crash leaves what one before might have left, but for its slots, or the new store.
+  pub moments : IfTold old.files (λ folder. LeavesOnly old new (IsBegun old.may_leave role ident))
   pub faults : TellsFaults end old new w w'
   -- Unless an object is faulty or memory runs out, a store is made where none is, and else that is told.
   pub complete : (folder : Folder) → old.files ≡ Some folder → folder control_name ≡ None → IsCalm old new w w' → IsDone end

@@ -1,6 +1,7 @@
 //! What is told where the files of a disk stand for no store.
 ghost use Rattle.std.specs.Prelude.{◌≡◌};
 ghost use Rattle.repl_lsn.specs.Segment.{history_name};
+ghost use Rattle.repl_slots.specs.Stored.{slots_name};
 ghost use Rattle.repl_status.specs.declared.damage.DamageReason.TheVariants as reason;
 ghost use Rattle.repl_store.specs.Durable.{control_name};
 ghost use Rattle.repl_text.specs.Text.{IsText};
@@ -51,8 +52,22 @@ pub(crate) fn control_damage(alloc: Global, place: u64) -> Tended
     }
 }
 
+/// The file of the slots is wrong at this byte.
+pub(crate) fn slots_damage(alloc: Global, place: u64) -> Tended
+    ensures { IsDamagedOr slots_name place reason.Slots result }
+{
+    match Text::literal(alloc, "slots") {
+        Ok(name) => Tended::Damaged {
+            name,
+            place,
+            why: DamageReason::Slots,
+        },
+        Err(_) => Tended::Memory,
+    }
+}
+
 /// The history of this timeline is wrong.
-fn history_damage(alloc: Global, tli: Tli, fault: HistoryFault) -> Tended
+pub(crate) fn history_damage(alloc: Global, tli: Tli, fault: HistoryFault) -> Tended
     ensures { IsDamagedOr (history_name tli) (line_of fault) (reason.History fault) result }
 {
     match history_file(alloc, tli) {

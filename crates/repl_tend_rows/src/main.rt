@@ -1,8 +1,9 @@
 //! `repl_tend_rows`: the table of tests of `repl_tend`, read as rows from standard input.
 //!
 //! `repl_table` says how a table is written. All its subjects have one disk in memory, which stays from row to row, and
-//! `fresh` begins anew. `tend` makes stores and looks at them; `damages` makes one store, and then one thing wrong with it
-//! after another: a row does damage to a file, has the store judged, and puts the file back.
+//! `fresh` begins anew. `tend` makes stores and looks at them; `damages` and `segments` make one store each, and then one thing
+//! wrong with it after another: a row does damage to a file, has the store judged, and puts the file back. `slots` has files of
+//! slots beside stores, and what is flushed behind the whole end of one.
 #![tactic(auto)]
 
 mod building;
@@ -18,6 +19,9 @@ use repl_table::{Answer, Call, Miss, Rows, count_rows, is};
 use std::alloc::Global;
 use std::io;
 
+/// The subjects of the table.
+const SUBJECTS: [&str; 4] = ["tend", "damages", "segments", "slots"];
+
 /// What rows change.
 #[derive(Drop)]
 struct Subject {
@@ -26,7 +30,7 @@ struct Subject {
 
 impl Rows for Subject {
     fn answer(&mut self, alloc: Global, subject: &str, call: &Call) -> Answer {
-        if !is(subject, "tend") && !is(subject, "damages") && !is(subject, "segments") {
+        if !SUBJECTS.iter().any(|name| is(subject, name)) {
             return Err(Miss::Call);
         }
         calls::answer(alloc, &mut self.disk, call)

@@ -1,0 +1,33 @@
+-- The node's own call.
+use Rattle.std.proofs.Common.{ℕ, subst}
+use Rattle.repl_hub.specs.Holding.{Comes, HeldHub, Holds}
+use Rattle.repl_hub.specs.Log.{IsReceive}
+use Rattle.repl_hub.proofs.Nodes.{held_with, kept_behind, of_node, over_any, untold}
+use Rattle.repl_node.specs.State.{LeftOf, NodeState}
+use Rattle.repl_node.specs.Steps.{OfLog, SameLeft}
+use Rattle.repl_wal.specs.Steps.{Old}
+use Rattle.repl_wal.specs.Writing.{Receives}
+use Rattle.repl_hub.proofs.hub.HubState.receive.Goals as goal
+
+pub invariant_of-self : goal.invariant_of-self
+invariant_of-self g c =
+    let state = g.D.Disk.state in
+    let result = c.receive.result in
+    let before : HeldHub g.row.D.Denot = record { node = c.self.inside.node; sync = c.self.inside.sync; links = c.self.inside.links.items; last = c.self.inside.last; stopped = c.self.inside.stopped } in
+    let n : NodeState = untold c.self.invariant.node in
+    kept_behind {A = ℕ} result (state before.node.wal.store.disk) (state c.receive.new.self.wal.store.disk) before c.receive.new.self c.self.invariant
+    (OfLog n (Receives n.log c.args.tli c.args.start c.args.bytes.now result)) (LeftOf n (Old n.log))
+    (c.receive.ensures.steps n (over_any (state before.node.wal.store.disk) before.node c.self.invariant.node c.self.invariant.remembers))
+
+pub returns-clause-steps : goal.returns-clause-steps
+returns-clause-steps g c h =
+    let state = g.D.Disk.state in
+    let result = c.receive.result in
+    let before : HeldHub g.row.D.Denot = record { node = c.self.inside.node; sync = c.self.inside.sync; links = c.self.inside.links.items; last = c.self.inside.last; stopped = c.self.inside.stopped } in
+    let after = c.receive.new.self in
+    let n : NodeState = h.node in
+    let From : HeldHub g.row.D.Denot → Type 0 = λ k. Holds (state k.node.wal.store.disk) k h → Comes {A = ℕ} result (state k.node.wal.store.disk)
+    (state after.wal.store.disk) (held_with before after before.sync) h (IsReceive h c.args.tli c.args.start c.args.bytes.now result) (SameLeft h.node) in
+    subst From c.self.view_is (λ holds.
+    of_node result (state before.node.wal.store.disk) (state after.wal.store.disk) before after h
+    (OfLog n (Receives n.log c.args.tli c.args.start c.args.bytes.now result)) (LeftOf n (Old n.log)) holds (c.receive.ensures.steps n holds.node))

@@ -1,0 +1,12 @@
+pub mod State
+pub mod Holding
+pub mod Log
+pub mod Slots
+pub mod Sessions
+pub mod Waits
+pub mod Step
+pub mod Leaving
+pub mod Quiet
+pub mod Certain
+pub mod Pass
+pub mod Commit
