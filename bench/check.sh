@@ -2,13 +2,13 @@
 # MiB a second that `pgnode check` judges, over a store whose records have bodies of 8 KiB, beside `pg_waldump --stats` over as
 # many bytes of PostgreSQL's own log, whose records are messages of 8 KiB. Five runs of each by turns behind one that warms
 # the system's cache; the figures are medians. Then the most memory that a run of each holds.
-# Run after `make` and `cd crates/repl_store_bench && rt run`: check.sh [MIB]. Wants PostgreSQL 15 or later, in PGBIN, and GNU
+# Run after `make` and `cd crates/bench_store && rt run`: check.sh [MIB]. Wants PostgreSQL 15 or later, in PGBIN, and GNU
 # time. A server does not run as root: there it runs as the user `postgres`. The folder is made in /tmp, or in FOLDER. CHECK and FILL
 # name other programs.
 set -euo pipefail
 top=$(cd "$(dirname "$0")/.." && pwd)
 check=${CHECK:-$top/bin/pgnode}
-fill=${FILL:-$top/crates/repl_store_bench/out/repl_store_bench}
+fill=${FILL:-$top/crates/bench_store/out/bench_store}
 pg=${PGBIN:-/usr/lib/postgresql/15/bin}
 mib=${1:-1024}
 place=$(mktemp -d "${FOLDER:-/tmp}/check_bench.XXXXXX")

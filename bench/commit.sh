@@ -1,10 +1,10 @@
 #!/usr/bin/env bash
 # Eight clients that commit, and one standby: events, wake-ups by a change, sleeps of any kind and processor time for each
-# commit. Run after `cd crates/repl_bench && rt run -- turn 2 1000`, on a machine that does nothing else; BENCH names another
+# commit. Run after `cd crates/bench_parts && rt run -- turn 2 1000`, on a machine that does nothing else; BENCH names another
 # program of the same arguments.
 set -eu
 cd "$(dirname "$0")/.."
-exec python3 - "${BENCH:-crates/repl_bench/out/repl_bench}" <<'PYTHON'
+exec python3 - "${BENCH:-crates/bench_parts/out/bench_parts}" <<'PYTHON'
 import resource
 import subprocess
 import sys

@@ -5,11 +5,11 @@
 # written aside, synced and renamed, and the folder, which is synced. Then records with bodies of 100 bytes that a primary
 # appends in a second, with one flush behind the last. Five runs of each by turns; the figures are medians. At last the
 # instructions of an append, counted by valgrind's callgrind as the difference of two runs.
-# Run after `cd crates/repl_node_bench && rt run`. The folder is made in the present one, or in FOLDER. BENCH names another
+# Run after `cd crates/bench_node && rt run`. The folder is made in the present one, or in FOLDER. BENCH names another
 # program.
 set -eu
 top=$(cd "$(dirname "$0")/.." && pwd)
-bench=${BENCH:-$top/crates/repl_node_bench/out/repl_node_bench}
+bench=${BENCH:-$top/crates/bench_node/out/bench_node}
 mib=${1:-1024}
 appends=${2:-100000}
 place=$(mktemp -d "${FOLDER:-.}/node_bench.XXXXXX")

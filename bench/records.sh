@@ -1,10 +1,10 @@
 #!/usr/bin/env bash
 # Instructions for each byte: of the checksum over 64 KiB, of a walk over a log of 128 records with bodies of 8 KiB, and of
 # laying one such record out, counted by valgrind's callgrind as the difference of two runs, so that what stands before
-# does not count. Run after `cd crates/repl_bench && rt run -- turn 2 1000`.
+# does not count. Run after `cd crates/bench_parts && rt run -- turn 2 1000`.
 set -eu
 cd "$(dirname "$0")/.."
-bench=crates/repl_bench/out/repl_bench
+bench=crates/bench_parts/out/bench_parts
 
 instructions() { # WAY SIZE ROUNDS
   valgrind --tool=callgrind --callgrind-out-file=/dev/null "$bench" "$1" "$2" "$3" 2>&1 > /dev/null |

@@ -2,9 +2,9 @@
 # MiB a second that a store writes into a folder, in pieces of 128 KiB with a flush behind each segment of 16 MiB, beside
 # `dd` with the same syncs: a file for each segment, which is synced, then a control of 56 bytes that is written aside,
 # synced and renamed, and the folder, which is synced. Five runs of each by turns; the figures are medians.
-# Run after `cd crates/repl_store_bench && rt run`. The folder is made in the present one, or in FOLDER.
+# Run after `cd crates/bench_store && rt run`. The folder is made in the present one, or in FOLDER.
 set -eu
-bench=$(cd "$(dirname "$0")/.." && pwd)/crates/repl_store_bench/out/repl_store_bench
+bench=$(cd "$(dirname "$0")/.." && pwd)/crates/bench_store/out/bench_store
 mib=${1:-1024}
 place=$(mktemp -d "${FOLDER:-.}/store_bench.XXXXXX")
 trap 'rm -rf "$place"' EXIT

@@ -1,9 +1,9 @@
 #!/usr/bin/env bash
 # Events on a shared counter under a turn and under std's Mutex, by one, two and four threads: events in a second of each,
-# and their ratio. BENCH names another program of the same arguments. Run after `cd crates/repl_bench && rt run -- turn 2 1000`, on a machine that does nothing else.
+# and their ratio. BENCH names another program of the same arguments. Run after `cd crates/bench_parts && rt run -- turn 2 1000`, on a machine that does nothing else.
 set -eu
 cd "$(dirname "$0")/.."
-bench=${BENCH:-crates/repl_bench/out/repl_bench}
+bench=${BENCH:-crates/bench_parts/out/bench_parts}
 events=${1:-2000000}
 
 seconds() { # WAY THREADS EVENTS

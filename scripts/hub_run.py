@@ -1,8 +1,8 @@
 #!/usr/bin/env python3
 """Rows of random runs of events on one hub, with the replies of a plain twin.
 
-Prints 500 rows for crates/repl_hub_rows/stdin for each seed: `hub_run.py 7 45` printed those that stand there, and others are
-tried with `(echo "== hub"; scripts/hub_run.py SEED..) | bin/repl_hub_rows`. The twin is two: a node as its timelines, the ends of its records and its slots,
+Prints 500 rows for crates/rows_hub/stdin for each seed: `hub_run.py 7 45` printed those that stand there, and others are
+tried with `(echo "== hub"; scripts/hub_run.py SEED..) | bin/rows_hub`. The twin is two: a node as its timelines, the ends of its records and its slots,
 and those who wait as sessions, a list of standbys and tickets, after PostgreSQL's manual (sections "Synchronous Replication",
 "Replication Slots" and "Timelines"). A record has 24 bytes before its body and ends at a multiple of 8; a page has 8192 bytes,
 with a header of 24, and of 40 in front of a segment. Numbers are drawn by a generator of its own, so each run is the same.

@@ -2,9 +2,9 @@
 """A walk over the log of PostgreSQL's own server, whose pages and records have the layout of ours.
 
 Makes a database in a folder of its own, lets pgbench write into it, stops it, and walks over its log with
-`repl_bench log`: as many records have to be whole as pg_waldump prints, the last has to start where pg_waldump's does, and
+`bench_parts log`: as many records have to be whole as pg_waldump prints, the last has to start where pg_waldump's does, and
 behind it the log has to go on with a record of 0 bytes, at the position that pg_waldump names. Run after
-`cd crates/repl_bench && rt run -- turn 2 1000`, by hand. The server listens on a socket in that folder alone, and is
+`cd crates/bench_parts && rt run -- turn 2 1000`, by hand. The server listens on a socket in that folder alone, and is
 stopped at the end. Skipped with a word where PostgreSQL's server is missing.
 """
 import glob
@@ -18,7 +18,7 @@ import sys
 import tempfile
 
 TOP = os.path.dirname(os.path.dirname(os.path.dirname(os.path.abspath(__file__))))
-BENCH = os.path.join(TOP, "crates/repl_bench/out/repl_bench")
+BENCH = os.path.join(TOP, "crates/bench_parts/out/bench_parts")
 TOOLS = ("initdb", "pg_ctl", "pgbench", "pg_waldump")
 
 
@@ -57,7 +57,7 @@ def written(folder, base):
 
 
 def walked(segments):
-    """What `repl_bench log` prints: the count, the last start and end, the place of the fault and its text."""
+    """What `bench_parts log` prints: the count, the last start and end, the place of the fault and its text."""
     with open(segments[0], "rb") as file:
         head = file.read(40)
     (magic,), (system,) = struct.unpack_from("<H", head), struct.unpack_from("<Q", head, 24)
@@ -79,7 +79,7 @@ def dumped(folder, segments):
 def main():
     folder = tools()
     if folder is None or not os.path.exists(BENCH):
-        print("skipped: PostgreSQL's server or repl_bench is missing")
+        print("skipped: PostgreSQL's server or bench_parts is missing")
         return 0
     base = tempfile.mkdtemp(prefix="log")
     try:

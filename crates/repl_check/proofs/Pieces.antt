@@ -6,7 +6,7 @@ use Rattle.std.proofs.lemmas.Bool.{both_ways, cases_lt}
 use Rattle.std.proofs.lemmas.List.{take_at}
 use Rattle.std.proofs.lemmas.Nat.{pow-add, pow_below}
 use Rattle.std.specs.Result.{IsErrAnd}
-use Rattle.repl_counts.specs.Counts.{Rose, Stood}
+use Rattle.repl_effects.specs.Counts.{Rose, Stood}
 use Rattle.repl_disk.specs.Folder.{Folder}
 use Rattle.repl_disk.specs.Moments.{joined, started}
 use Rattle.repl_disk.specs.State.{DiskState}

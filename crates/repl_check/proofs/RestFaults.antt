@@ -14,8 +14,8 @@ use Rattle.repl_record.specs.Record.{content}
 use Rattle.repl_record.proofs.Content.{length-content-take}
 use Rattle.repl_record.proofs.Headers.{no_fault}
 use Rattle.repl_record.proofs.Pages.{header_is, header_is_whole}
-use Rattle.repl_log.specs.Rest.{HeadersFit, IsRestFault, IsWrongGap, IsWrongHeader, due_on, header_at}
-use Rattle.repl_log.proofs.RestPages.{fits_more}
+use Rattle.repl_walk.specs.Rest.{HeadersFit, IsRestFault, IsWrongGap, IsWrongHeader, due_on, header_at}
+use Rattle.repl_walk.proofs.RestPages.{fits_more}
 
 -- bytes have one fault against a header
 same_page_fault : (header : PageHeader) (bytes : List ℕ) (a b : PageFault) → IsPageFault header bytes a → IsPageFault header bytes b → a ≡ b

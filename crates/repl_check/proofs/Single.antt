@@ -16,9 +16,9 @@ use Rattle.repl_record.proofs.ImageRightFronts.{image_over}
 use Rattle.repl_record.proofs.LogAnswers.{same_answer}
 use Rattle.repl_record.proofs.LogChains.{first_record, same_last}
 use Rattle.repl_record.proofs.LogEnds.{from_le}
-use Rattle.repl_log.specs.Faults.{IsFaultBehind}
-use Rattle.repl_log.proofs.BehindAny.{fault_behind, first_fault, one_prev, same_length, told_prev, wrong_no_prefix}
-use Rattle.repl_log.proofs.Faults.{fault_greatest, fault_refutes, same_fault}
+use Rattle.repl_walk.specs.Faults.{IsFaultBehind}
+use Rattle.repl_walk.proofs.BehindAny.{fault_behind, first_fault, one_prev, same_length, told_prev, wrong_no_prefix}
+use Rattle.repl_walk.proofs.Faults.{fault_greatest, fault_refutes, same_fault}
 use Rattle.repl_check.specs.Fits.{IsBefore, IsOrigin}
 
 -- ---- where the record before starts

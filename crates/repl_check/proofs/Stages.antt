@@ -14,14 +14,14 @@ use Rattle.repl_record.proofs.Content.{content-nil}
 use Rattle.repl_record.proofs.Fields.{field-append}
 use Rattle.repl_record.proofs.LogEnds.{from_le}
 use Rattle.repl_record.proofs.Pages.{header_is}
-use Rattle.repl_log.specs.declared.pieces.WalkFault.{WalkFault}
-use Rattle.repl_log.specs.declared.rest.Rest.{Rest}
-use Rattle.repl_log.specs.declared.rest.TheConstants.{REST_LIMIT}
-use Rattle.repl_log.specs.Faults.{IsFaultBehind}
-use Rattle.repl_log.specs.Rest.{HasPassed, IsRest, IsRestWhole, rest_identity}
-use Rattle.repl_log.specs.Walks.{HasWalked}
-use Rattle.repl_log.proofs.Ends.{ends_within}
-use Rattle.repl_log.proofs.Walks.{walked_prefix, walked_whole}
+use Rattle.repl_walk.specs.declared.pieces.WalkFault.{WalkFault}
+use Rattle.repl_walk.specs.declared.rest.Rest.{Rest}
+use Rattle.repl_walk.specs.declared.rest.TheConstants.{REST_LIMIT}
+use Rattle.repl_walk.specs.Faults.{IsFaultBehind}
+use Rattle.repl_walk.specs.Rest.{HasPassed, IsRest, IsRestWhole, rest_identity}
+use Rattle.repl_walk.specs.Walks.{HasWalked}
+use Rattle.repl_walk.proofs.Ends.{ends_within}
+use Rattle.repl_walk.proofs.Walks.{walked_prefix, walked_whole}
 use Rattle.repl_check.specs.declared.log_check.LogCheck.{LogCheck}
 use Rattle.repl_check.specs.declared.log_check.Stage.{Stage}
 use Rattle.repl_check.specs.declared.log_check.Stage.TheVariants as stage

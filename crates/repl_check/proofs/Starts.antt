@@ -5,11 +5,11 @@ use Rattle.repl_lsn.specs.Segment.{IsSegSize}
 use Rattle.repl_page.specs.declared.ident.Ident.{Ident}
 use Rattle.repl_page.specs.Page.{IsPage}
 use Rattle.repl_record.specs.declared.answer.WalkReason.{WalkReason}
-use Rattle.repl_log.proofs.Faults.{fault_more}
-use Rattle.repl_log.proofs.RestAnswers.{fault_not_whole, one_whole, whole_not_begun}
-use Rattle.repl_log.proofs.RestWalks.{whole_more}
-use Rattle.repl_log.proofs.RestWalks.{fault_more as rest_fault_more}
-use Rattle.repl_log.specs.Faults.{IsFaultBehind}
+use Rattle.repl_walk.proofs.Faults.{fault_more}
+use Rattle.repl_walk.proofs.RestAnswers.{fault_not_whole, one_whole, whole_not_begun}
+use Rattle.repl_walk.proofs.RestWalks.{whole_more}
+use Rattle.repl_walk.proofs.RestWalks.{fault_more as rest_fault_more}
+use Rattle.repl_walk.specs.Faults.{IsFaultBehind}
 use Rattle.repl_check.specs.Fits.{HasBadRecord, HasBadRest, IsFirst, IsUnbegun}
 
 -- ---- one start

@@ -8,7 +8,7 @@ use Rattle.repl_check.specs.declared.flaw.Flaw.{Flaw}
 use Rattle.repl_check.specs.declared.flaw.Flaw.TheVariants as flaw
 use Rattle.repl_check.specs.Fits.{Fits, HasBadRecord, HasBadRest, HasRecords, IsOrigin, IsStoredRight, rest_of}
 use Rattle.repl_check.specs.Flaws.{BreaksOff, HasEnd, IsFlaw, IsFlawBehind, StartsElsewhere}
-use Rattle.repl_log.proofs.RestAnswers.{fault_not_begun}
+use Rattle.repl_walk.proofs.RestAnswers.{fault_not_begun}
 use Rattle.repl_check.proofs.RestFaults.{one_rest_fault}
 use Rattle.repl_check.proofs.Single.{one_bad, one_records_end, records_not_bad}
 use Rattle.repl_check.proofs.Starts.{first_begun, first_not_bad, first_placed, one_start}

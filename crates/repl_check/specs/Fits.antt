@@ -9,9 +9,9 @@ use Rattle.repl_page.specs.Page.{header_length}
 use Rattle.repl_record.specs.declared.answer.WalkReason.{WalkReason}
 use Rattle.repl_record.specs.declared.answer.WalkReason.TheVariants as why
 use Rattle.repl_record.specs.Log.{IsPrefixOfRecords, IsWholeEnd}
-use Rattle.repl_log.specs.declared.rest.TheConstants.{REST_LIMIT}
-use Rattle.repl_log.specs.Faults.{IsFaultBehind}
-use Rattle.repl_log.specs.Rest.{IsRestBegun, IsRestFault, IsRestWhole}
+use Rattle.repl_walk.specs.declared.rest.TheConstants.{REST_LIMIT}
+use Rattle.repl_walk.specs.Faults.{IsFaultBehind}
+use Rattle.repl_walk.specs.Rest.{IsRestBegun, IsRestFault, IsRestWhole}
 
 -- ---- where records begin
 

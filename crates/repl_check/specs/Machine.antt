@@ -7,9 +7,9 @@ use Rattle.repl_record.specs.declared.answer.WalkReason.{WalkReason}
 use Rattle.repl_record.specs.declared.answer.WalkReason.TheVariants as why
 use Rattle.repl_record.specs.declared.walker.Walker.{Walker}
 use Rattle.repl_record.specs.Walker.{identity, last_end, position}
-use Rattle.repl_log.specs.declared.rest.Rest.{Rest}
-use Rattle.repl_log.specs.Rest.{HasPassed, IsRestBegun, rest_identity, rest_position}
-use Rattle.repl_log.specs.Walks.{HasRefused, HasWalked}
+use Rattle.repl_walk.specs.declared.rest.Rest.{Rest}
+use Rattle.repl_walk.specs.Rest.{HasPassed, IsRestBegun, rest_identity, rest_position}
+use Rattle.repl_walk.specs.Walks.{HasRefused, HasWalked}
 use Rattle.repl_check.specs.declared.log_check.LogCheck.{LogCheck}
 use Rattle.repl_check.specs.declared.log_check.Stage.{Stage}
 use Rattle.repl_check.specs.declared.log_check.Stage.TheVariants as stage

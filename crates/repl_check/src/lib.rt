@@ -4,7 +4,7 @@
 //! ends and starts where the store says, or which one flaw it has. A `LogCheck` judges the same of pieces of any log, and
 //! keeps a fixed number of bytes. What fits is said in `specs/Fits.antt`, what each flaw is in `specs/Flaws.antt`, what a
 //! `LogCheck` stands for in `specs/Machine.antt`, and what is answered of a store in `specs/Found.antt`. That a log that fits
-//! has no flaw, and another one at most, is said by functions that compute nothing. Stands on `repl_log` and `repl_store`.
+//! has no flaw, and another one at most, is said by functions that compute nothing. Stands on `repl_walk` and `repl_store`.
 //!
 //! ```text
 //! let mut check = LogCheck::new(floor, ident);

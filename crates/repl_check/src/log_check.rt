@@ -5,10 +5,10 @@ ghost use Rattle.repl_record.specs.Walker.{AreOn};
 ghost use Rattle.repl_check.specs.Fits.{rest_of};
 ghost use Rattle.repl_check.specs.Machine.{HasJudged, IsAtStage, IsJudging, IsPlaced, check_floor, check_identity, check_position};
 
-use repl_log::{Rest, WalkFault, rest_on_page};
 use repl_lsn::{Lsn, Tli};
 use repl_page::{PAGE_SIZE, header_size};
 use repl_record::{Ident, Walker};
+use repl_walk::{Rest, WalkFault, rest_on_page};
 
 /// Judges the log of a store, which it is given from the floor on, piece by piece. Takes no memory.
 #[derive(Clone, Copy, Debug)]

@@ -8,8 +8,8 @@ ghost use Rattle.repl_check.specs.Machine.{HasJudged, check_floor, check_identit
 
 use crate::flaw::Flaw;
 use crate::log_check::{LogCheck, Stage};
-use repl_log::WalkFault;
 use repl_lsn::Lsn;
+use repl_walk::WalkFault;
 
 impl LogCheck {
     /// Whether all that was taken fits a store that says that the last whole record ends at `whole` and starts at `stored`,

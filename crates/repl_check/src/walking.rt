@@ -2,16 +2,16 @@
 ghost use Rattle.std.specs.Prelude.{◌≡◌, ◌+◌, ◌%◌, ◌^◌, ◌≤◌, ◌++◌, ℕ, List, length, IfErr, OnOk};
 ghost use Rattle.repl_page.specs.Page.{IsPage};
 ghost use Rattle.repl_record.specs.Walker.{AreOn, identity, position};
-ghost use Rattle.repl_log.specs.Rest.{rest_position};
-ghost use Rattle.repl_log.specs.Walks.{HasWalked};
+ghost use Rattle.repl_walk.specs.Rest.{rest_position};
+ghost use Rattle.repl_walk.specs.Walks.{HasWalked};
 ghost use Rattle.repl_check.specs.Fits.{IsBefore};
 ghost use Rattle.repl_check.specs.Machine.{HasStopped, HasWalkedOn, InRecords, InRest, IsAtStage, IsPlaced, check_floor, check_identity, check_position};
 
 use crate::log_check::{LogCheck, Stage};
-use repl_log::{Rest, RestStep, WalkFault, walk, walk_behind_any};
 use repl_lsn::{Lsn, Tli};
 use repl_page::PAGE_SIZE;
 use repl_record::Walker;
+use repl_walk::{Rest, RestStep, WalkFault, walk, walk_behind_any};
 
 impl LogCheck {
     /// Goes through the bytes from this stage on.

@@ -3,7 +3,7 @@ use Rattle.std.proofs.Common.{◌≡◌, ◌≢◌, ◌⊎◌, ◌<◌, ◌-◌,
 use Rattle.repl_clone.specs.Causes.{IsDiskFailure, IsFailure, IsOfDisk, IsSourceFailure, IsUncopied, IsUnheard, fault_of, of_history}
 use Rattle.repl_clone.specs.declared.fault.CopyFault.{CopyFault}
 use Rattle.repl_clone.specs.declared.fault.CopyFault.TheVariants as fault
-use Rattle.repl_counts.specs.Counts.{Rose, Stood}
+use Rattle.repl_effects.specs.Counts.{Rose, Stood}
 use Rattle.repl_disk.specs.Answers.{Ends, OnlyWhereThere}
 use Rattle.repl_disk.specs.Folder.{IfTold, ToldFiles}
 use Rattle.repl_disk.specs.State.{DiskState, GoesOn}

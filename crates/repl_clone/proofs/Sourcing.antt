@@ -5,7 +5,7 @@ use Rattle.repl_clone.specs.Causes.{BreaksSource, FromSource, IsOfSource, Lasts,
 use Rattle.repl_clone.specs.declared.fault.CopyFault.{CopyFault}
 use Rattle.repl_clone.specs.declared.fault.CopyFault.TheVariants as fault
 use Rattle.repl_clone.proofs.Causing.{any_ok, ok_map}
-use Rattle.repl_counts.specs.Counts.{Rose, Stood}
+use Rattle.repl_effects.specs.Counts.{Rose, Stood}
 use Rattle.repl_disk.specs.Folder.{Folder}
 use Rattle.repl_disk.specs.Moments.{joined, started}
 use Rattle.repl_disk.specs.State.{DiskState, GoesOn}

@@ -2,7 +2,7 @@
 use Rattle.std.specs.Prelude.{◌≡◌, ◌≢◌, ◌↔◌, ◌⊎◌, ◌<◌, ◌-◌, ◌^◌, ℕ, min, Bool, true, length, None, IsSome, Result, Err, OnOk}
 use Rattle.repl_clone.specs.declared.fault.CopyFault.{CopyFault}
 use Rattle.repl_clone.specs.declared.fault.CopyFault.TheVariants as fault
-use Rattle.repl_counts.specs.Counts.{Rose, Stood}
+use Rattle.repl_effects.specs.Counts.{Rose, Stood}
 use Rattle.repl_disk.specs.State.{DiskState}
 use Rattle.repl_disk.specs.declared.disk.DiskError.{DiskError}
 use Rattle.repl_disk.specs.declared.disk.DiskError.TheVariants as error

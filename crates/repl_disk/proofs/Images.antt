@@ -4,7 +4,7 @@ use Rattle.repl_disk.specs.Calls as done
 use Rattle.repl_disk.specs.Calls.{Done}
 use Rattle.repl_disk.specs.declared.disk.DiskError.{DiskError}
 use Rattle.repl_disk.specs.declared.disk.DiskError.TheVariants as error
-use Rattle.repl_counts.specs.Counts.{RoseExactly}
+use Rattle.repl_effects.specs.Counts.{RoseExactly}
 use Rattle.repl_disk.specs.Answers.{Leaves, LeavesAll, is_failed, is_memory, is_missing}
 use Rattle.repl_disk.specs.Tally.{Tallied, raised, tallied}
 use Rattle.repl_disk.specs.Crash.{Elapses, Follows, TornFile}

@@ -2,7 +2,7 @@
 use Rattle.std.specs.Prelude.{◌≡◌, ℕ, ◌⊎◌, Bool, true, false, nat_lt, List, None, IsSome, Result, Ok, Err}
 use Rattle.repl_disk.specs.declared.disk.DiskError.{DiskError}
 use Rattle.repl_disk.specs.declared.disk.DiskError.TheVariants as error
-use Rattle.repl_counts.specs.Counts.{Rose, RoseExactly}
+use Rattle.repl_effects.specs.Counts.{Rose, RoseExactly}
 use Rattle.repl_disk.specs.Crash.{Either, Elapses, Follows, NoneNew}
 use Rattle.repl_disk.specs.Folder.{Folder, ToldFiles, IfTold, Became, Stayed, put, moved, written}
 use Rattle.repl_disk.specs.State.{DiskState}

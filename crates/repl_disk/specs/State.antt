@@ -1,6 +1,6 @@
 -- What an object that keeps files tells of itself, and counts.
 use Rattle.std.specs.Prelude.{◌≡◌, ℕ, is_some}
-use Rattle.repl_counts.specs.Counts.{DidNotFall}
+use Rattle.repl_effects.specs.Counts.{DidNotFall}
 use Rattle.repl_disk.specs.Folder.{Folder, ToldFiles}
 
 pub record DiskState : Type 1 where

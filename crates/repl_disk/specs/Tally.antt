@@ -1,7 +1,7 @@
 -- How many calls of a disk went wrong, and how.
 use Rattle.std.specs.Prelude.{ℕ, ◌+◌, ◌-◌, ◌^◌, min, max, Bool, true, false}
 use Rattle.std.proofs.Common.{arith}
-use Rattle.repl_counts.specs.Counts.{DidNotFall}
+use Rattle.repl_effects.specs.Counts.{DidNotFall}
 
 -- the calls that answered Failed; Memory; and Missing, or read fewer bytes than they had room for
 pub record Tallied : Type 0 where

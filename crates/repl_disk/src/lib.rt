@@ -3,7 +3,7 @@
 //! `Disk` is files by name. Its contract says of each call what the files read afterwards, and what a crash may leave of
 //! them at any moment of the call: `specs/Folder.antt` and `specs/Crash.antt`. `replace` puts other bytes under a name so
 //! that a crash leaves the old or the new. `MemoryDisk` is a disk in memory that crashes and fails as it is told, and
-//! `FolderDisk` a folder of the system, which is trusted. Stands on `repl_counts` and the kit's `thiserror`.
+//! `FolderDisk` a folder of the system, which is trusted. Stands on `repl_effects` and the kit's `thiserror`.
 //!
 //! ```text
 //! let mut disk = FolderDisk::new(rt, "data")?;

@@ -1,6 +1,6 @@
 //! Other bytes under a name, so that a crash leaves the old ones or the new.
 ghost use Rattle.std.specs.Prelude.{◌≡◌, ◌≢◌, ◌⊎◌, OnOk, IfErr, Some, Err};
-ghost use Rattle.repl_counts.specs.Counts.{Rose, RoseBy, RoseExactly, Stood};
+ghost use Rattle.repl_effects.specs.Counts.{Rose, RoseBy, RoseExactly, Stood};
 ghost use Rattle.repl_disk.specs.declared.disk.DiskError.TheVariants as DiskError;
 ghost use Rattle.repl_disk.specs.Answers.{is_failed, Caused, NeverMissing, Removed, Leaves};
 ghost use Rattle.repl_disk.specs.Folder.{Folder, IfTold, Became, put};

@@ -4,7 +4,7 @@ ghost use Rattle.repl_disk.specs.Answers.{is_fault, is_want, is_lack, is_failed,
 ghost use Rattle.repl_disk.specs.Tally.{tallied};
 
 use crate::disk::DiskError;
-use repl_counts::Count;
+use repl_effects::Count;
 use std::marker::Model;
 
 /// How many calls answered each error. A read of fewer bytes than it had room for counts as a missing file does.

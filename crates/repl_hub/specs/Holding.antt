@@ -1,6 +1,6 @@
 -- How a hub's state, its memory and the files of its disk hang together.
 use Rattle.std.specs.Prelude.{◌≡◌, ◌⊎◌, ℕ, Bool, true, false, List, Result, Err}
-use Rattle.repl_counts.specs.Counts.{Rose}
+use Rattle.repl_effects.specs.Counts.{Rose}
 use Rattle.repl_disk.specs.State.{DiskState}
 use Rattle.repl_hub.specs.State.{AreLinks, HubView}
 use Rattle.repl_hub.specs.declared.link.Link.{Link}

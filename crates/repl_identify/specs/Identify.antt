@@ -5,8 +5,8 @@ use Rattle.repl_io.specs.Source.{SourceState}
 use Rattle.repl_io.specs.Sink.{SinkState}
 use Rattle.repl_message.specs.declared.back.Back.{Back}
 use Rattle.repl_message.specs.Message.{AreMessages, back_spelling}
-use Rattle.repl_convert.specs.declared.conversion.Converted.{Converted}
-use Rattle.repl_convert.specs.Converting.{Conversion}
+use Rattle.repl_filter.specs.declared.conversion.Converted.{Converted}
+use Rattle.repl_filter.specs.Converting.{Conversion}
 use Rattle.repl_identify.specs.declared.answering.TheConstants.{INPUT_LIMIT}
 use Rattle.repl_identify.specs.declared.identity.SystemIdentity.{SystemIdentity}
 use Rattle.repl_identify.specs.declared.stage.Session.{Session}

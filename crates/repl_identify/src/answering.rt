@@ -3,7 +3,7 @@ use crate::answer::answer;
 use crate::identity::SystemIdentity;
 use crate::session::read_session;
 use crate::stage::Session;
-use repl_convert::{Converter, Refused};
+use repl_filter::{Converter, Refused};
 use std::alloc::Global;
 
 /// The most bytes of input that `identify` reads.

@@ -2,7 +2,7 @@ ghost use Rattle.repl_identify.specs.Identify.{Identified};
 
 use crate::answering::Answering;
 use crate::identity::SystemIdentity;
-use repl_convert::{Converted, convert};
+use repl_filter::{Converted, convert};
 use repl_io::{Sink, Source};
 use std::alloc::Global;
 

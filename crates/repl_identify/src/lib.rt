@@ -2,9 +2,9 @@
 //!
 //! `identify` reads one session from a source: any number of requests for encryption, a startup packet for physical
 //! replication, any number of queries IDENTIFY_SYSTEM, and the end. It writes what a server with a `SystemIdentity` answers.
-//! Its contract is one record, `Identified` in `specs/Identify.antt`: a `Conversion` of `repl_convert`, and that the answer
+//! Its contract is one record, `Identified` in `specs/Identify.antt`: a `Conversion` of `repl_filter`, and that the answer
 //! reads back as its messages. Which inputs are a session, and where another is refused, stands in `specs/Session.antt`, and
-//! the answer, message by message, in `specs/Answer.antt`. Stands on `repl_convert`, `repl_wire` and `repl_cmd`.
+//! the answer, message by message, in `specs/Answer.antt`. Stands on `repl_filter`, `repl_wire` and `repl_cmd`.
 //!
 //! ```text
 //! let identity = SystemIdentity { system, timeline, flushed };

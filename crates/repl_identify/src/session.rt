@@ -1,12 +1,12 @@
 ghost use Rattle.std.specs.Prelude.{◌≡◌, ◌<◌, ◌≤◌, ◌+◌, ℕ, length, IfOk, OnOk, Err};
 ghost use Rattle.repl_wire.specs.Reader.{Waits};
-ghost use Rattle.repl_convert.specs.declared.converter.Refused.TheVariants as refused;
+ghost use Rattle.repl_filter.specs.declared.converter.Refused.TheVariants as refused;
 ghost use Rattle.repl_identify.specs.Stages.{asks, Goes, Walked, Stuck};
 ghost use Rattle.repl_identify.specs.declared.stage.Stage.{Stage};
 ghost use Rattle.repl_identify.specs.Session.{IsSession, IsNoSessionAt};
 
 use crate::stage::{Session, Stage};
-use repl_convert::Refused;
+use repl_filter::Refused;
 use repl_wire::{FrameReader, Message, PIECE_LIMIT, Side, Step};
 use std::alloc::Global;
 

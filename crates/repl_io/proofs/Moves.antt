@@ -3,7 +3,7 @@ use Rattle.std.proofs.Common.{◌≡◌, ℕ, ◌+◌, ◌-◌, ◌<◌, ◌≤�
 use Rattle.std.proofs.Math.Seq.{take-add}
 use Rattle.std.proofs.lemmas.List.{drop-drop, take-append-drop, take-take, length-take, length-drop}
 use Rattle.std.specs.Option.{option_map}
-use Rattle.repl_counts.specs.Told.{Told, Gained}
+use Rattle.repl_effects.specs.Told.{Told, Gained}
 use Rattle.repl_io.specs.Source.{ReadsBytes}
 use Rattle.repl_io.specs.Sink.{WritesBytes}
 

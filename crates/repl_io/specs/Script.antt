@@ -1,7 +1,7 @@
 -- What a scripted link tells, and how it follows its script.
 use Rattle.std.specs.Prelude.{◌≡◌, ℕ, ◌+◌, ◌-◌, ◌<◌, ◌≤◌, ◌↔◌, min, List, [], ◌++◌, Some, take, drop, length, Contains}
 use Rattle.std.specs.List.{flat_map}
-use Rattle.repl_counts.specs.Counts.{RoseOnce}
+use Rattle.repl_effects.specs.Counts.{RoseOnce}
 use Rattle.repl_io.specs.Source.{SourceState}
 use Rattle.repl_io.specs.Sink.{SinkState}
 use Rattle.repl_io.specs.declared.source.Got.{Got}

@@ -1,7 +1,7 @@
 -- What a sink tells, and what a write does to it.
 use Rattle.std.specs.Prelude.{◌≡◌, ℕ, ◌<◌, ◌≤◌, ⊤, List, length, take, Bool, true, false}
-use Rattle.repl_counts.specs.Counts.{RoseExactly, RoseOnceExactly}
-use Rattle.repl_counts.specs.Told.{Told, Gained, Kept}
+use Rattle.repl_effects.specs.Counts.{RoseExactly, RoseOnceExactly}
+use Rattle.repl_effects.specs.Told.{Told, Gained, Kept}
 use Rattle.repl_io.specs.declared.sink.Put.{Put}
 use Rattle.repl_io.specs.declared.sink.Put.TheVariants as put
 use Rattle.repl_io.specs.declared.sink.Sent.{Sent}

@@ -1,7 +1,7 @@
 -- What a source tells, and what a read does to it.
 use Rattle.std.specs.Prelude.{◌≡◌, ℕ, ◌<◌, ◌≤◌, List, [], length, take, Bool, true, false}
-use Rattle.repl_counts.specs.Counts.{RoseExactly, RoseOnceExactly}
-use Rattle.repl_counts.specs.Told.{Told, IfTold, Gained, Lost, Kept}
+use Rattle.repl_effects.specs.Counts.{RoseExactly, RoseOnceExactly}
+use Rattle.repl_effects.specs.Told.{Told, IfTold, Gained, Lost, Kept}
 use Rattle.repl_io.specs.declared.source.Got.{Got}
 use Rattle.repl_io.specs.declared.source.Got.TheVariants.{Bytes, Quiet, End, Failed}
 

@@ -1,6 +1,6 @@
 -- What a link in memory that never fails tells.
 use Rattle.std.specs.Prelude.{◌≡◌, ℕ, ◌<◌, ◌↔◌, min, List, [], Some, length, take, drop}
-use Rattle.repl_counts.specs.Told.{Told, IfTold}
+use Rattle.repl_effects.specs.Told.{Told, IfTold}
 use Rattle.repl_io.specs.declared.source.Got.{Got}
 use Rattle.repl_io.specs.declared.source.Got.TheVariants as got
 use Rattle.repl_io.specs.Source.{SourceState}

@@ -1,7 +1,7 @@
 -- What the adapters of std's readers and writers do to the bytes that those tell.
 use Rattle.std.specs.Prelude.{◌≡◌, ℕ, List, take, None}
 use Rattle.std.specs.Io.KnownBytes.{Appends, Consumes, IsAtEnd, Keeps}
-use Rattle.repl_counts.specs.Told.{Told}
+use Rattle.repl_effects.specs.Told.{Told}
 use Rattle.repl_io.specs.declared.source.Got.{Got}
 use Rattle.repl_io.specs.declared.source.Got.TheVariants as got
 use Rattle.repl_io.specs.declared.sink.Put.{Put}

@@ -5,7 +5,7 @@
 //! them cannot invent a fault or lose a byte. `SteadyLink` and `ScriptLink` are both in memory and tell
 //! everything. `StdSource` and `StdSink` adapt std's readers and writers: a read or a write of theirs says
 //! what the reader or the writer tells, and to generic code they tell no bytes. A real file or terminal
-//! tells nothing at all, so what it holds is trusted. Stands on `repl_counts`.
+//! tells nothing at all, so what it holds is trusted. Stands on `repl_effects`.
 //!
 //! ```text
 //! let mut link = SteadyLink::new(alloc, input)?; // its input is the bytes 1, 2 and 3

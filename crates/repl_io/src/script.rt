@@ -4,7 +4,7 @@ ghost use Rattle.repl_io.specs.Step.{step_at, bytes_of};
 use crate::copies::copy_front;
 use crate::sink::{Put, Sink};
 use crate::source::{Got, Source};
-use repl_counts::Count;
+use repl_effects::Count;
 use std::alloc::{AllocError, Global};
 
 /// What a scripted link does at one of its reads, or at several.

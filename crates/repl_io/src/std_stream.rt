@@ -2,7 +2,7 @@ ghost use Rattle.std.specs.Prelude.{◌<◌, length};
 
 use crate::sink::{Put, Sink};
 use crate::source::{Got, Source};
-use repl_counts::Count;
+use repl_effects::Count;
 use std::io::{ErrorKind, Read, Write};
 
 /// A source over one of std's readers, as standard input.

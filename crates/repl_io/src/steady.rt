@@ -3,7 +3,7 @@ ghost use Rattle.std.specs.Prelude.{◌≡◌, ℕ, ◌≤◌, length};
 use crate::copies::copy_front;
 use crate::sink::{Put, Sink};
 use crate::source::{Got, Source};
-use repl_counts::Count;
+use repl_effects::Count;
 use std::alloc::{AllocError, Global};
 
 /// A link in memory whose reads never fail and are never quiet: it gives its input and then its end. It

@@ -1,6 +1,6 @@
 -- How a node's state, its memory and the files of its disk hang together.
 use Rattle.std.specs.Prelude.{◌≡◌, ℕ, ◌⊎◌, true, false, List, Result, Err}
-use Rattle.repl_counts.specs.Counts.{Rose}
+use Rattle.repl_effects.specs.Counts.{Rose}
 use Rattle.repl_disk.specs.Crash.{LeavesOnly}
 use Rattle.repl_disk.specs.Folder.{Folder}
 use Rattle.repl_disk.specs.State.{DiskState}

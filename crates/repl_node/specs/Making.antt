@@ -1,6 +1,6 @@
 -- Making a node, and opening one again.
 use Rattle.std.specs.Prelude.{◌≡◌, ◌≢◌, ℕ, ◌⊎◌, List, Some, None, Result, Err, OnOk, IfErr}
-use Rattle.repl_counts.specs.Counts.{Rose, Stood}
+use Rattle.repl_effects.specs.Counts.{Rose, Stood}
 use Rattle.repl_disk.specs.Folder.{Folder, IfTold}
 use Rattle.repl_disk.specs.State.{DiskState}
 use Rattle.repl_slots.specs.SlotFile.{Entry, FileStops, entries_of}

@@ -3,7 +3,7 @@ ghost use Rattle.std.specs.Prelude.{◌≡◌, ◌⊎◌, ℕ, [], true, false, 
 ghost use Rattle.repl_clone.specs.Causes.{IsTooLong};
 ghost use Rattle.repl_clone.specs.Copied.{copied};
 ghost use Rattle.repl_control.specs.declared.control.TheConstants.{VERSION_1_SIZE};
-ghost use Rattle.repl_counts.specs.Counts.{Rose, Stood};
+ghost use Rattle.repl_effects.specs.Counts.{Rose, Stood};
 ghost use Rattle.repl_disk.specs.Crash.{LeavesOnly};
 ghost use Rattle.repl_disk.specs.Folder.{Folder, IfTold};
 ghost use Rattle.repl_store.specs.Durable.{IsKnown, control_name};

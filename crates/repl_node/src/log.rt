@@ -1,6 +1,6 @@
 //! The calls that concern the log: they are the log's own, and the slots stay as they were.
 ghost use Rattle.std.specs.Prelude.{◌≡◌, ◌≢◌, Err};
-ghost use Rattle.repl_counts.specs.Counts.{Rose};
+ghost use Rattle.repl_effects.specs.Counts.{Rose};
 ghost use Rattle.repl_node.specs.Holding.{Comes, Holds, Remembers};
 ghost use Rattle.repl_node.specs.State.{LeftOf, NodeState};
 ghost use Rattle.repl_node.specs.Steps.{OfLog};

@@ -1,7 +1,7 @@
 //! Making a node.
 ghost use Rattle.std.specs.Prelude.{◌≡◌, ◌⊎◌, ℕ, [], None, Some, IsSome, IfOk, IfErr, Ok, Err, OnOk, MatchResult};
 ghost use Rattle.repl_control.specs.declared.control.TheConstants.{VERSION_1_SIZE};
-ghost use Rattle.repl_counts.specs.Counts.{Stood};
+ghost use Rattle.repl_effects.specs.Counts.{Stood};
 ghost use Rattle.repl_disk.specs.Crash.{Elapses, LeavesOnly};
 ghost use Rattle.repl_disk.specs.Folder.{Folder, IfTold};
 ghost use Rattle.repl_store.specs.Creating.{fresh};

@@ -1,7 +1,7 @@
 //! Opening the node that stands on a disk.
 ghost use Rattle.std.specs.Prelude.{◌≡◌, ◌⊎◌, List, false, None, Some, All, Ok, Err, IfOk, IfErr, MatchResult};
 ghost use Rattle.repl_control.specs.declared.control.TheConstants.{VERSION_1_SIZE};
-ghost use Rattle.repl_counts.specs.Counts.{Rose};
+ghost use Rattle.repl_effects.specs.Counts.{Rose};
 ghost use Rattle.repl_disk.specs.Folder.{Folder, IfTold};
 ghost use Rattle.repl_slots.specs.SlotFile.{Entry, IsMounted as IsMountedSlot, entries_of};
 ghost use Rattle.repl_slots.specs.Stored.{Stores};

@@ -1,6 +1,6 @@
 //! The calls on the slots: they change the list in memory, and `slot_save` makes it certain.
 ghost use Rattle.std.specs.Prelude.{◌≡◌, ◌≢◌, ◌⊎◌, ◌++◌, ◌∷◌, [], map, false, Err, None};
-ghost use Rattle.repl_counts.specs.Counts.{Rose};
+ghost use Rattle.repl_effects.specs.Counts.{Rose};
 ghost use Rattle.repl_slots.specs.Slot.{CanCreate, CanUse, acquired, confirmed, ended, made, released, without};
 ghost use Rattle.repl_slots.specs.declared.fault.SlotFault.TheVariants as SlotFault;
 ghost use Rattle.repl_wal.specs.Holding.{Remembers as RemembersLog};

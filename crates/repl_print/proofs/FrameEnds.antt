@@ -1,8 +1,8 @@
 -- Which ends `frames` has, once nothing is faulty: an input that is messages is printed, and any other is refused.
 use Rattle.std.proofs.Common.{◌≡◌, ◌≢◌, ◌⊎◌, ℕ, ◌+◌, ◌-◌, ◌^◌, ◌≤◌, List, [], ◌∷◌, ◌++◌, length, Some, None, refl, sym, ap, subst, ◌∙◌, inl, inr, length-append, arith}
 use Rattle.std.proofs.lemmas.List.{append-nil}
-use Rattle.repl_counts.specs.Counts.{RoseBy, RoseExactly}
-use Rattle.repl_counts.specs.Told.{Told, IfTold, Lost}
+use Rattle.repl_effects.specs.Counts.{RoseBy, RoseExactly}
+use Rattle.repl_effects.specs.Told.{Told, IfTold, Lost}
 use Rattle.repl_io.specs.Source.{SourceState}
 use Rattle.repl_io.specs.Sink.{SinkState}
 use Rattle.repl_message.specs.declared.message.Message.{Message}
@@ -14,10 +14,10 @@ use Rattle.repl_wire.specs.declared.taking.Taken.TheVariants as taken
 use Rattle.repl_wire.specs.Judging.{judge}
 use Rattle.repl_wire.specs.Reader.{AreRead, first_phase}
 use Rattle.repl_wire.proofs.Streams.{read_more, stuck_short, stuck_wrong, refused_some, readings, none_further, all_one}
-use Rattle.repl_convert.specs.declared.conversion.Converted.{Converted}
-use Rattle.repl_convert.specs.declared.conversion.Converted.TheVariants as converted
-use Rattle.repl_convert.specs.Converting.{is_read_fault, is_write_fault}
-use Rattle.repl_convert.specs.Outcome.{IsReadOut}
+use Rattle.repl_filter.specs.declared.conversion.Converted.{Converted}
+use Rattle.repl_filter.specs.declared.conversion.Converted.TheVariants as converted
+use Rattle.repl_filter.specs.Converting.{is_read_fault, is_write_fault}
+use Rattle.repl_filter.specs.Outcome.{IsReadOut}
 use Rattle.repl_print.specs.Stream.{AreAll}
 use Rattle.repl_print.specs.Frames.{IsWrongAt, Framed, Printed, WentWell}
 

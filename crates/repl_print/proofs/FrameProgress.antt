@@ -1,20 +1,20 @@
 -- An input of `frames` that is read piece by piece: what has been read and printed before a turn, and at the end.
 use Rattle.std.proofs.Common.{◌≡◌, ℕ, ◌+◌, ◌-◌, ◌<◌, ◌≤◌, inl, inr, List, [], ◌++◌, length, refl, sym, ap, subst, ◌∙◌, length-append, arith}
 use Rattle.std.proofs.lemmas.List.{take_all}
-use Rattle.repl_counts.specs.Counts.{Rose, RoseBy}
-use Rattle.repl_counts.specs.Told.{Told, Gained, Lost}
+use Rattle.repl_effects.specs.Counts.{Rose, RoseBy}
+use Rattle.repl_effects.specs.Told.{Told, Gained, Lost}
 use Rattle.repl_io.specs.Source.{SourceState}
 use Rattle.repl_io.specs.Sink.{SinkState}
 use Rattle.repl_message.specs.declared.message.Message.{Message}
 use Rattle.repl_message.specs.declared.message.Side.{Side}
 use Rattle.repl_message.specs.Encoding.{capped}
 use Rattle.repl_wire.specs.Reader.{Reading, Waits, AreRead, first_phase, fed}
-use Rattle.repl_convert.specs.declared.conversion.Converted.{Converted}
-use Rattle.repl_convert.specs.declared.conversion.Converted.TheVariants as converted
+use Rattle.repl_filter.specs.declared.conversion.Converted.{Converted}
+use Rattle.repl_filter.specs.declared.conversion.Converted.TheVariants as converted
 use Rattle.repl_print.specs.Frames.{lines, FramesEnd, Printed}
-use Rattle.repl_convert.specs.Outcome.{ReadNothing, Wrote, WroteFront, WroteNothing, WroteSome}
+use Rattle.repl_filter.specs.Outcome.{ReadNothing, Wrote, WroteFront, WroteNothing, WroteSome}
 use Rattle.repl_print.specs.Printing.{GivesLines, PieceEnds}
-use Rattle.repl_convert.proofs.Moves.{Lost-none, Lost-then}
+use Rattle.repl_filter.proofs.Moves.{Lost-none, Lost-then}
 use Rattle.repl_wire.proofs.Streams.{read_then, read_more, read_within, judge_empty}
 use Rattle.repl_print.proofs.FrameLines.{lines_then, Gained-none, Gained-then, front_then}
 

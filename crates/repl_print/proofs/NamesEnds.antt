@@ -1,14 +1,14 @@
 -- Which ends `names` has, once the sink is not faulty.
 use Rattle.std.proofs.Common.{◌≡◌, ◌⊎◌, ℕ, List, subst, refl, inl, inr}
-use Rattle.repl_counts.specs.Counts.{Rose, RoseExactly}
+use Rattle.repl_effects.specs.Counts.{Rose, RoseExactly}
 use Rattle.repl_io.specs.Sink.{SinkState}
 use Rattle.repl_names.specs.declared.fault.NamesFault.{NamesFault}
 use Rattle.repl_names.specs.StandbyList.{Listing}
 use Rattle.repl_names.specs.Grammar.{SaysList}
 use Rattle.repl_names.proofs.GrammarLists.{refused_unread}
-use Rattle.repl_convert.specs.declared.conversion.Converted.{Converted}
-use Rattle.repl_convert.specs.declared.conversion.Converted.TheVariants as converted
-use Rattle.repl_convert.specs.Converting.{is_write_fault}
+use Rattle.repl_filter.specs.declared.conversion.Converted.{Converted}
+use Rattle.repl_filter.specs.declared.conversion.Converted.TheVariants as converted
+use Rattle.repl_filter.specs.Converting.{is_write_fault}
 use Rattle.repl_print.specs.Names.{IsNoList, IsPlace, Named, NamesEnd}
 
 -- a text that says a list is not refused

@@ -1,8 +1,8 @@
 -- What `frames` prints: a line for each message of its input.
 use Rattle.std.specs.Prelude.{◌≡◌, ◌≢◌, ℕ, ◌+◌, ◌-◌, ◌^◌, ◌≤◌, ◌⊎◌, List, [], ◌∷◌, ◌++◌, length, Some, codes}
 use Rattle.std.specs.Fmt.{decimal}
-use Rattle.repl_counts.specs.Counts.{Rose, RoseBy}
-use Rattle.repl_counts.specs.Told.{Lost}
+use Rattle.repl_effects.specs.Counts.{Rose, RoseBy}
+use Rattle.repl_effects.specs.Told.{Lost}
 use Rattle.repl_message.specs.declared.message.Message.{Message}
 use Rattle.repl_message.specs.declared.message.Message.TheVariants as message
 use Rattle.repl_message.specs.declared.message.Phase.{Phase}
@@ -16,10 +16,10 @@ use Rattle.repl_wire.specs.declared.taking.Taken.TheVariants as taken
 use Rattle.repl_wire.specs.Judging.{judge}
 use Rattle.repl_wire.specs.Places.{place_of}
 use Rattle.repl_wire.specs.Reader.{AreRead, first_phase, at_place}
-use Rattle.repl_convert.specs.declared.conversion.Converted.{Converted}
-use Rattle.repl_convert.specs.declared.conversion.Converted.TheVariants as converted
-use Rattle.repl_convert.specs.Converting.{TellsFaults}
-use Rattle.repl_convert.specs.Outcome.{IsReadOut, Wrote, WroteFront, WroteSome}
+use Rattle.repl_filter.specs.declared.conversion.Converted.{Converted}
+use Rattle.repl_filter.specs.declared.conversion.Converted.TheVariants as converted
+use Rattle.repl_filter.specs.Converting.{TellsFaults}
+use Rattle.repl_filter.specs.Outcome.{IsReadOut, Wrote, WroteFront, WroteSome}
 use Rattle.repl_print.specs.Stream.{AreAll}
 
 -- the type byte; a startup packet has none

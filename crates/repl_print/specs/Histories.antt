@@ -6,9 +6,9 @@ use Rattle.repl_lsn.specs.declared.fault.HistoryFault.{HistoryFault}
 use Rattle.repl_lsn.specs.declared.fault.HistoryFault.TheVariants as fault
 use Rattle.repl_lsn.specs.declared.history.TheConstants.{HISTORY_LIMIT}
 use Rattle.repl_lsn.specs.History.{Path, SaysHistory, IsHistoryFault, canonical}
-use Rattle.repl_convert.specs.declared.conversion.Converted.{Converted}
-use Rattle.repl_convert.specs.declared.gather.TheConstants.{GATHER_LIMIT}
-use Rattle.repl_convert.specs.Converting.{Conversion}
+use Rattle.repl_filter.specs.declared.conversion.Converted.{Converted}
+use Rattle.repl_filter.specs.declared.gather.TheConstants.{GATHER_LIMIT}
+use Rattle.repl_filter.specs.Converting.{Conversion}
 
 -- the text says this history of the timeline
 abbrev pub IsOf : ℕ → List ℕ → Path → Type 0

@@ -1,15 +1,15 @@
 -- What `names` prints: the spelling of a standby list.
 use Rattle.std.specs.Prelude.{◌≡◌, ℕ, ◌⊎◌, List, [], ◌∷◌, ◌++◌, length}
-use Rattle.repl_counts.specs.Counts.{Rose, RoseExactly}
+use Rattle.repl_effects.specs.Counts.{Rose, RoseExactly}
 use Rattle.repl_io.specs.Sink.{SinkState}
 use Rattle.repl_names.specs.declared.fault.NamesFault.{NamesFault}
 use Rattle.repl_names.specs.declared.fault.NamesFault.TheVariants as fault
 use Rattle.repl_names.specs.StandbyList.{Listing, spelling}
 use Rattle.repl_names.specs.Grammar.{SaysList, IsListFault}
-use Rattle.repl_convert.specs.declared.conversion.Converted.{Converted}
-use Rattle.repl_convert.specs.declared.conversion.Converted.TheVariants as converted
-use Rattle.repl_convert.specs.Converting.{is_write_fault}
-use Rattle.repl_convert.specs.Outcome.{Wrote, WroteFront, WroteNothing}
+use Rattle.repl_filter.specs.declared.conversion.Converted.{Converted}
+use Rattle.repl_filter.specs.declared.conversion.Converted.TheVariants as converted
+use Rattle.repl_filter.specs.Converting.{is_write_fault}
+use Rattle.repl_filter.specs.Outcome.{Wrote, WroteFront, WroteNothing}
 
 -- the place of a fault in the text, which is its length where the list is too long
 abbrev pub IsPlace : List ℕ → NamesFault → ℕ → Type 0

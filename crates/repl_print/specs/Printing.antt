@@ -1,6 +1,6 @@
 -- What the parts of `frames` do: the lines of the messages that a reader holds are made and written.
 use Rattle.std.specs.Prelude.{◌≡◌, ℕ, ◌+◌, ◌-◌, ◌⊎◌, List, length}
-use Rattle.repl_counts.specs.Counts.{Rose}
+use Rattle.repl_effects.specs.Counts.{Rose}
 use Rattle.repl_message.specs.declared.message.Message.{Message}
 use Rattle.repl_message.specs.Encoding.{capped}
 use Rattle.repl_wire.specs.declared.fault.WireFault.{WireFault}
@@ -9,12 +9,12 @@ use Rattle.repl_wire.specs.Judging.{judge}
 use Rattle.repl_wire.specs.Reader.{Reading, Waits, AreRead, at_place}
 use Rattle.repl_print.specs.declared.framing.Drained.{Drained}
 use Rattle.repl_print.specs.declared.framing.Drained.TheVariants as drained
-use Rattle.repl_convert.specs.declared.conversion.Converted.{Converted}
-use Rattle.repl_convert.specs.declared.conversion.Converted.TheVariants as converted
+use Rattle.repl_filter.specs.declared.conversion.Converted.{Converted}
+use Rattle.repl_filter.specs.declared.conversion.Converted.TheVariants as converted
 use Rattle.repl_wire.specs.Places.{place_of}
 use Rattle.repl_print.specs.Frames.{lines}
 use Rattle.repl_io.specs.Sink.{SinkState}
-use Rattle.repl_convert.specs.Outcome.{Wrote, WroteFront, WroteNothing}
+use Rattle.repl_filter.specs.Outcome.{Wrote, WroteFront, WroteNothing}
 
 -- a reader gave these messages, and this happened to their lines
 pub record GivesLines (old new : Reading) (How : List ℕ → Type 0) : Type 0 where

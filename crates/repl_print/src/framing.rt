@@ -1,16 +1,16 @@
 //! The messages of a stream, line by line.
 ghost use Rattle.std.specs.Prelude.{◌≡◌, ◌≢◌, ◌≤◌, ◌⊎◌, ◌∷◌, [], ◌++◌, length, IfErr, OnOk};
-ghost use Rattle.repl_counts.specs.Counts.{RoseExactly, Stood};
-ghost use Rattle.repl_convert.specs.Converting.{is_read_fault, is_write_fault};
-ghost use Rattle.repl_convert.specs.Outcome.{Wrote};
+ghost use Rattle.repl_effects.specs.Counts.{RoseExactly, Stood};
+ghost use Rattle.repl_filter.specs.Converting.{is_read_fault, is_write_fault};
+ghost use Rattle.repl_filter.specs.Outcome.{Wrote};
 ghost use Rattle.repl_message.specs.Message.{length_field};
 ghost use Rattle.repl_wire.specs.Reader.{Waits, fed};
-ghost use Rattle.repl_convert.specs.declared.conversion.Converted.TheVariants as converted;
+ghost use Rattle.repl_filter.specs.declared.conversion.Converted.TheVariants as converted;
 ghost use Rattle.repl_print.specs.Frames.{Framed, Printed, kind_text, line};
 ghost use Rattle.repl_print.specs.Printing.{GivesLines, Drains, PieceEnds};
 
 use itoa::Buffer;
-use repl_convert::Converted;
+use repl_filter::Converted;
 use repl_io::{Got, Sent, Sink, Source, write_all};
 use repl_wire::{
     Back, FrameReader, Front, MESSAGE_LIMIT, Message, PIECE_LIMIT, Side, Step, WireFault, length_of,

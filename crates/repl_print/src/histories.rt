@@ -2,10 +2,10 @@
 ghost use Rattle.std.specs.Prelude.{◌≡◌, ◌⊎◌, ℕ, IfOk, IfErr};
 ghost use Rattle.repl_lsn.specs.declared.fault.HistoryFault.TheVariants as history_fault;
 ghost use Rattle.repl_lsn.specs.History.{Path, canonical};
-ghost use Rattle.repl_convert.specs.declared.converter.Refused.TheVariants as refused;
+ghost use Rattle.repl_filter.specs.declared.converter.Refused.TheVariants as refused;
 ghost use Rattle.repl_print.specs.Histories.{Historied, IsAtLine, IsPrintable, IsWrong};
 
-use repl_convert::{Converted, Converter, GATHER_LIMIT, Refused, convert};
+use repl_filter::{Converted, Converter, GATHER_LIMIT, Refused, convert};
 use repl_io::{Sink, Source};
 use repl_lsn::{HistoryFault, Tli, history_text, parse_history};
 use std::alloc::Global;
@@ -29,7 +29,7 @@ struct Printing {
 }
 
 impl Converter for Printing {
-    ghost use Rattle.repl_convert.specs.declared.gather.TheConstants.{GATHER_LIMIT};
+    ghost use Rattle.repl_filter.specs.declared.gather.TheConstants.{GATHER_LIMIT};
     ghost use Rattle.repl_lsn.specs.History.{Path, canonical};
     ghost use Rattle.repl_print.specs.Histories.{IsPrintable, IsWrong};
     ghost use Rattle.repl_print.specs.Apart.{not_wrong};

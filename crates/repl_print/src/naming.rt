@@ -1,14 +1,14 @@
 //! The spelling of a standby list.
 ghost use Rattle.std.specs.Prelude.{◌≡◌, ◌⊎◌, ℕ, IfOk, IfErr};
-ghost use Rattle.repl_counts.specs.Counts.{RoseExactly};
+ghost use Rattle.repl_effects.specs.Counts.{RoseExactly};
 ghost use Rattle.repl_names.specs.declared.fault.NamesFault.TheVariants as names_fault;
 ghost use Rattle.repl_names.specs.StandbyList.{Listing};
 ghost use Rattle.repl_names.specs.Grammar.{SaysList};
-ghost use Rattle.repl_convert.specs.declared.converter.Refused.TheVariants as refused;
-ghost use Rattle.repl_convert.specs.Converting.{is_write_fault};
+ghost use Rattle.repl_filter.specs.declared.converter.Refused.TheVariants as refused;
+ghost use Rattle.repl_filter.specs.Converting.{is_write_fault};
 ghost use Rattle.repl_print.specs.Names.{IsNoList, IsPlace, Named, NamesEnd, names_line};
 
-use repl_convert::{Converted, Refused};
+use repl_filter::{Converted, Refused};
 use repl_io::{Sent, Sink, write_all};
 use repl_names::{NamesFault, StandbyList, parse_names, print_names};
 use std::alloc::{AllocError, Global};

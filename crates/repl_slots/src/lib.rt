@@ -6,7 +6,7 @@
 //! any moment leaves the list of before or the new one, and `mount` reads it. A temporary slot is not written, and goes
 //! when its session ends. What calls make of the list stands in `specs/Slot.antt`, what the file is in
 //! `specs/SlotFile.antt`, and what a disk stores in `specs/Stored.antt`. Stands on `repl_disk`, `repl_lsn`, `repl_text`,
-//! `repl_counts` and the kit's `byteorder` and `thiserror`.
+//! `repl_effects` and the kit's `byteorder` and `thiserror`.
 //!
 //! ```text
 //! let mut slots = Slots::mount(alloc, &mut disk)?;

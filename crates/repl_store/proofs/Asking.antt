@@ -1,6 +1,6 @@
 -- Calls that only read, one after the other.
 use Rattle.std.proofs.Common.{◌≡◌, ◌⊎◌, ℕ, None, Result, Ok, Err, OnOk, IfErr, refl, sym, ◌∙◌, subst, inl, inr, ⊎_elim, arith}
-use Rattle.repl_counts.specs.Counts.{Rose, Stood}
+use Rattle.repl_effects.specs.Counts.{Rose, Stood}
 use Rattle.repl_disk.specs.Crash.{Elapses, NoneNew}
 use Rattle.repl_disk.specs.Folder.{Folder, Stayed}
 use Rattle.repl_disk.specs.Moments.{goes_on, joined, started, weakened}

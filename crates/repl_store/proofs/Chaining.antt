@@ -1,6 +1,6 @@
 -- How the parts of a store's call come one after another.
 use Rattle.std.proofs.Common.{◌≡◌, ℕ, Result, Err, OnOk, sym, ◌∙◌, subst}
-use Rattle.repl_counts.specs.Counts.{Rose, Stood}
+use Rattle.repl_effects.specs.Counts.{Rose, Stood}
 use Rattle.repl_disk.specs.Moments.{joined, weakened}
 use Rattle.repl_disk.specs.State.{DiskState}
 use Rattle.repl_store.specs.Backing.{Backs, Comes, LeavesOne, State}

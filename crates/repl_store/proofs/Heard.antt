@@ -5,7 +5,7 @@ use Rattle.std.proofs.lemmas.List.{take_at}
 use Rattle.std.specs.Option.{option_map}
 use Rattle.std.specs.Str.Parse.{digits_value}
 use Rattle.repl_control.specs.declared.control.Control.{Control}
-use Rattle.repl_counts.specs.Counts.{RoseExactly}
+use Rattle.repl_effects.specs.Counts.{RoseExactly}
 use Rattle.repl_disk.specs.declared.disk.DiskError.{DiskError}
 use Rattle.repl_disk.specs.declared.disk.DiskError.TheVariants as error
 use Rattle.repl_disk.specs.Answers.{NeverMissing, is_fault}

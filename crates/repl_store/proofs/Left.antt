@@ -1,7 +1,7 @@
 -- Going over to a child: what its parts come to, one after another.
 use Rattle.std.proofs.Common.{◌≡◌, ◌⊎◌, ℕ, max, [], Result, Ok, Err, refl, ap, ◌∙◌, inl, inr, ⊎_elim, arith}
 use Rattle.repl_control.specs.declared.control.Role.{Role}
-use Rattle.repl_counts.specs.Counts.{Stood}
+use Rattle.repl_effects.specs.Counts.{Stood}
 use Rattle.repl_disk.specs.State.{DiskState}
 use Rattle.repl_lsn.specs.History.{Path}
 use Rattle.repl_store.specs.Backing.{Before, Comes, Either, State, heard, switched}

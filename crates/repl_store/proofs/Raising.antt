@@ -4,7 +4,7 @@ use Rattle.std.proofs.lemmas.List.{drop-append-le, drop-take}
 use Rattle.std.proofs.lemmas.Nat.{div-add-mod'}
 use Rattle.repl_control.specs.Control.{control_bytes}
 use Rattle.repl_control.specs.declared.control.Control.{Control}
-use Rattle.repl_counts.specs.Counts.{RoseExactly, Stood}
+use Rattle.repl_effects.specs.Counts.{RoseExactly, Stood}
 use Rattle.repl_disk.specs.declared.disk.DiskError.{DiskError}
 use Rattle.repl_disk.specs.declared.disk.DiskError.TheVariants as error
 use Rattle.repl_disk.specs.Answers.{NeverMissing, is_fault}

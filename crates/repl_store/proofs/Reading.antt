@@ -5,7 +5,7 @@ use Rattle.std.proofs.lemmas.Slice.{take-put_mid}
 use Rattle.std.proofs.Math.Seq.{take-add}
 use borrow.Rule.Slice.PartMut.{put_mid}
 use Rattle.std.proofs.lemmas.Grind.{common_steps}
-use Rattle.repl_counts.specs.Counts.{Rose, Stood}
+use Rattle.repl_effects.specs.Counts.{Rose, Stood}
 use Rattle.repl_disk.specs.Answers.{EndsRead, OnlyWhereThere}
 use Rattle.repl_disk.specs.Crash.{Elapses, LeavesOnly, NoneNew}
 use Rattle.repl_disk.specs.Folder.{Folder, IfTold, ReadsAt, Stayed, content}

@@ -31,7 +31,7 @@ use Rattle.std.proofs.lemmas.List.{append-nil, nil_from_length, take_all}
 use Rattle.repl_control.specs.Control.{IsControl, FitsFields, control_bytes}
 use Rattle.repl_control.specs.declared.control.Control.{Control}
 use Rattle.repl_control.specs.declared.control.Role.{Role}
-use Rattle.repl_counts.specs.Counts.{RoseExactly}
+use Rattle.repl_effects.specs.Counts.{RoseExactly}
 use Rattle.repl_disk.specs.declared.disk.DiskError.{DiskError}
 use Rattle.repl_disk.specs.declared.disk.DiskError.TheVariants as error
 use Rattle.repl_disk.specs.Answers.{NeverMissing, is_fault}

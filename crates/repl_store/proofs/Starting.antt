@@ -1,7 +1,7 @@
 -- The first segment of a child is begun with bytes that were read from the log.
 use Rattle.std.proofs.Common.{◌≡◌, ◌⊎◌, ℕ, ◌-◌, ◌*◌, ◌/◌, ◌%◌, List, length, take, drop, Result, Ok, Err, OnOk, IfErr, ap, ◌∙◌, subst, inl, inr, arith}
 use Rattle.std.proofs.lemmas.Nat.{div-add-mod'}
-use Rattle.repl_counts.specs.Counts.{DidNotFall, Rose, Stood}
+use Rattle.repl_effects.specs.Counts.{DidNotFall, Rose, Stood}
 use Rattle.repl_disk.specs.State.{DiskState}
 use Rattle.repl_lsn.specs.History.{Path, last_switch}
 use Rattle.repl_store.specs.Backing.{IsCaused, State, log}

@@ -4,7 +4,7 @@ use Rattle.std.proofs.Common.{◌≡◌, ◌≢◌, ℕ, ◌+◌, ◌-◌, ◌*�
 use Rattle.std.proofs.lemmas.List.{take_at}
 use Rattle.std.proofs.lemmas.Nat.{div-add-mod'}
 use Rattle.std.specs.Str.Parse.{digits_value}
-use Rattle.repl_counts.specs.Counts.{RoseExactly}
+use Rattle.repl_effects.specs.Counts.{RoseExactly}
 use Rattle.repl_disk.specs.declared.disk.DiskError.{DiskError}
 use Rattle.repl_disk.specs.Answers.{NeverMissing, is_fault}
 use Rattle.repl_disk.specs.Crash.{LeavesOnly}

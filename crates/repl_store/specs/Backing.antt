@@ -3,7 +3,7 @@ use Rattle.std.specs.Prelude.{◌≡◌, ℕ, ◌+◌, ◌-◌, ◌≤◌, ◌�
 use Rattle.repl_control.specs.Control.{IsControl}
 use Rattle.repl_control.specs.declared.control.Control.{Control}
 use Rattle.repl_control.specs.declared.control.Role.{Role}
-use Rattle.repl_counts.specs.Counts.{DidNotFall, Rose, Stood}
+use Rattle.repl_effects.specs.Counts.{DidNotFall, Rose, Stood}
 use Rattle.repl_disk.specs.Crash.{LeavesOnly, NoneNew}
 use Rattle.repl_disk.specs.Folder.{Folder, Stayed}
 use Rattle.repl_disk.specs.State.{DiskState}

@@ -1,6 +1,6 @@
 -- Making a store.
 use Rattle.std.specs.Prelude.{◌≡◌, ℕ, ◌⊎◌, List, [], Some, None, IsSome, Result, Err, OnOk, IfErr}
-use Rattle.repl_counts.specs.Counts.{Rose, Stood}
+use Rattle.repl_effects.specs.Counts.{Rose, Stood}
 use Rattle.repl_control.specs.Control.{fresh_control}
 use Rattle.repl_control.specs.declared.control.Role.{Role}
 use Rattle.repl_control.specs.declared.control.TheConstants.{VERSION_1_SIZE}

@@ -1,6 +1,6 @@
 //! Making certain what was written, and the role of a store.
 ghost use Rattle.std.specs.Prelude.{◌≡◌, ◌≢◌, ◌↔◌, true, false, Err, OnOk, IfErr};
-ghost use Rattle.repl_counts.specs.Counts.{Rose};
+ghost use Rattle.repl_effects.specs.Counts.{Rose};
 ghost use Rattle.repl_store.specs.Apart.{StaysApart};
 ghost use Rattle.repl_store.specs.Backing.{Backs, Before, Breaks, CanFlush, Comes, Either, IsCaused, State, flushed, flushed_control};
 ghost use Rattle.repl_store.specs.Head.{IsAt, Stands};

@@ -5,7 +5,7 @@ use Rattle.std.proofs.lemmas.Slice.Eq.{bytes_eq-Decides}
 use Rattle.std.specs.Prelude.{string_bytes}
 use Rattle.std.specs.Str.{bytes_eq}
 use Rattle.std.specs.declared.alloc.Global.{Global}
-use Rattle.repl_words.specs.Words.{texts}
+use Rattle.repl_args.specs.Words.{texts}
 use Rattle.repl_top.specs.Words.{IsFolder}
 
 -- the word behind a first word `-D`

@@ -5,10 +5,10 @@ use Rattle.repl_control.specs.declared.control.Role.{Role}
 use Rattle.repl_identify.specs.declared.identity.SystemIdentity.{SystemIdentity}
 use Rattle.repl_lsn.specs.Position.{Spells}
 use Rattle.repl_message.specs.declared.message.Side.{Side}
-use Rattle.repl_words.specs.declared.line.Line.{Line}
-use Rattle.repl_words.specs.Forms.{PlainForm, tail_maybe}
-use Rattle.repl_words.specs.Lines.{IsLine, IsLineOf, IsRead, IsReadOf, IsTail}
-use Rattle.repl_words.proofs.LinesRead.{form_of_command, place_of_argument, rest_that_was_read}
+use Rattle.repl_args.specs.declared.line.Line.{Line}
+use Rattle.repl_args.specs.Forms.{PlainForm, tail_maybe}
+use Rattle.repl_args.specs.Lines.{IsLine, IsLineOf, IsRead, IsReadOf, IsTail}
+use Rattle.repl_args.proofs.LinesRead.{form_of_command, place_of_argument, rest_that_was_read}
 use Rattle.repl_top.specs.declared.kinds.Word.{Word}
 use Rattle.repl_top.specs.declared.kinds.Word.TheVariants as kind
 use Rattle.repl_top.specs.declared.table.Command.{Command}

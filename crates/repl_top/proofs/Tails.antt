@@ -1,8 +1,8 @@
 -- One word more, or none.
 use Rattle.std.proofs.Common.{◌≡◌, ◌⊎◌, ℕ, ◌+◌, ◌<◌, ◌≤◌, List, [], ◌∷◌, length, get_or, drop, sym, ap, subst, ◌∙◌, inl, inr}
 use Rattle.std.proofs.lemmas.List.{drop_more}
-use Rattle.repl_words.specs.Forms.{tail_maybe}
-use Rattle.repl_words.specs.Lines.{IsTail}
+use Rattle.repl_args.specs.Forms.{tail_maybe}
+use Rattle.repl_args.specs.Lines.{IsTail}
 use Rattle.repl_top.specs.declared.kinds.Word.TheVariants as kind
 use Rattle.repl_top.specs.Words.{IsMagic, IsWordOf, SaysMagic}
 

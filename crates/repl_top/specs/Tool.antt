@@ -1,9 +1,9 @@
 -- How each task ends.
 use Rattle.std.specs.Prelude.{◌≡◌, ◌⊎◌, ℕ, List, Bool, true, false}
 use Rattle.repl_control.specs.declared.control.TheConstants.{VERSION_1_SIZE}
-use Rattle.repl_convert.specs.declared.conversion.Converted.{Converted}
-use Rattle.repl_convert.specs.declared.conversion.Converted.TheVariants as converted
-use Rattle.repl_counts.specs.Counts.{Rose, RoseExactly, Stood}
+use Rattle.repl_filter.specs.declared.conversion.Converted.{Converted}
+use Rattle.repl_filter.specs.declared.conversion.Converted.TheVariants as converted
+use Rattle.repl_effects.specs.Counts.{Rose, RoseExactly, Stood}
 use Rattle.repl_disk.specs.State.{DiskState}
 use Rattle.repl_identify.specs.Identify.{Identified}
 use Rattle.repl_io.specs.Source.{SourceState}
@@ -11,12 +11,12 @@ use Rattle.repl_io.specs.Sink.{SinkState}
 use Rattle.repl_print.specs.Frames.{Framed}
 use Rattle.repl_print.specs.Names.{Named}
 use Rattle.repl_print.specs.Histories.{Historied}
-use Rattle.repl_status.specs.declared.status.Status.{Status}
-use Rattle.repl_status.specs.declared.status.Status.TheVariants as status
-use Rattle.repl_tend.specs.declared.tended.Tended.{Tended}
-use Rattle.repl_tend.specs.declared.tended.Tended.TheVariants as tended
-use Rattle.repl_tend.specs.Checking.{Checked}
-use Rattle.repl_tend.specs.Tending.{Initiated, Stated}
+use Rattle.repl_exit.specs.declared.status.Status.{Status}
+use Rattle.repl_exit.specs.declared.status.Status.TheVariants as status
+use Rattle.repl_admin.specs.declared.tended.Tended.{Tended}
+use Rattle.repl_admin.specs.declared.tended.Tended.TheVariants as tended
+use Rattle.repl_admin.specs.Checking.{Checked}
+use Rattle.repl_admin.specs.Tending.{Initiated, Stated}
 use Rattle.repl_top.specs.declared.task.Task.{Task}
 use Rattle.repl_top.specs.declared.task.Task.TheVariants as task
 use Rattle.repl_top.specs.Words.{IsTask}

@@ -7,8 +7,8 @@ use Rattle.repl_identify.specs.declared.identity.SystemIdentity.{SystemIdentity}
 use Rattle.repl_lsn.specs.Position.{Spells}
 use Rattle.repl_message.specs.declared.message.Side.{Side}
 use Rattle.repl_message.specs.declared.message.Side.TheVariants as side
-use Rattle.repl_words.specs.Forms.{PlainForm, PlainTable, no_tail, tail_maybe}
-use Rattle.repl_words.specs.Lines.{IsLine, IsLineOf}
+use Rattle.repl_args.specs.Forms.{PlainForm, PlainTable, no_tail, tail_maybe}
+use Rattle.repl_args.specs.Lines.{IsLine, IsLineOf}
 use Rattle.repl_top.specs.declared.kinds.Word.{Word}
 use Rattle.repl_top.specs.declared.kinds.Word.TheVariants as kind
 use Rattle.repl_top.specs.declared.table.Command.{Command}

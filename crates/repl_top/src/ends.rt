@@ -1,11 +1,11 @@
 //! How the program ends where a command ended so.
 ghost use Rattle.std.specs.Prelude.{◌≡◌, ◌≢◌, ℕ};
-ghost use Rattle.repl_status.specs.declared.status.Status.TheVariants as variant;
+ghost use Rattle.repl_exit.specs.declared.status.Status.TheVariants as variant;
 ghost use Rattle.repl_top.specs.Tool.{status_of_converted, status_of_tended};
 
-use repl_convert::Converted;
-use repl_status::Status;
-use repl_tend::Tended;
+use repl_admin::Tended;
+use repl_exit::Status;
+use repl_filter::Converted;
 
 /// The status of a command that answers its input.
 pub(crate) fn status_of_converted(end: Converted) -> Status

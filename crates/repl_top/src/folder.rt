@@ -1,10 +1,10 @@
 //! Which folder a command line is about.
 ghost use Rattle.std.specs.Prelude.{◌≡◌};
-ghost use Rattle.repl_words.specs.Words.{texts};
+ghost use Rattle.repl_args.specs.Words.{texts};
 ghost use Rattle.repl_top.specs.Words.{IsFolder, UsesDisk};
 
 use crate::task::read_task;
-use repl_words::word_at;
+use repl_args::word_at;
 
 /// The folder that the words name: the word after a first word `-D`, or `.`.
 pub fn folder_of(words: &[String]) -> &str

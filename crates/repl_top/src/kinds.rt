@@ -5,10 +5,10 @@ ghost use Rattle.repl_control.specs.declared.control.Role.{Role};
 ghost use Rattle.repl_message.specs.declared.message.Side.{Side};
 ghost use Rattle.repl_top.specs.Words.{IsMagic, IsNumber, IsRole, IsSide, IsSystem, IsTimeline, IsWordOf};
 
+use repl_args::Kind;
 use repl_lsn::{Lsn, Tli};
 use repl_store::Role;
 use repl_wire::Side;
-use repl_words::Kind;
 
 /// The greatest value of four hexadecimal digits.
 const MAGIC_LIMIT: u64 = 65_535;

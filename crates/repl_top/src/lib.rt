@@ -2,9 +2,9 @@
 //! makes over real streams and a real folder.
 //!
 //! `run_tool` is the command line of `pgnode` but for serving. It reads the words by a table (`specs/Words.antt`), does what
-//! they say over a source, a sink and a disk, which it hands back, and answers a `Status` of `repl_status`. Its contract
+//! they say over a source, a sink and a disk, which it hands back, and answers a `Status` of `repl_exit`. Its contract
 //! says for each command line how it ends (`specs/Tool.antt`), by the definitions of the crates that do the work:
-//! `repl_identify`, `repl_print` and `repl_tend`. `folder_of` and `disk_use` tell a main which folder it is to open, and whether.
+//! `repl_identify`, `repl_print` and `repl_admin`. `folder_of` and `disk_use` tell a main which folder it is to open, and whether.
 //!
 //! ```text
 //! // The words are `init`, `primary` and `7`.
@@ -21,6 +21,6 @@ mod task;
 mod tool;
 
 pub use folder::{DiskUse, disk_use, folder_of};
+pub use repl_exit::{DamageReason, Status, status_line, status_number};
 pub use repl_identify::SystemIdentity;
-pub use repl_status::{DamageReason, Status, status_line, status_number};
 pub use tool::run_tool;

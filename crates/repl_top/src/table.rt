@@ -2,7 +2,7 @@
 ghost use Rattle.std.specs.Prelude.{◌≡◌};
 
 use crate::kinds::Word;
-use repl_words::{Form, OptionForm, Table, Tail};
+use repl_args::{Form, OptionForm, Table, Tail};
 
 /// What a command line asks for.
 #[derive(Clone, Copy)]

@@ -1,20 +1,20 @@
 //! What a command line asks for.
 ghost use Rattle.std.specs.Prelude.{◌≡◌, [], get_or, drop, IfOk, IfErr};
 ghost use Rattle.repl_lsn.specs.Position.{Spells};
-ghost use Rattle.repl_words.specs.Forms.{tail_maybe};
-ghost use Rattle.repl_words.specs.Lines.{IsTail, IsUsage};
-ghost use Rattle.repl_words.specs.Words.{texts};
+ghost use Rattle.repl_args.specs.Forms.{tail_maybe};
+ghost use Rattle.repl_args.specs.Lines.{IsTail, IsUsage};
+ghost use Rattle.repl_args.specs.Words.{texts};
 ghost use Rattle.repl_top.specs.declared.kinds.Word.TheVariants as kind;
 ghost use Rattle.repl_top.specs.Words.{IsMagic, IsRole, IsSide, IsSystem, IsTask, IsTimeline, IsWordOf, SaysMagic, disk_use, the_table};
 
 use crate::folder::DiskUse;
 use crate::kinds::{read_magic, read_position, read_role, read_side, read_system, read_timeline};
 use crate::table::{Command, TABLE};
+use repl_args::{read_line, word_at};
 use repl_identify::SystemIdentity;
 use repl_lsn::{Lsn, Tli};
 use repl_store::Role;
 use repl_wire::Side;
-use repl_words::{read_line, word_at};
 
 /// The magic number of pages where the words say none: that of PostgreSQL 17.
 const MAGIC: u16 = 0xd116;

@@ -1,19 +1,19 @@
 //! The command line of `pgnode`, but for serving.
 ghost use Rattle.std.specs.Prelude.{◌≡◌, ◌≢◌, ℕ, ◌↔◌};
-ghost use Rattle.repl_words.specs.Lines.{IsLine, IsUsage};
-ghost use Rattle.repl_words.specs.Words.{texts};
+ghost use Rattle.repl_args.specs.Lines.{IsLine, IsUsage};
+ghost use Rattle.repl_args.specs.Words.{texts};
 ghost use Rattle.repl_top.specs.Tool.{Did, Ends, TellsFaults};
 ghost use Rattle.repl_top.specs.Words.{IsWordOf, the_table};
-ghost use Rattle.repl_status.specs.declared.status.Status.TheVariants as Status;
+ghost use Rattle.repl_exit.specs.declared.status.Status.TheVariants as Status;
 
 use crate::ends::{status_of_converted, status_of_tended};
 use crate::task::{Task, read_task};
+use repl_admin::{check, init, status};
 use repl_disk::Disk;
+use repl_exit::Status;
 use repl_identify::identify;
 use repl_io::{Sink, Source};
 use repl_print::{frames, history, names};
-use repl_status::Status;
-use repl_tend::{check, init, status};
 use std::alloc::Global;
 
 /// Does what the words say, over this input, output and disk, and says how that ended. The disk comes back beside every

@@ -4,8 +4,8 @@ use Rattle.std.proofs.Math.Nat.{div-mul-le_self}
 use Rattle.std.proofs.lemmas.List.{drop_all, length-replicate, take_all}
 use Rattle.repl_control.specs.Control.{IsControl}
 use Rattle.repl_control.specs.declared.control.Control.{Control}
-use Rattle.repl_log.proofs.Walks.{begun_at_end, walked_whole}
-use Rattle.repl_log.specs.Walks.{HasWalked}
+use Rattle.repl_walk.proofs.Walks.{begun_at_end, walked_whole}
+use Rattle.repl_walk.specs.Walks.{HasWalked}
 use Rattle.repl_lsn.specs.Segment.{IsSegSize}
 use Rattle.repl_page.specs.declared.ident.Ident.{Ident}
 use Rattle.repl_record.proofs.LogChains.{same_last}

@@ -1,7 +1,7 @@
 -- How the calls of the store come one after another in a call on a log.
 use Rattle.std.proofs.Common.{◌≡◌, true, false, None, Some, Option, Result, Ok, Err, refl, sym, ap, ◌∙◌, subst, inl, inr, arith}
 use Rattle.std.proofs.lemmas.Bool.{cases_Bool}
-use Rattle.repl_counts.specs.Counts.{DidNotFall, Rose, Stood}
+use Rattle.repl_effects.specs.Counts.{DidNotFall, Rose, Stood}
 use Rattle.repl_disk.specs.Folder.{Folder}
 use Rattle.repl_disk.specs.Moments.{joined}
 use Rattle.repl_disk.specs.State.{DiskState}

@@ -4,7 +4,7 @@ use Rattle.std.proofs.lemmas.Bool.{cases_Bool}
 use Rattle.repl_control.specs.declared.control.Control.{Control}
 use Rattle.repl_control.specs.declared.control.Role.{Role}
 use Rattle.repl_control.specs.declared.control.Role.TheVariants.{Primary, Standby}
-use Rattle.repl_counts.specs.Counts.{Rose}
+use Rattle.repl_effects.specs.Counts.{Rose}
 use Rattle.repl_disk.specs.Folder.{Folder}
 use Rattle.repl_disk.specs.State.{DiskState}
 use Rattle.repl_record.specs.Walker.{last_end, last_start}

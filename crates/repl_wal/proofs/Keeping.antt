@@ -6,7 +6,7 @@ use Rattle.std.proofs.lemmas.List.{drop-append-le, drop-drop}
 use Rattle.std.proofs.lemmas.Nat.{le-div}
 use Rattle.repl_control.specs.Control.{IsControl}
 use Rattle.repl_control.specs.declared.control.Control.{Control}
-use Rattle.repl_log.specs.Walks.{HasWalked}
+use Rattle.repl_walk.specs.Walks.{HasWalked}
 use Rattle.repl_record.specs.Log.{IsWholeEnd}
 use Rattle.repl_record.specs.declared.walker.Walker.{Walker}
 use Rattle.repl_store.specs.Backing.{CanRaise, log, raised_control}

@@ -2,7 +2,7 @@
 use Rattle.std.proofs.Common.{ℕ, sym, ap, ◌∙◌, subst}
 use Rattle.repl_control.specs.Control.{FitsFields, IsControl}
 use Rattle.repl_control.specs.declared.control.Control.{Control}
-use Rattle.repl_log.proofs.Walks.{walked_prefix}
+use Rattle.repl_walk.proofs.Walks.{walked_prefix}
 use Rattle.repl_lsn.specs.Between.{AreBetween}
 use Rattle.repl_lsn.specs.History.{IsPath, Path}
 use Rattle.repl_page.specs.declared.ident.Ident.{Ident}

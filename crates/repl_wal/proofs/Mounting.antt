@@ -5,9 +5,9 @@ use Rattle.std.proofs.Math.Seq.{drop-append_seam, take-add}
 use Rattle.std.proofs.lemmas.List.{drop-append-le, drop-drop, length-replicate, take-append-drop, take-append-le, take_all}
 use Rattle.repl_control.specs.declared.control.Control.{Control}
 use Rattle.repl_disk.specs.State.{DiskState}
-use Rattle.repl_log.proofs.Faults.{fault_more}
-use Rattle.repl_log.proofs.Walks.{begun_at_end}
-use Rattle.repl_log.specs.Walks.{HasWalked}
+use Rattle.repl_walk.proofs.Faults.{fault_more}
+use Rattle.repl_walk.proofs.Walks.{begun_at_end}
+use Rattle.repl_walk.specs.Walks.{HasWalked}
 use Rattle.repl_lsn.specs.History.{Path}
 use Rattle.repl_lsn.specs.Path.{timeline_at}
 use Rattle.repl_page.specs.declared.ident.Ident.{Ident}

@@ -1,6 +1,6 @@
 -- Who is told of the disk's failures in a mount, and that it only reads.
 use Rattle.std.proofs.Common.{◌≡◌, ℕ, ◌≤◌, ◌⊎◌, Result, Ok, Err, OnOk, IfErr, refl, ◌∙◌, subst, inl, inr, ⊎_elim, arith}
-use Rattle.repl_counts.specs.Counts.{Rose, Stood}
+use Rattle.repl_effects.specs.Counts.{Rose, Stood}
 use Rattle.repl_disk.specs.Folder.{Folder}
 use Rattle.repl_disk.specs.Moments.{weakened}
 use Rattle.repl_disk.specs.State.{DiskState}

@@ -7,9 +7,9 @@ use Rattle.repl_control.specs.Control.{IsControl}
 use Rattle.repl_control.specs.declared.control.Control.{Control}
 use Rattle.repl_control.specs.declared.control.Role.{Role}
 use Rattle.repl_control.specs.declared.control.Role.TheVariants.{Primary}
-use Rattle.repl_log.proofs.Ends.{ends_within}
-use Rattle.repl_log.proofs.Walks.{from_its_end, walked_whole}
-use Rattle.repl_log.specs.Walks.{HasWalked}
+use Rattle.repl_walk.proofs.Ends.{ends_within}
+use Rattle.repl_walk.proofs.Walks.{from_its_end, walked_whole}
+use Rattle.repl_walk.specs.Walks.{HasWalked}
 use Rattle.repl_lsn.specs.Between.{AreBetween}
 use Rattle.repl_lsn.specs.Segment.{IsSegSize}
 use Rattle.repl_lsn.specs.declared.history.Part.{Part}

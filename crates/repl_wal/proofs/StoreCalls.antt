@@ -1,7 +1,7 @@
 -- What the store's calls say, as a promotion makes them: over any disk, and of each state that the disk backs.
 use Rattle.std.proofs.Common.{◌≡◌, ℕ, ◌⊎◌, ◌↔◌, true, [], Result, Err, OnOk, IfOk, IfErr}
 use Rattle.repl_control.specs.declared.control.Role.TheVariants.{Primary}
-use Rattle.repl_counts.specs.Counts.{DidNotFall}
+use Rattle.repl_effects.specs.Counts.{DidNotFall}
 use Rattle.repl_disk.specs.Folder.{IfTold}
 use Rattle.repl_disk.specs.State.{DiskState}
 use Rattle.repl_lsn.specs.History.{Path, last_switch}

@@ -6,11 +6,11 @@ use Rattle.std.proofs.lemmas.List.Elements.{All-head, All-tail}
 use Rattle.repl_control.specs.declared.control.Control.{Control}
 use Rattle.repl_control.specs.declared.control.Role.TheVariants.{Primary, Standby}
 use Rattle.repl_disk.specs.State.{DiskState}
-use Rattle.repl_log.proofs.Ends.{image_goes_on}
-use Rattle.repl_log.proofs.Timelines.{image_alike}
-use Rattle.repl_log.proofs.Walks.{begun_at_end, walked_prefix}
-use Rattle.repl_log.specs.Timelines.{AreAlike}
-use Rattle.repl_log.specs.Walks.{HasWalked}
+use Rattle.repl_walk.proofs.Ends.{image_goes_on}
+use Rattle.repl_walk.proofs.Timelines.{image_alike}
+use Rattle.repl_walk.proofs.Walks.{begun_at_end, walked_prefix}
+use Rattle.repl_walk.specs.Timelines.{AreAlike}
+use Rattle.repl_walk.specs.Walks.{HasWalked}
 use Rattle.repl_lsn.specs.Between.{AreBetween, IsBetween}
 use Rattle.repl_lsn.specs.History.{Path}
 use Rattle.repl_lsn.specs.Path.{holder, timeline_at}

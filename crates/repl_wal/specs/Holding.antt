@@ -1,9 +1,9 @@
 -- How a log's state, its memory and the files of its disk hang together.
 use Rattle.std.specs.Prelude.{◌≡◌, ◌+◌, ◌-◌, ◌⊎◌, true, false, length, take, Option, Some, None, Result, Err}
 use Rattle.repl_control.specs.declared.control.Role.TheVariants.{Primary}
-use Rattle.repl_counts.specs.Counts.{Rose}
+use Rattle.repl_effects.specs.Counts.{Rose}
 use Rattle.repl_disk.specs.State.{DiskState}
-use Rattle.repl_log.specs.Walks.{HasWalked}
+use Rattle.repl_walk.specs.Walks.{HasWalked}
 use Rattle.repl_record.specs.declared.walker.Walker.{Walker}
 use Rattle.repl_record.specs.Log.{IsWholeEnd}
 use Rattle.repl_record.specs.Walker.{identity, last_end}

@@ -1,12 +1,12 @@
 -- Making a log, and opening one again.
 use Rattle.std.specs.Prelude.{◌≡◌, ℕ, ◌+◌, ◌-◌, ◌<◌, ◌⊎◌, false, true, List, [], length, take, drop, None, Result, Err, IfErr, OnOk}
-use Rattle.repl_counts.specs.Counts.{Rose, Stood}
+use Rattle.repl_effects.specs.Counts.{Rose, Stood}
 use Rattle.repl_disk.specs.Folder.{Folder, ToldFiles}
 use Rattle.repl_disk.specs.State.{DiskState}
 use Rattle.repl_lsn.specs.Path.{timeline_at}
 use Rattle.repl_page.specs.declared.ident.Ident.{Ident}
-use Rattle.repl_log.specs.Faults.{IsFaultBehind}
-use Rattle.repl_log.specs.Walks.{HasWalked}
+use Rattle.repl_walk.specs.Faults.{IsFaultBehind}
+use Rattle.repl_walk.specs.Walks.{HasWalked}
 use Rattle.repl_record.specs.Log.{RecordEnd}
 use Rattle.repl_record.specs.Walker.{identity, last_end, position}
 use Rattle.repl_record.specs.declared.walker.Walker.{Walker}

@@ -2,7 +2,7 @@
 -- "WAL Internals" and "Log-Shipping Standby Servers").
 use Rattle.std.specs.Prelude.{◌≡◌, ◌≢◌, ℕ, ◌+◌, ◌^◌, ◌<◌, ◌≤◌, List, ◌++◌, length, Result}
 use Rattle.repl_control.specs.declared.control.Role.TheVariants.{Primary, Standby}
-use Rattle.repl_log.specs.Faults.{HasFault}
+use Rattle.repl_walk.specs.Faults.{HasFault}
 use Rattle.repl_record.specs.declared.record.RecordIn.{RecordIn}
 use Rattle.repl_record.specs.declared.record.TheConstants.{BODY_LIMIT}
 use Rattle.repl_record.specs.Length.{image_end}

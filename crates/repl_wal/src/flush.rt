@@ -1,6 +1,6 @@
 //! Making certain what was written, and a primary into a standby.
 ghost use Rattle.std.specs.Prelude.{◌≡◌, Err};
-ghost use Rattle.repl_counts.specs.Counts.{Rose};
+ghost use Rattle.repl_effects.specs.Counts.{Rose};
 ghost use Rattle.repl_store.specs.Apart.{StaysApart};
 ghost use Rattle.repl_wal.specs.Holding.{Comes, Holds, Remembers};
 ghost use Rattle.repl_wal.specs.State.{LogState, flushed_end, written_end};

@@ -7,7 +7,7 @@
 //! each call refuses, makes of the state, and leaves to a crash. How a state, the memory and the disk's files hang together
 //! stands in `specs/Holding.antt`. After a failure of the disk every call but `identify`, `path` and `into_disk` answers
 //! `Broken`, until the log is mounted again. Every call leaves the files of the slots as they were. Stands on `repl_store`
-//! and `repl_log`.
+//! and `repl_walk`.
 //!
 //! ```text
 //! let mut wal = Wal::init(alloc, disk, ident, Role::Primary)?;

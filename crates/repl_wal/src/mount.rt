@@ -1,9 +1,9 @@
 //! Opening the log that stands on a disk.
 ghost use Rattle.std.specs.Prelude.{◌≡◌, ◌≢◌, ◌+◌, ◌<◌, ◌≤◌, ◌^◌, ◌++◌, ◌⊎◌, ℕ, List, length, false, [], None, Some, Ok, Err, IfOk, IfErr, OnOk, MatchResult};
 ghost use Rattle.repl_control.specs.declared.control.TheConstants.{VERSION_1_SIZE};
-ghost use Rattle.repl_counts.specs.Counts.{Rose};
+ghost use Rattle.repl_effects.specs.Counts.{Rose};
 ghost use Rattle.repl_disk.specs.Folder.{Folder, IfTold};
-ghost use Rattle.repl_log.specs.Walks.{HasWalked};
+ghost use Rattle.repl_walk.specs.Walks.{HasWalked};
 ghost use Rattle.repl_record.specs.Walker.{AreOn, identity, last_end, position};
 ghost use Rattle.repl_store.specs.Apart.{StaysApart};
 ghost use Rattle.repl_store.specs.Backing.{Backs, OnlyReads, State};
@@ -17,10 +17,10 @@ ghost use Rattle.repl_wal.specs.declared.fault.NodeFault.TheVariants as NodeFaul
 use crate::fault::{NodeFault, of_store};
 use crate::wal::Wal;
 use repl_disk::Disk;
-use repl_log::walk;
 use repl_lsn::Lsn;
 use repl_record::Walker;
 use repl_store::{Store, StoreStatus};
+use repl_walk::walk;
 use std::alloc::Global;
 
 /// So many bytes of the log are read at a time.

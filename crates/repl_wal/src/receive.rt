@@ -10,9 +10,9 @@ ghost use Rattle.repl_wal.specs.declared.fault.NodeFault.TheVariants as NodeFaul
 use crate::fault::{NodeFault, stop};
 use crate::wal::{LOG_LIMIT, Wal, is_standby};
 use repl_disk::Disk;
-use repl_log::walk;
 use repl_lsn::{Lsn, Tli};
 use repl_store::StoreStatus;
+use repl_walk::walk;
 use std::alloc::Global;
 
 impl<D: Disk> Wal<D> {

@@ -1,6 +1,6 @@
 -- The check has taken the log up to its position, and the reads left all else as it was.
 use Rattle.std.proofs.Common.{◌≡◌, ◌-◌, false, length}
-use Rattle.repl_counts.specs.Counts.{Stood}
+use Rattle.repl_effects.specs.Counts.{Stood}
 use Rattle.repl_store.specs.Backing.{Backs, State}
 use Rattle.repl_check.specs.Found.{HasRead}
 use Rattle.repl_check.specs.Machine.{check_position}

@@ -6,8 +6,8 @@ use Rattle.std.proofs.lemmas.Result.{err_from_is_err_and}
 use Rattle.repl_identify.specs.declared.stage.Session.{Session}
 use Rattle.repl_identify.specs.declared.stage.Stage.{Stage}
 use Rattle.repl_identify.specs.declared.stage.Stage.TheVariants as stage
-use Rattle.repl_convert.specs.declared.converter.Refused.{Refused}
-use Rattle.repl_convert.specs.declared.converter.Refused.TheVariants.{At}
+use Rattle.repl_filter.specs.declared.converter.Refused.{Refused}
+use Rattle.repl_filter.specs.declared.converter.Refused.TheVariants.{At}
 use Rattle.repl_identify.proofs.Sessions.{SoFar, so_far_none, fed_more, fed_fits, so_far_more, refused_stuck, read_whole, refused_end}
 use Rattle.repl_identify.proofs.session.read_session.Goals as goal
 use Rattle.repl_identify.proofs.session.read_session.Goals.{in_default-via-in-Over+else-is_empty, in_default-via-in_default}

@@ -1,7 +1,7 @@
 -- Each message that the reader gives leads on, or the walk is stuck at its place.
 use Rattle.std.proofs.Common.{◌≡◌, Err, sym, ◌∙◌, arith}
 use Rattle.std.proofs.lemmas.Result.{err_from_is_err_and}
-use Rattle.repl_convert.specs.declared.converter.Refused.TheVariants.{At}
+use Rattle.repl_filter.specs.declared.converter.Refused.TheVariants.{At}
 use Rattle.repl_wire.proofs.Streams.{rest_less}
 use Rattle.repl_identify.proofs.Sessions.{walked_none, walked_more, counted_less, stuck_refused, stuck_message}
 use Rattle.repl_identify.proofs.session.walk.Goals as goal

@@ -1,6 +1,6 @@
 -- What the loop of `send_all` keeps: a front is written, nothing was counted, and the reading side is as it was.
 use Rattle.std.proofs.Common.{length, ◌-◌, ◌≡◌, ◌≤◌, take}
-use Rattle.repl_counts.specs.Told.{Gained}
+use Rattle.repl_effects.specs.Told.{Gained}
 use Rattle.repl_io.proofs.link.send_all.Given as goal
 
 abbrev pub invariant-loop-start : goal.invariant-loop-start

@@ -1,6 +1,6 @@
 -- What the loop of `write_all` keeps: a front is written, and no fault and no want of memory was counted.
 use Rattle.std.proofs.Common.{length, ◌-◌, ◌≡◌, ◌≤◌, take}
-use Rattle.repl_counts.specs.Told.{Gained}
+use Rattle.repl_effects.specs.Told.{Gained}
 use Rattle.repl_io.proofs.sink.write_all.Given as goal
 
 abbrev pub invariant-loop-start : goal.invariant-loop-start

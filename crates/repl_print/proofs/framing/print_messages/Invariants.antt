@@ -1,5 +1,5 @@
 -- What the loop keeps: the lines of what was read are written, and nothing was faulty.
-use Rattle.repl_counts.specs.Counts.{Stood}
+use Rattle.repl_effects.specs.Counts.{Stood}
 use Rattle.repl_print.proofs.FrameProgress.{Progress}
 use Rattle.repl_print.proofs.framing.print_messages.Given as goal
 

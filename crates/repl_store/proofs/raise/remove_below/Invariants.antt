@@ -1,7 +1,7 @@
 -- So far nothing that counts changed.
 use Rattle.std.proofs.Common.{◌/◌, map, string_bytes}
 use Rattle.repl_store.proofs.Freeing.{Gone}
-use Rattle.repl_counts.specs.Counts.{Stood}
+use Rattle.repl_effects.specs.Counts.{Stood}
 use Rattle.repl_store.specs.Apart.{StaysApart}
 use Rattle.repl_store.specs.Backing.{Backs, Before, LeavesOne, State}
 use Rattle.repl_store.proofs.raise.remove_below.Given as goal

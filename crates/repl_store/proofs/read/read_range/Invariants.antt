@@ -1,6 +1,6 @@
 -- What was filled is the log's, and nothing else changed.
 use Rattle.std.proofs.Common.{◌≡◌, ◌≤◌, ◌-◌, length}
-use Rattle.repl_counts.specs.Counts.{Stood}
+use Rattle.repl_effects.specs.Counts.{Stood}
 use Rattle.repl_store.specs.Backing.{Backs, OnlyReads, State}
 use Rattle.repl_store.proofs.Reading.{Filled}
 use Rattle.repl_store.proofs.read.read_range.Given as goal

@@ -1,6 +1,6 @@
 -- A front of the bytes is appended, and nothing was counted.
 use Rattle.std.proofs.Common.{◌≤◌, ◌+◌, ◌-◌, length}
-use Rattle.repl_counts.specs.Counts.{Stood}
+use Rattle.repl_effects.specs.Counts.{Stood}
 use Rattle.repl_store.specs.Apart.{StaysApart}
 use Rattle.repl_store.specs.Backing.{Backs, State}
 use Rattle.repl_store.specs.Head.{IsAt}

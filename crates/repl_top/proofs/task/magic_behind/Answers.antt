@@ -2,7 +2,7 @@
 use Rattle.std.proofs.Common.{ℕ, ◌<◌, length, sym, subst}
 use Rattle.std.proofs.lemmas.List.{length-map}
 use Rattle.std.specs.Prelude.{string_bytes}
-use Rattle.repl_words.specs.Words.{texts}
+use Rattle.repl_args.specs.Words.{texts}
 use Rattle.repl_top.proofs.Tails.{one_word}
 use Rattle.repl_top.proofs.task.magic_behind.Goals as goal
 

@@ -1,7 +1,7 @@
 -- The line is one of the form of its command.
 use Rattle.std.proofs.Common.{◌≡◌, ◌+◌, ℕ, List, refl, arith, ap, ◌∙◌, ◌∷◌, []}
-use Rattle.repl_words.specs.Words.{texts}
-use Rattle.repl_words.proofs.LinesRead.{argument_that_was_read}
+use Rattle.repl_args.specs.Words.{texts}
+use Rattle.repl_args.proofs.LinesRead.{argument_that_was_read}
 use Rattle.repl_top.specs.declared.table.Command.TheVariants as command
 use Rattle.repl_top.specs.declared.kinds.Word.TheVariants as kind
 use Rattle.repl_top.specs.Words.{IsWordOf, identify_form, the_table}

@@ -1,9 +1,9 @@
 -- Words are refused where they ask for nothing.
 use Rattle.std.proofs.Common.{◌≡◌, ℕ, ap, subst}
-use Rattle.repl_status.specs.declared.status.Status.TheVariants as status
-use Rattle.repl_words.specs.Words.{texts}
-use Rattle.repl_words.specs.Lines.{IsUsage}
-use Rattle.repl_words.proofs.LinesRead.{no_usage_of_line, one_usage_of_words}
+use Rattle.repl_exit.specs.declared.status.Status.TheVariants as status
+use Rattle.repl_args.specs.Words.{texts}
+use Rattle.repl_args.specs.Lines.{IsUsage}
+use Rattle.repl_args.proofs.LinesRead.{no_usage_of_line, one_usage_of_words}
 use Rattle.repl_top.specs.Words.{IsWordOf, the_table}
 use Rattle.repl_top.proofs.Lines.{task_is_line}
 use Rattle.repl_top.proofs.tool.run_tool.Goals as goal

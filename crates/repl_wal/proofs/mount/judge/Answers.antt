@@ -1,7 +1,7 @@
 -- What is wrong behind the whole end: a record's end, or the first fault.
 use Rattle.std.proofs.Common.{rules, ◌≡◌, ℕ, ◌%◌, ◌<◌, ◌++◌, List, refl, sym, ap, ◌∙◌, subst}
 use Rattle.repl_lsn.specs.Segment.{IsSegSize}
-use Rattle.repl_log.specs.Faults.{IsFaultBehind}
+use Rattle.repl_walk.specs.Faults.{IsFaultBehind}
 use Rattle.repl_page.specs.declared.ident.Ident.{Ident}
 use Rattle.repl_record.proofs.LogChains.{same_last}
 use Rattle.repl_record.proofs.LogEnds.{from_le}

@@ -1,6 +1,6 @@
 -- What was walked is the log that runs.
 use Rattle.std.proofs.Common.{◌⊎◌, [], refl, sym, subst, inl, inr, arith}
-use Rattle.repl_counts.specs.Counts.{Rose}
+use Rattle.repl_effects.specs.Counts.{Rose}
 use Rattle.repl_record.specs.declared.walker.Walker.{Walker}
 use Rattle.repl_store.specs.Backing.{Backs, State}
 use Rattle.repl_store.specs.Head.{Head}

@@ -1,6 +1,6 @@
 -- Piece by piece the walker goes through the log.
 use Rattle.std.proofs.Common.{rules, ◌≡◌, ℕ, ◌≤◌, is_lt, nat_cmp, false, Ok, Err, refl, sym, ◌∙◌, subst, inl, inr, arith}
-use Rattle.repl_counts.specs.Counts.{Rose}
+use Rattle.repl_effects.specs.Counts.{Rose}
 use Rattle.repl_disk.specs.State.{DiskState}
 use Rattle.repl_record.specs.Walker.{position}
 use Rattle.repl_record.specs.declared.walker.Walker.{Walker}

@@ -4,7 +4,7 @@ use Rattle.std.proofs.lemmas.List.{length-take, take-append-drop, take_rest}
 use Rattle.repl_page.specs.declared.ident.Ident.{Ident}
 use Rattle.repl_page.specs.Page.{IsPage}
 use Rattle.repl_record.specs.Walker.{AreOn, position}
-use Rattle.repl_log.specs.Rest.{IsRestBegun, IsRestFault, IsRestWhole}
+use Rattle.repl_walk.specs.Rest.{IsRestBegun, IsRestFault, IsRestWhole}
 use Rattle.repl_check.specs.declared.log_check.LogCheck.{LogCheck}
 use Rattle.repl_check.specs.Machine.{IsAtStage, check_floor, check_identity}
 use Rattle.repl_check.proofs.Stages.{rest_done}

@@ -3,7 +3,7 @@ use Rattle.std.proofs.Common.{◌≡◌, ℕ, ◌⊎◌, [], true, false, Result
 use Rattle.repl_clone.specs.Causes.{IsTooLong}
 use Rattle.repl_clone.specs.Copied.{IsCopying, copied}
 use Rattle.repl_control.specs.declared.control.TheConstants.{VERSION_1_SIZE}
-use Rattle.repl_counts.specs.Counts.{Rose}
+use Rattle.repl_effects.specs.Counts.{Rose}
 use Rattle.repl_disk.specs.Crash.{LeavesOnly}
 use Rattle.repl_disk.specs.Moments.{weakened}
 use Rattle.repl_disk.specs.Runs.{told_so}

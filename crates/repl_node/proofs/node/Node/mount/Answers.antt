@@ -1,7 +1,7 @@
 -- The slots are judged, and then the log is opened.
 use Rattle.std.proofs.Common.{◌≡◌, ℕ, All, List, Some, None, Result, Err, inl, inr, ⊎_elim, refl, sym, ap, ◌∙◌, subst}
 use Rattle.repl_control.specs.declared.control.TheConstants.{VERSION_1_SIZE}
-use Rattle.repl_counts.specs.Counts.{Rose}
+use Rattle.repl_effects.specs.Counts.{Rose}
 use Rattle.repl_disk.specs.Folder.{Folder, IfTold, ToldFiles}
 use Rattle.repl_disk.specs.Runs.{told_so, where_told}
 use Rattle.repl_slots.specs.SlotFile.{Entry, IsMounted as IsMountedSlot, entries_of}

@@ -5,7 +5,7 @@ use Rattle.repl_lsn.specs.History.{Path}
 use Rattle.repl_clone.specs.Copied.{IsCopying, copied}
 use Rattle.repl_clone.specs.declared.fault.CopyFault.{CopyFault}
 use Rattle.repl_control.specs.declared.control.TheConstants.{VERSION_1_SIZE}
-use Rattle.repl_counts.specs.Counts.{Rose, Stood}
+use Rattle.repl_effects.specs.Counts.{Rose, Stood}
 use Rattle.repl_disk.specs.Crash.{LeavesOnly}
 use Rattle.repl_disk.specs.Folder.{Folder, IfTold}
 use Rattle.repl_disk.specs.Runs.{told_so, where_told}

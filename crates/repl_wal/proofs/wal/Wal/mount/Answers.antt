@@ -1,7 +1,7 @@
 -- The log of the store that was mounted.
 use Rattle.std.proofs.Common.{◌≡◌, ℕ, ◌⊎◌, Some, None, [], Result, Err, refl, sym, ap, ◌∙◌, subst, inl, inr, ⊎_elim}
 use Rattle.repl_control.specs.declared.control.TheConstants.{VERSION_1_SIZE}
-use Rattle.repl_counts.specs.Counts.{Rose}
+use Rattle.repl_effects.specs.Counts.{Rose}
 use Rattle.repl_disk.specs.Folder.{Folder, IfTold, ToldFiles}
 use Rattle.repl_disk.specs.State.{DiskState}
 use Rattle.repl_store.proofs.Apart.{apart_reads}

@@ -1,6 +1,6 @@
 -- The bytes are added, or the log stays or stops.
 use Rattle.std.proofs.Common.{◌≡◌, ℕ, ◌+◌, ◌++◌, length, List, Ok, Err, refl, sym, ap, ◌∙◌, subst, arith}
-use Rattle.repl_log.specs.Faults.{HasFault, IsFaultBehind}
+use Rattle.repl_walk.specs.Faults.{HasFault, IsFaultBehind}
 use Rattle.repl_page.specs.declared.ident.Ident.{Ident}
 use Rattle.repl_record.specs.declared.answer.WalkReason.{WalkReason}
 use Rattle.repl_record.specs.Walker.{identity, last_end, last_start}

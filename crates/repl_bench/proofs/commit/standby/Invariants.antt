@@ -1,6 +1,0 @@
--- The pass stays one of this turn.
-use Rattle.std.proofs.Common.{◌≡◌}
-use Rattle.repl_bench.proofs.commit.standby.Given as goal
-
-abbrev pub invariant-loop : goal.invariant-loop
-invariant-loop g l = l.pass.turn ≡ l.turn

@@ -1,6 +1,0 @@
--- Ends counted from an end are ends.
-use Rattle.repl_log.proofs.Ends.{joined}
-use Rattle.repl_log.proofs.end_laws.ends_join.Goals as goal
-
-pub returns : goal.returns
-returns c = joined

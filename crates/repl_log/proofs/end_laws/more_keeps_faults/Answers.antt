@@ -1,6 +1,0 @@
--- A fault remains.
-use Rattle.repl_log.proofs.Faults.{fault_more}
-use Rattle.repl_log.proofs.end_laws.more_keeps_faults.Goals as goal
-
-pub returns : goal.returns
-returns c = fault_more

@@ -1,6 +1,0 @@
--- The bytes before are zero.
-use Rattle.std.proofs.Common.{◌≡◌, ℕ, ◌<◌, get_or}
-use Rattle.repl_log.proofs.rest.first_set.Given as goal
-
-abbrev pub invariant-loop-place : goal.invariant-loop-place
-invariant-loop-place l = (k : ℕ) → k < l.place → get_or l.bytes k 0 ≡ 0

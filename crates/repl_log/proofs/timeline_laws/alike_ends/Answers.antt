@@ -1,6 +1,0 @@
--- Record ends.
-use Rattle.repl_log.proofs.Timelines.{ends_alike}
-use Rattle.repl_log.proofs.timeline_laws.alike_ends.Goals as goal
-
-pub returns : goal.returns
-returns c = ends_alike

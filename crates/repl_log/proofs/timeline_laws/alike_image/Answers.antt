@@ -1,6 +1,0 @@
--- An image.
-use Rattle.repl_log.proofs.Timelines.{image_alike}
-use Rattle.repl_log.proofs.timeline_laws.alike_image.Goals as goal
-
-pub returns : goal.returns
-returns c = image_alike

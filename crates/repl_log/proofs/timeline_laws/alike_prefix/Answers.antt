@@ -1,6 +1,0 @@
--- A prefix of records.
-use Rattle.repl_log.proofs.Timelines.{prefix_alike}
-use Rattle.repl_log.proofs.timeline_laws.alike_prefix.Goals as goal
-
-pub returns : goal.returns
-returns c = prefix_alike

@@ -1,6 +1,0 @@
--- A walker.
-use Rattle.repl_log.proofs.Timelines.{walked_alike}
-use Rattle.repl_log.proofs.timeline_laws.alike_walks.Goals as goal
-
-pub returns : goal.returns
-returns c = walked_alike

@@ -1,6 +1,0 @@
--- A walker at a record end.
-use Rattle.repl_log.proofs.Walks.{begun_at_end}
-use Rattle.repl_log.proofs.walk_laws.begins_at_an_end.Goals as goal
-
-pub returns : goal.returns
-returns c = begun_at_end

@@ -1,6 +1,0 @@
--- The steps of a child.
-use Rattle.repl_store_checks.proofs.Switches.{child_steps}
-use Rattle.repl_store_checks.proofs.switching.child_at.Goals as goal
-
-pub returns : goal.returns
-returns c = child_steps _ _ _ _ _ c.in_ok-child.ensures

@@ -1,6 +1,0 @@
--- The rest of the line.
-use Rattle.repl_words.proofs.LinesRead.{rest_that_was_read}
-use Rattle.repl_words.proofs.laws.tail_is_behind.Goals as goal
-
-pub returns : goal.returns
-returns g c = rest_that_was_read g.K.Kind.is

@@ -1,0 +1,7 @@
+-- The last switch point is that of the last parent.
+use Rattle.std.proofs.Common.{sym}
+use Rattle.test_store_calls.proofs.Switches.{last_switch_of}
+use Rattle.test_store_calls.proofs.switching.last_switch.Goals as goal
+
+pub returns-in-Some : goal.returns-in-Some
+returns-in-Some c = rw (← c.parents.ensures.value) (rw (← c.as_slice.ensures) (sym (last_switch_of _ _ _ c.in-Some.ensures.cases.0)))
