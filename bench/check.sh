@@ -1,6 +1,6 @@
 #!/usr/bin/env bash
 # MiB a second that `pgnode check` judges, over a store whose records have bodies of 8 KiB, beside `pg_waldump --stats` over as
-# many bytes of PostgreSQL's own log, whose records are messages of 8 KiB. Five runs of each by turns behind one that warms
+# many bytes of PostgreSQL's own log, whose records are messages of 8 KiB. Five runs of each by turns after one that warms
 # the system's cache; the figures are medians. Then the most memory that a run of each holds.
 # Run after `make` and `cd crates/bench_store && rt run`: check.sh [MIB]. Wants PostgreSQL 15 or later, in PGBIN, and GNU
 # time. A server does not run as root: there it runs as the user `postgres`. The folder is made in /tmp, or in FOLDER. CHECK and FILL

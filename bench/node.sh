@@ -1,9 +1,9 @@
 #!/usr/bin/env bash
 # A standby that receives a log, beside `dd`, and what an append costs. MiB a second that a node receives over a folder, in
-# pieces of 128 KiB with a flush behind each segment of 16 MiB, of records with bodies of 8 KiB that were laid out before;
+# pieces of 128 KiB with a flush after each segment of 16 MiB, of records with bodies of 8 KiB that were laid out before;
 # and that `dd` writes with the same syncs: a file for each segment, which is synced, then a control of 56 bytes that is
 # written aside, synced and renamed, and the folder, which is synced. Then records with bodies of 100 bytes that a primary
-# appends in a second, with one flush behind the last. Five runs of each by turns; the figures are medians. At last the
+# appends in a second, with one flush after the last. Five runs of each by turns; the figures are medians. At last the
 # instructions of an append, counted by valgrind's callgrind as the difference of two runs.
 # Run after `cd crates/bench_node && rt run`. The folder is made in the present one, or in FOLDER. BENCH names another
 # program.

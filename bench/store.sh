@@ -1,5 +1,5 @@
 #!/usr/bin/env bash
-# MiB a second that a store writes into a folder, in pieces of 128 KiB with a flush behind each segment of 16 MiB, beside
+# MiB a second that a store writes into a folder, in pieces of 128 KiB with a flush after each segment of 16 MiB, beside
 # `dd` with the same syncs: a file for each segment, which is synced, then a control of 56 bytes that is written aside,
 # synced and renamed, and the folder, which is synced. Five runs of each by turns; the figures are medians.
 # Run after `cd crates/bench_store && rt run`. The folder is made in the present one, or in FOLDER.

@@ -3,7 +3,7 @@
 
 Makes a database in a folder of its own, lets pgbench write into it, stops it, and walks over its log with
 `bench_parts log`: as many records have to be whole as pg_waldump prints, the last has to start where pg_waldump's does, and
-behind it the log has to go on with a record of 0 bytes, at the position that pg_waldump names. Run after
+after it the log has to go on with a record of 0 bytes, at the position that pg_waldump names. Run after
 `cd crates/bench_parts && rt run -- turn 2 1000`, by hand. The server listens on a socket in that folder alone, and is
 stopped at the end. Skipped with a word where PostgreSQL's server is missing.
 """

@@ -1,9 +1,9 @@
 #!/usr/bin/env python3
 """psql asks `pgnode identify` who it is.
 
-`pgnode identify` reads a whole session before it answers, and psql sends its query behind the greeting. So this program
+`pgnode identify` reads a whole session before it answers, and psql sends its query after the greeting. So this program
 stands between them on a loopback port: it keeps what psql has sent, has pgnode answer that with the end of a session
-behind it, and passes on what psql has not had yet. psql must print the row that the words ask for.
+after it, and passes on what psql has not had yet. psql must print the row that the words ask for.
 
 Run by hand after `make`: scripts/peers/psql_identify.py. It is skipped with a word where psql is missing.
 """

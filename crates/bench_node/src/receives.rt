@@ -17,7 +17,7 @@ const SEGMENT: usize = 16_777_216;
 
 const MIB_A_SEGMENT: u64 = 16;
 
-/// Receives so many MiB of records in whole segments, and flushes behind each.
+/// Receives so many MiB of records in whole segments, and flushes after each.
 pub fn receive<D: Disk>(
     clock: &impl Clock,
     alloc: Global,

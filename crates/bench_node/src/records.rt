@@ -1,4 +1,4 @@
-//! Records, laid out one behind another.
+//! Records, laid out one after another.
 ghost use Rattle.std.specs.Prelude.{◌≡◌, ◌%◌, ◌^◌, ◌≤◌, IfSome};
 
 use bytes::Bytes;
@@ -10,7 +10,7 @@ use std::alloc::Global;
 /// How many bytes a record's body has.
 const BODY: usize = 8_192;
 
-/// No record is laid out behind this position.
+/// No record is laid out past this position.
 const LIMIT: u64 = 1 << 62;
 
 /// The log that is to be received.

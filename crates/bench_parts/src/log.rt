@@ -20,7 +20,7 @@ struct LogWalk {
 }
 
 /// What a walk over the log finds that the input gives, of a system with segments of 16 MiB on timeline 1: how many
-/// records are whole, where the last one starts and ends, and what is wrong behind it.
+/// records are whole, where the last one starts and ends, and what is wrong after it.
 pub fn walked(alloc: Global, input: &mut impl Read, magic: u64, sysid: u64) -> Option<String> {
     let ident = Ident {
         sysid,

@@ -5,7 +5,7 @@
 //! `bench_parts crc32c BYTES ROUNDS` takes the checksum of so many bytes so many times, `walk BODY ROUNDS` walks over a log
 //! of records with such bodies, and `lay_out BODY ROUNDS` lays one out; each prints a number that comes of it.
 //! `bench_parts log MAGIC SYSID` walks over the log on standard input, for the scripts in scripts/peers/: it prints how
-//! many records are whole, where the last one starts and ends, and what is wrong behind it.
+//! many records are whole, where the last one starts and ends, and what is wrong after it.
 #![tactic(auto)]
 
 mod commit;

@@ -31,7 +31,7 @@ pub fn walks(alloc: Global, body: usize, rounds: u64) -> Option<u64> {
     let mut log = Vec::new(alloc);
     let mut prev = Lsn(0);
     for _ in 0..RECORDS {
-        let at = position_behind(log.as_slice())?;
+        let at = position_past(log.as_slice())?;
         let laid = lay_out(alloc, at, prev, Tli(1), &ident, &item).ok()?;
         log.extend_from_slice(laid.bytes.as_slice()).ok()?;
         prev = laid.start;
@@ -73,8 +73,8 @@ fn whole_records(ident: Ident, log: &[u8]) -> u64 {
     found
 }
 
-/// The position behind these bytes of a log, at which a record may be laid.
-fn position_behind(log: &[u8]) -> Option<Lsn>
+/// The position after these bytes of a log, at which a record may be laid.
+fn position_past(log: &[u8]) -> Option<Lsn>
     ensures { IfSome result (λ at. (at % 8 ≡ 0) × (at ≤ 2 ^ 62)) }
 {
     let at = ORIGIN.0.checked_add(log.len() as u64)?;

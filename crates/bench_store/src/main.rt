@@ -1,9 +1,9 @@
 //! What bench/store.sh and bench/check.sh time: the log of a store in a folder, written in large pieces, and one of records.
 //!
 //! `bench_store FOLDER MIB` makes a store in the folder, which is there and has none, writes so many MiB of zeros in
-//! pieces of 128 KiB, makes them certain behind each 128 pieces, and prints up to which position they are. With `records` as
+//! pieces of 128 KiB, makes them certain after each 128 pieces, and prints up to which position they are. With `records` as
 //! a third word it appends records with bodies of 8 KiB instead, as many as fit so many MiB in whole segments of 16, and
-//! makes them certain behind each segment's. Without the first two words it writes nothing, and prints the position 0/0.
+//! makes them certain after each segment's. Without the first two words it writes nothing, and prints the position 0/0.
 #![tactic(auto)]
 
 mod records;
@@ -69,7 +69,7 @@ fn filled(rt: HostRuntime) -> Option<Lsn> {
     }
 }
 
-/// Writes so many pieces, and makes them certain behind each segment and at the end.
+/// Writes so many pieces, and makes them certain after each segment and at the end.
 fn fill<D: Disk>(alloc: Global, store: &mut Store<D>, pieces: u64) -> Option<Lsn> {
     let piece = vec![in alloc; 0u8; PIECE].ok()?;
     for number in 0..pieces {

@@ -13,14 +13,14 @@ use test_store_calls::{can_flush, can_write};
 /// How many bytes a record's body has.
 const BODY: usize = 8_192;
 
-/// How many records are appended between two flushes. A segment of 16 MiB has 16,728,048 bytes behind the headers of its
+/// How many records are appended between two flushes. A segment of 16 MiB has 16,728,048 bytes after the headers of its
 /// pages, and as many records with their 24 bytes before the body as fit have 16,727,776.
 const RECORDS_A_FLUSH: u64 = 2_036;
 
-/// No record is laid out behind this position.
+/// No record is laid out past this position.
 const LIMIT: u64 = 1 << 62;
 
-/// Appends records for so many segments, makes them certain behind each, and answers the flushed end.
+/// Appends records for so many segments, makes them certain after each, and answers the flushed end.
 pub fn fill<D: Disk>(alloc: Global, store: &mut Store<D>, segments: u64) -> Option<Lsn> {
     let item = item(alloc)?;
     for _ in 0..segments {
@@ -54,7 +54,7 @@ fn fill_segment<D: Disk>(alloc: Global, store: &mut Store<D>, item: &RecordIn) -
     store.set_role(Role::Standby, whole, prev).ok()
 }
 
-/// Appends a record behind the one that starts at `prev`.
+/// Appends a record after the one that starts at `prev`.
 fn append<D: Disk>(
     alloc: Global,
     store: &mut Store<D>,

@@ -253,22 +253,22 @@ module _ {X : Type 0} (Is : X → Type 0) (text : X → List ℕ) (IsThere : Typ
 
 -- ---- calls before it that only read
 
-pub ends_behind : {X : Type 0} (Is : X → Type 0) (text : X → List ℕ) (IsThere : Type 0) (Bad : Damage) (Failed More : Type 0) (end : Tended)
+pub ends_past : {X : Type 0} (Is : X → Type 0) (text : X → List ℕ) (IsThere : Type 0) (Bad : Damage) (Failed More : Type 0) (end : Tended)
     (w w' : SinkState) → (Failed → More) → Ends Is text IsThere Bad Failed end w w' → Ends Is text IsThere Bad More end w w'
-ends_behind Is text IsThere Bad Failed More tended.Done w w' more ends = ends
-ends_behind Is text IsThere Bad Failed More (tended.Damaged name place why) w w' more ends = ends
-ends_behind Is text IsThere Bad Failed More tended.Exists w w' more ends = ends
-ends_behind Is text IsThere Bad Failed More tended.DiskFault w w' more ends = (more ends.0, ends.1)
-ends_behind Is text IsThere Bad Failed More tended.WriteFault w w' more ends = ends
-ends_behind Is text IsThere Bad Failed More tended.Memory w w' more ends = ends
+ends_past Is text IsThere Bad Failed More tended.Done w w' more ends = ends
+ends_past Is text IsThere Bad Failed More (tended.Damaged name place why) w w' more ends = ends
+ends_past Is text IsThere Bad Failed More tended.Exists w w' more ends = ends
+ends_past Is text IsThere Bad Failed More tended.DiskFault w w' more ends = (more ends.0, ends.1)
+ends_past Is text IsThere Bad Failed More tended.WriteFault w w' more ends = ends
+ends_past Is text IsThere Bad Failed More tended.Memory w w' more ends = ends
 
-pub faults_behind : (end : Tended) (old mid new : DiskState) (w w' : SinkState) → Stood old.faults mid.faults → DidNotFall old.lacks mid.lacks
+pub faults_past : (end : Tended) (old mid new : DiskState) (w w' : SinkState) → Stood old.faults mid.faults → DidNotFall old.lacks mid.lacks
     → TellsFaults end mid new w w' → TellsFaults end old new w w'
-faults_behind end old mid new w w' stood lacks faults = record {
+faults_past end old mid new w w' stood lacks faults = record {
   disk = λ is. ⊎_elim (λ rose. inl (subst (λ n. Rose n new.faults) stood rose)) (λ lack. inr (omega (arith, lack, lacks))) (faults.disk is);
   calm = ⊎_elim inl (λ still. inr (still ∙ stood)) faults.calm;
   sink = faults.sink;
 }
 
-pub calm_behind : (old mid new : DiskState) (w w' : SinkState) → Stood old.faults mid.faults → IsCalm old new w w' → IsCalm mid new w w'
-calm_behind old mid new w w' stood calm = (λ rose. calm.0 (subst (λ n. Rose n new.faults) stood rose), calm.1)
+pub calm_past : (old mid new : DiskState) (w w' : SinkState) → Stood old.faults mid.faults → IsCalm old new w w' → IsCalm mid new w w'
+calm_past old mid new w w' stood calm = (λ rose. calm.0 (subst (λ n. Rose n new.faults) stood rose), calm.1)

@@ -27,7 +27,7 @@ use Rattle.repl_store.specs.Head.{Head, IsMounted}
 use Rattle.repl_store.specs.Head as head
 use Rattle.repl_store.specs.Refusal.{IsOfMount, IsRefusal}
 use Rattle.repl_store.specs.declared.fault.StoreFault.{StoreFault}
-use Rattle.repl_admin.proofs.Ending.{calm_behind, damaged_ends, damaged_faults, disk_ends, disk_faults, done_of, early_ends, early_failed, early_quiet, ends_behind, faults_behind, memory_ends, memory_faults, node_failure_told, printed_ends, printed_faults, refusal_faults, refused_ends, refused_faults}
+use Rattle.repl_admin.proofs.Ending.{calm_past, damaged_ends, damaged_faults, disk_ends, disk_faults, done_of, early_ends, early_failed, early_quiet, ends_past, faults_past, memory_ends, memory_faults, node_failure_told, printed_ends, printed_faults, refusal_faults, refused_ends, refused_faults}
 use Rattle.repl_admin.proofs.Slotting.{early_slots, slots_apart}
 use Rattle.repl_admin.proofs.Standing.{status_same, undamaged}
 use Rattle.repl_admin.specs.Checking.{Checked, FitsWhole, IsDamageAt, IsFlawed, IsToldAt, LogFits, LogHas, identity_of, whole_lines}
@@ -231,15 +231,15 @@ module _ {A : Type 0} (x : A) (h : Head) (end : Tended) (old mid new : DiskState
       subst P (sym is.1) (answered_checked x h end old mid new w w slots mounted backs asks e is.0 (λ same. unbroken (ap Err same))
       (λ wrong same. flawed wrong (ap Err same)) caused comes)
 
--- ---- behind a look at the slots
+-- ---- after a look at the slots
 
-pub checked_behind : (end : Tended) (old mid new : DiskState) (w w' : SinkState) → OnlyReads old mid → Stood old.faults mid.faults
+pub checked_past : (end : Tended) (old mid new : DiskState) (w w' : SinkState) → OnlyReads old mid → Stood old.faults mid.faults
     → DidNotFall old.lacks mid.lacks → Checked end mid new w w' → Checked end old new w w'
-checked_behind end old mid new w w' only stood lacks checked =
+checked_past end old mid new w w' only stood lacks checked =
     let told_then : (folder : Folder) → old.files ≡ Some folder → mid.files ≡ Some folder = λ folder told. only.stayed ∙ told in
     checked_of end old new w w'
-    (λ folder told settled. ends_behind (FitsWhole folder) whole_lines ⊥ (IsFlawed folder) (Rose mid.faults new.faults) (Rose old.faults new.faults) end w w'
+    (λ folder told settled. ends_past (FitsWhole folder) whole_lines ⊥ (IsFlawed folder) (Rose mid.faults new.faults) (Rose old.faults new.faults) end w w'
     (subst (λ n. Rose n new.faults) stood)
     (checked.ends folder (told_then folder told) (λ d image stands now. settled d image stands (only.none_new image now))))
-    (faults_behind end old mid new w w' stood lacks checked.faults)
-    (λ folder place told wrong calm. checked.slots folder place (told_then folder told) wrong (calm_behind old mid new w w' stood calm))
+    (faults_past end old mid new w w' stood lacks checked.faults)
+    (λ folder place told wrong calm. checked.slots folder place (told_then folder told) wrong (calm_past old mid new w w' stood calm))

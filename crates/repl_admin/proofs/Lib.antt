@@ -4,8 +4,8 @@ pub mod Ending
 pub mod Slotting
 -- files that stand for a store
 pub mod Standing
--- what is flushed behind the whole end
-pub mod Behind
+-- what is flushed past the whole end
+pub mod Past
 -- the file in which that is wrong
 pub mod Named
 -- a node is made

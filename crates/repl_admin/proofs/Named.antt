@@ -1,4 +1,4 @@
--- The log behind the whole end is wrong, and the store was opened once more for the name of the file.
+-- The log past the whole end is wrong, and the store was opened once more for the name of the file.
 use Rattle.std.proofs.Common.{◌≡◌, ◌⊎◌, ◌%◌, ◌/◌, ◌<◌, ℕ, List, Some, None, Ok, Err, refl, sym, ◌∙◌, ap, subst, inl, inr, ⊎_elim, arith}
 use Rattle.repl_control.specs.declared.control.TheConstants.{VERSION_1_SIZE}
 use Rattle.repl_effects.specs.Counts.{Rose}

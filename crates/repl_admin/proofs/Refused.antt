@@ -72,7 +72,7 @@ failure_quiet tended.DiskFault kind = refl
 failure_quiet tended.Memory kind = refl
 failure_quiet end kind = absurd kind
 
--- either it names its file itself, or the log is wrong behind the whole end
+-- either it names its file itself, or the log is wrong past the whole end
 split : (e : NodeFault) (end : Tended) (Same : Type 0) (mid new : DiskState) → IsToldOfMount e end Same mid new
     → (IsPlain e × IsToldOfNode e end × Same)
     ⊎ ((at : ℕ) × (why : WalkReason) × (e ≡ node.Damaged at why) × IsToldOfLog at why end mid new)
@@ -81,7 +81,7 @@ split e end Same mid new told = inl (tt, told.0, told.1)
 
 -- ---- how it ends
 
--- behind right slots the log is refused
+-- after right slots the log is refused
 module _ (old : DiskState) (folder : Folder) (d : Durable) (saved : List Entry) (stands : StandsFor VERSION_1_SIZE folder d)
     (stored : Stores saved folder) (Failed : Type 0) where
   abbrev BadNode : List ℕ → ℕ → DamageReason → Type 0
@@ -137,7 +137,7 @@ module _ (old : DiskState) (folder : Folder) (d : Durable) (saved : List Entry) 
       (node.Damaged at reason, tail, (named, placed, reasoned))
   bad_named at reason name place why tail (inr is) = absurd cc
 
-  -- the log is wrong behind the whole end
+  -- the log is wrong past the whole end
   log_ends : (at : ℕ) (reason : WalkReason) (end : Tended) (w : SinkState) → IsWrong (node.Damaged at reason) → IsDamageOrFailure end
       → (AreSettled old folder → Named at reason end ⊎ (end ≡ tended.DiskFault)) → (end ≡ tended.DiskFault → Failed) → EndsSo end w
   log_ends at reason (tended.Damaged name place why) w wrong kind named failed = (
@@ -165,7 +165,7 @@ no_store (fault.ShortFile name have wanted) at why same = cc
 no_store fault.DiskFault at why same = cc
 no_store fault.Memory at why same = cc
 
--- it was refused so, and the log is behind right slots
+-- it was refused so, and the log is after right slots
 tail_of : (folder : Folder) (leaves : Folder → Type 0) (at : ℕ) (why : WalkReason) → IsNodeRefusal VERSION_1_SIZE folder leaves (node.Damaged at why)
     → (d : Durable) × (saved : List Entry) × StandsFor VERSION_1_SIZE folder d × Stores saved folder
     × (((image : Folder) → leaves image → StandsFor VERSION_1_SIZE image d) → IsWrongTail VERSION_1_SIZE d (node.Damaged at why))
@@ -181,7 +181,7 @@ module _ {A : Type 0} (e : NodeFault) (end : Tended) (old mid new : DiskState) (
   refused_in : (folder : Folder) → old.files ≡ Some folder → IsNodeRefusal VERSION_1_SIZE folder old.may_leave e
   refused_in folder told = told_so old.files folder (λ f. IsNodeRefusal VERSION_1_SIZE f old.may_leave e) told refused
 
-  -- a failure was counted, or came behind what is right before the log
+  -- a failure was counted, or came after what is right before the log
   rose_or : (folder : Folder) → old.files ≡ Some folder → e ≡ node.DiskFault → Rose old.faults mid.faults ⊎ Stands folder
   rose_or folder told same = ⊎_elim inl (λ stands. inr (told_so old.files folder Stands told stands)) (lost same)
 
@@ -210,7 +210,7 @@ module _ {A : Type 0} (e : NodeFault) (end : Tended) (old mid new : DiskState) (
   plain_slots is folder place told wrong calm =
       ⊎_elim (λ first. early_slots folder place e end is first wrong
       (λ same. ⊎_elim calm.0 (λ (s : Stands folder). slots_apart folder place (s.1, s.3) wrong) (rose_or folder told same)))
-      (λ behind. absurd (slots_apart folder place (behind.0, behind.1) wrong)) (refused_in folder told)
+      (λ past. absurd (slots_apart folder place (past.0, past.1) wrong)) (refused_in folder told)
 
   plain_stated : IsPlain e → IsToldOfNode e end → Stated end old mid w w
   plain_stated plain is =
@@ -221,7 +221,7 @@ module _ {A : Type 0} (e : NodeFault) (end : Tended) (old mid new : DiskState) (
       (⊎_elim (λ same. inl (node_failure_told e end is same)) inr caused.others))
       (plain_slots is)
 
-  -- ---- the log is wrong behind the whole end
+  -- ---- the log is wrong past the whole end
 
   module _ (at : ℕ) (why : WalkReason) (same : e ≡ node.Damaged at why) (is : IsToldOfLog at why end mid new)
       (reads : IfTold mid.files mid.may_leave) (goes : GoesOn old mid) where

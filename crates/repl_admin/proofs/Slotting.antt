@@ -1,4 +1,4 @@
--- Where the slots are wrong, nothing else is told: what is wrong before them is not, and what would be told behind them is passed
+-- Where the slots are wrong, nothing else is told: what is wrong before them is not, and what would be told after them is passed
 -- over.
 use Rattle.std.proofs.Common.{◌≡◌, ◌⊎◌, ℕ, List, Some, None, refl, sym, ◌∙◌, ap, subst, inl, inr}
 use Rattle.repl_control.proofs.Spelled.{spelled_right}

@@ -16,7 +16,7 @@ use Rattle.repl_store.specs.Backing.{OnlyReads}
 use Rattle.repl_store.specs.Durable.{Durable, StandsFor}
 use Rattle.repl_store.specs.Head.{Head, IsMounted}
 use Rattle.repl_store.specs.Head as head
-use Rattle.repl_admin.proofs.Behind.{tail_right}
+use Rattle.repl_admin.proofs.Past.{tail_right}
 use Rattle.repl_admin.proofs.Ending.{done_of, printed_ends, printed_faults}
 use Rattle.repl_admin.proofs.Slotting.{slots_apart}
 use Rattle.repl_admin.proofs.Standing.{status_same, undamaged}

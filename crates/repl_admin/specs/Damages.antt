@@ -57,7 +57,7 @@ pub record IsToldOfSlots (end : Tended) (old new : DiskState) : Type 0 where
   pub answers : IsOfSlots fault
   pub caused : IsJudged {A = Unit {0}} (Err fault) old new
 
--- ---- the log behind the whole end is wrong
+-- ---- the log past the whole end is wrong
 
 -- it is damage, or it could not be told
 abbrev pub IsDamageOrFailure : Tended → Type 0

@@ -1,4 +1,4 @@
--- What the files of a folder stand for beside a store: its slots, and what is flushed behind its whole end (PostgreSQL 17
+-- What the files of a folder stand for beside a store: its slots, and what is flushed past its whole end (PostgreSQL 17
 -- manual, sections "Replication Slots" and "WAL Internals"); and what a crash would leave of that.
 use Rattle.std.specs.Prelude.{◌≡◌, ℕ, List, Some}
 use Rattle.repl_control.specs.declared.control.Control.{Control}
@@ -24,7 +24,7 @@ abbrev pub HasWrongSlots : Folder → ℕ → Type 0
 HasWrongSlots folder place = ((control : Control) × HasControl VERSION_1_SIZE folder control)
     × ((file : List ℕ) × (folder slots_name ≡ Some file) × FileStops file place)
 
--- ---- behind the whole end
+-- ---- past the whole end
 
 -- what is flushed there is the beginning of a record, and none ends in it
 pub record TailFits (d : Durable) : Type 0 where

@@ -13,7 +13,7 @@ abbrev pub role_word : Role → List ℕ
 role_word role.Primary = codes "primary"
 role_word role.Standby = codes "standby"
 
--- a word, a space, and what stands behind it
+-- a word, a space, and what stands after it
 abbrev pub spaced : List ℕ → List ℕ → List ℕ
 spaced word rest = word ++ 32 ∷ rest
 

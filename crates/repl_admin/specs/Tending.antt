@@ -83,17 +83,17 @@ abbrev pub IsDamaged : Folder → Damage
 IsDamaged folder name place why = (HasWrongSlots folder place × (name ≡ slots_name) × (why ≡ damage.Slots))
     ⊎ ((e : StoreFault) × (IsBeforeSlots e ⊎ HasSlots folder) × IsRefusal VERSION_1_SIZE folder e × IsDamageOf e name place why)
 
--- what is told where this is wrong behind the whole end: that end in the control, or the record or page
-abbrev pub IsDamageBehind : Durable → NodeFault → Damage
-IsDamageBehind d (node.BadControl at) name place why = (name ≡ control_name) × (place ≡ at) × (why ≡ damage.Control)
-IsDamageBehind d (node.Damaged at reason) name place why = (name ≡ segment_file VERSION_1_SIZE d.path (at / VERSION_1_SIZE))
+-- what is told where this is wrong past the whole end: that end in the control, or the record or page
+abbrev pub IsDamagePast : Durable → NodeFault → Damage
+IsDamagePast d (node.BadControl at) name place why = (name ≡ control_name) × (place ≡ at) × (why ≡ damage.Control)
+IsDamagePast d (node.Damaged at reason) name place why = (name ≡ segment_file VERSION_1_SIZE d.path (at / VERSION_1_SIZE))
     × (place ≡ at % VERSION_1_SIZE) × (why ≡ damage.Bad reason)
-IsDamageBehind d e name place why = ⊥
+IsDamagePast d e name place why = ⊥
 
 abbrev pub HasWrongTail : Durable → Damage
-HasWrongTail d name place why = (e : NodeFault) × IsWrongTail VERSION_1_SIZE d e × IsDamageBehind d e name place why
+HasWrongTail d name place why = (e : NodeFault) × IsWrongTail VERSION_1_SIZE d e × IsDamagePast d e name place why
 
--- That; or they stand for a store and for slots, and what is flushed behind the whole end is wrong. What stands there is known
+-- That; or they stand for a store and for slots, and what is flushed past the whole end is wrong. What stands there is known
 -- where a crash would leave what the disk has.
 abbrev pub IsDamagedNode : DiskState → Folder → Damage
 IsDamagedNode disk folder name place why = IsDamaged folder name place why
@@ -150,7 +150,7 @@ IsDone end = (end ≡ tended.Done) ⊎ (end ≡ tended.Memory)
 
 -- ---- the commands
 
--- The files stand for this store and for slots, and what is flushed behind the whole end is right, which is known where a crash
+-- The files stand for this store and for slots, and what is flushed past the whole end is right, which is known where a crash
 -- would leave what the disk has.
 pub record IsNode (disk : DiskState) (folder : Folder) (d : Durable) : Type 0 where
   pub stands : StandsFor VERSION_1_SIZE folder d

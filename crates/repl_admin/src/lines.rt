@@ -48,7 +48,7 @@ pub(crate) fn status_line(alloc: Global, status: &Identity) -> Result<String, Al
     format!(in alloc; "{sysid} {role} {tli} {floor} {whole} {flushed}\n")
 }
 
-/// The same line behind the one that says that nothing is wrong.
+/// The same line after the one that says that nothing is wrong.
 pub(crate) fn check_lines(alloc: Global, status: &Identity) -> Result<String, AllocError>
     ensures { IfOk result (λ lines. string_bytes lines ≡ check_lines status.now) }
 {

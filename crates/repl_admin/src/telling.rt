@@ -19,7 +19,7 @@ use repl_store::Store;
 use std::alloc::Global;
 
 /// Prints what the node on the disk is and how far its log stands: `SYSID ROLE TLI FLOOR WHOLE FLUSHED` on one line, where the
-/// floor, the whole end and the flushed end are positions of the log. Of the log it reads what is flushed behind the whole end;
+/// floor, the whole end and the flushed end are positions of the log. Of the log it reads what is flushed past the whole end;
 /// takes memory for a piece of that, and for the slots. The files stay as they are.
 pub fn status<D: Disk, K: Sink>(alloc: Global, disk: D, out: &mut K) -> (Tended, D)
     ensures stated { Stated result.0 (D.state disk) (D.state result.1) (K.sink out.old) (K.sink out.new) }
@@ -55,7 +55,7 @@ fn end_of_mount<D: Disk>(alloc: Global, disk: D, fault: NodeFault) -> (Tended, D
     }
 }
 
-/// How it ends where the log behind the whole end is wrong at this position. The file is named by the path of the store, which
+/// How it ends where the log past the whole end is wrong at this position. The file is named by the path of the store, which
 /// is opened once more for it; what refuses that is told.
 fn end_of_log<D: Disk>(alloc: Global, disk: D, at: Lsn, why: WalkReason) -> (Tended, D)
     ensures told { IsToldOfLog at why result.0 (D.state disk) (D.state result.1) }

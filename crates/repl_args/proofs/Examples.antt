@@ -46,7 +46,7 @@ bit_line words line bit e read =
 
 -- the value of an option, and its kind
 pub first_value : (words : List (List ℕ)) (line : Line Command) (value : List ℕ) (read : IsReadOf IsWordOf the_table run_form words line)
-    → HasValue (drop line.behind words) (codes "--first") value → HasValue read.is_line.rest (codes "--first") value × IsBit value
+    → HasValue (drop line.past words) (codes "--first") value → HasValue read.is_line.rest (codes "--first") value × IsBit value
 first_value words line value read h =
     let here = subst (λ w. HasValue w (codes "--first") value) (rest_that_was_read IsWordOf the_table run_form words line read) h in (
       here,

@@ -7,7 +7,7 @@ use Rattle.repl_args.specs.declared.line.Line.{Line}
 use Rattle.repl_args.specs.Words.{AreOf}
 use Rattle.repl_args.specs.Forms.{PlainOption, PlainTail, no_tail, tail_maybe, tail_options, PlainForm, PlainTable}
 use Rattle.repl_args.specs.Lines.{IsLead, IsTail, IsLineOf, IsLine, IsRead}
-use Rattle.repl_args.specs.Rests.{GoesOn, Behind, IsBehindName, IsCommandOf, IsCommand}
+use Rattle.repl_args.specs.Rests.{GoesOn, Past, IsPastName, IsCommandOf, IsCommand}
 use Rattle.repl_args.proofs.Stops.{stops_within, stops_within_nothing, goes_on_none, goes_on_at, stops_there, stops_at_place}
 use Rattle.repl_args.proofs.Names.{AreApart, some_in}
 
@@ -18,11 +18,11 @@ some_tail is no_tail = ([], refl)
 some_tail is (tail_maybe kind) = ([], inl refl)
 some_tail is (tail_options options) = ([], tt)
 
-pub some_behind : {K : Type 0} (is : K → List ℕ → Type 0) → ((kind : K) → (word : List ℕ) × is kind word) → (kinds : List K)
-    (T : List (List ℕ) → Type 0) (words : List (List ℕ)) → T words → (more : List (List ℕ)) × Behind is kinds T more
-some_behind is some [] T words t = (words, t)
-some_behind is some (kind ∷ kinds) T words t =
-    let rest = some_behind is some kinds T words t in
+pub some_past : {K : Type 0} (is : K → List ℕ → Type 0) → ((kind : K) → (word : List ℕ) × is kind word) → (kinds : List K)
+    (T : List (List ℕ) → Type 0) (words : List (List ℕ)) → T words → (more : List (List ℕ)) × Past is kinds T more
+some_past is some [] T words t = (words, t)
+some_past is some (kind ∷ kinds) T words t =
+    let rest = some_past is some kinds T words t in
     let word = some kind in
     (word.0 ∷ rest.0, (word.1, rest.1))
 
@@ -30,7 +30,7 @@ pub some_command_of : {K C : Type 0} (is : K → List ℕ → Type 0) → ((kind
     → (words : List (List ℕ)) × IsCommandOf is form words
 some_command_of is some form =
     let t = some_tail is form.tail in
-    let rest = some_behind is some form.arguments (IsTail is form.tail) t.0 t.1 in
+    let rest = some_past is some form.arguments (IsTail is form.tail) t.0 t.1 in
     (form.name ∷ rest.0, (refl, rest.1))
 
 pub some_command : {K C : Type 0} (is : K → List ℕ → Type 0) → ((kind : K) → (word : List ℕ) × is kind word) → (forms : List (PlainForm K C))
@@ -43,7 +43,7 @@ some_command is some forms within =
 -- ---- words of kinds
 
 pub parts_of : {K : Type 0} (is : K → List ℕ → Type 0) (kinds : List K) (T : List (List ℕ) → Type 0) (words : List (List ℕ))
-    → Behind is kinds T words
+    → Past is kinds T words
     → (arguments : List (List ℕ)) × (rest : List (List ℕ)) × (words ≡ arguments ++ rest) × AreOf is kinds arguments × T rest
 parts_of is [] T words b = ([], words, refl, refl, b)
 parts_of is (kind ∷ kinds) T [] b = absurd b
@@ -51,11 +51,11 @@ parts_of is (kind ∷ kinds) T (word ∷ words) b =
     let p = parts_of is kinds T words b.1 in
     (word ∷ p.0, p.1, ap (λ l. word ∷ l) p.2, (word, p.0, refl, b.0, p.3), p.4)
 
-pub behind_parts : {K : Type 0} (is : K → List ℕ → Type 0) (kinds : List K) (T : List (List ℕ) → Type 0) (arguments rest : List (List ℕ))
-    → AreOf is kinds arguments → T rest → Behind is kinds T (arguments ++ rest)
-behind_parts is [] T arguments rest a t = subst (λ l. T (l ++ rest)) (sym a) t
-behind_parts is (kind ∷ kinds) T arguments rest a t = subst (λ l. Behind is (kind ∷ kinds) T (l ++ rest)) (sym a.2)
-    (a.3, behind_parts is kinds T a.1 rest a.4 t)
+pub past_parts : {K : Type 0} (is : K → List ℕ → Type 0) (kinds : List K) (T : List (List ℕ) → Type 0) (arguments rest : List (List ℕ))
+    → AreOf is kinds arguments → T rest → Past is kinds T (arguments ++ rest)
+past_parts is [] T arguments rest a t = subst (λ l. T (l ++ rest)) (sym a) t
+past_parts is (kind ∷ kinds) T arguments rest a t = subst (λ l. Past is (kind ∷ kinds) T (l ++ rest)) (sym a.2)
+    (a.3, past_parts is kinds T a.1 rest a.4 t)
 
 -- ---- leads
 
@@ -90,7 +90,7 @@ led_more is (Some o) T U [] more h = h
 led_more is (Some o) T U (n ∷ []) more h = h
 led_more is (Some o) T U (n ∷ v ∷ rest) more h = (h.0, h.1, more rest h.2)
 
--- no word at all, one, and what is behind two
+-- no word at all, one, and what is after two
 led_nothing : {K : Type 0} (is : K → List ℕ → Type 0) (lead : Option (PlainOption K)) (T : List (List ℕ) → Type 0) → IsLed is lead T [] → ⊥
 led_nothing is None T h = h
 led_nothing is (Some o) T h = h
@@ -116,10 +116,10 @@ led_from is lead o T n v more e named valued t = subst (λ l. IsLed is l T (n �
 
 -- ---- lines
 
--- a lead, a command's name and what stands behind it are a line
+-- a lead, a command's name and what stands after it are a line
 abbrev pub line_at : {K C : Type 0} (is : K → List ℕ → Type 0) (table : PlainTable K C) (form : PlainForm K C) (words front : List (List ℕ))
     (name : List ℕ) (rest : List (List ℕ)) → words ≡ front ++ name ∷ rest → IsLead is table.lead front → form.name ≡ name
-    → IsBehindName is form rest → IsLineOf is table form words
+    → IsPastName is form rest → IsLineOf is table form words
 line_at is table form words front name rest e i named b =
     let p = parts_of is form.arguments (IsTail is form.tail) rest b in
     record {
@@ -141,9 +141,9 @@ line_from is table form front (name ∷ rest) i c = line_at is table form (front
 -- what is answered of it
 pub reads : {K C : Type 0} (is : K → List ℕ → Type 0) (table : PlainTable K C) (form : PlainForm K C) (words : List (List ℕ)) (line : Line C)
     → Contains table.forms form → form.command ≡ line.command → line.first < length words
-    → line.behind ≡ line.first + 1 + length form.arguments → IsLead is table.lead (take line.first words)
-    → form.name ≡ get_or words line.first [] → IsBehindName is form (drop (line.first + 1) words) → IsRead is table words line
-reads is table form words line one command within behind i named b =
+    → line.past ≡ line.first + 1 + length form.arguments → IsLead is table.lead (take line.first words)
+    → form.name ≡ get_or words line.first [] → IsPastName is form (drop (line.first + 1) words) → IsRead is table words line
+reads is table form words line one command within past i named b =
     let front = take line.first words in
     let parts = sym (take-append-drop line.first words) ∙ ap (λ r. front ++ r) (drop_more words line.first [] within) in
     record {
@@ -153,7 +153,7 @@ reads is table form words line one command within behind i named b =
       read = record {
         is_line = line_at is table form words front (get_or words line.first []) (drop (line.first + 1) words) parts i named b;
         first = sym (length-take-le line.first words (omega (arith, within)));
-        behind = behind;
+        past = past;
       };
     }
 
@@ -163,9 +163,9 @@ pub line_cases : {K C : Type 0} (is : K → List ℕ → Type 0) (table : PlainT
 line_cases is table form words l =
     let whole : words ≡ l.lead ++ form.name ∷ (l.arguments ++ l.rest) =
     l.parts ∙ append_assoc l.lead (form.name ∷ l.arguments) l.rest in
-    let behind = behind_parts is form.arguments (IsTail is form.tail) l.arguments l.rest l.arguments_are l.rest_is in
+    let past = past_parts is form.arguments (IsTail is form.tail) l.arguments l.rest l.arguments_are l.rest_is in
     subst (λ w. IsCommandOf is form w ⊎ IsLed is table.lead (IsCommandOf is form) w) (sym whole)
-    (with_lead is table.lead (IsCommandOf is form) l.lead (form.name ∷ (l.arguments ++ l.rest)) l.lead_is (refl, behind))
+    (with_lead is table.lead (IsCommandOf is form) l.lead (form.name ∷ (l.arguments ++ l.rest)) l.lead_is (refl, past))
 
 pub command_is_line : {K C : Type 0} (is : K → List ℕ → Type 0) (table : PlainTable K C) (words : List (List ℕ))
     → IsCommand is table.forms words → IsLine is table words
@@ -206,7 +206,7 @@ unled is table words none = record {
   is = command_is_line is table words;
 }
 
--- behind a lead's name and value stands a command
+-- after a lead's name and value stands a command
 led_goes_there : {K C : Type 0} (is : K → List ℕ → Type 0) (table : PlainTable K C) (o : PlainOption K) (n v : List ℕ) (more : List (List ℕ))
     → AreApart table → table.lead ≡ Some o → o.name ≡ n → IsLine is table (n ∷ v ∷ more) → is o.kind v × IsCommand is table.forms more
 led_goes_there is table o n v more a e named l = ⊎_elim (λ c. absurd (a.lead o c.0 e c.1 (named ∙ sym c.2.0)))
@@ -268,10 +268,10 @@ stops_at_command {K} {C} is some table words first a none g =
 pub named : {K C : Type 0} (is : K → List ℕ → Type 0) (table : PlainTable K C) (form : PlainForm K C) (words : List (List ℕ)) (first : ℕ)
     → AreApart table → Contains table.forms form → first < length words → form.name ≡ get_or words first []
     → GoesOn (IsLine is table) words (IsCommand is table.forms) first
-    → GoesOn (IsLine is table) words (IsBehindName is form) (first + 1)
+    → GoesOn (IsLine is table) words (IsPastName is form) (first + 1)
 named is table form words first a one within is_named g =
-    goes_on_at (IsLine is table) words (IsCommand is table.forms) (IsBehindName is form) first [] within
-    (λ more c. let same = a.forms c.0 form c.1 one (c.2.0 ∙ sym is_named) in subst (λ f. IsBehindName is f more) same c.2.1)
+    goes_on_at (IsLine is table) words (IsCommand is table.forms) (IsPastName is form) first [] within
+    (λ more c. let same = a.forms c.0 form c.1 one (c.2.0 ∙ sym is_named) in subst (λ f. IsPastName is f more) same c.2.1)
     (λ more b. (form, one, (is_named, b))) g
 
 -- ---- the arguments
@@ -279,16 +279,16 @@ named is table form words first a one within is_named g =
 one_argument : {K : Type 0} (is : K → List ℕ → Type 0) (kinds : List K) (T : List (List ℕ) → Type 0) (place : ℕ) (kind : K)
     (L : List (List ℕ) → Type 0) (words : List (List ℕ)) → drop place kinds ≡ kind ∷ drop (place + 1) kinds → place < length words
     → is kind (get_or words place [])
-    → GoesOn L words (Behind is (drop place kinds) T) place → GoesOn L words (Behind is (drop (place + 1) kinds) T) (place + 1)
+    → GoesOn L words (Past is (drop place kinds) T) place → GoesOn L words (Past is (drop (place + 1) kinds) T) (place + 1)
 one_argument is kinds T place kind L words e within valued g =
-    goes_on_at L words (Behind is (drop place kinds) T) (Behind is (drop (place + 1) kinds) T) place [] within
-    (λ more b. (subst (λ ks. Behind is ks T (get_or words place [] ∷ more)) e b).1)
-    (λ more b. subst (λ ks. Behind is ks T (get_or words place [] ∷ more)) (sym e) (valued, b)) g
+    goes_on_at L words (Past is (drop place kinds) T) (Past is (drop (place + 1) kinds) T) place [] within
+    (λ more b. (subst (λ ks. Past is ks T (get_or words place [] ∷ more)) e b).1)
+    (λ more b. subst (λ ks. Past is ks T (get_or words place [] ∷ more)) (sym e) (valued, b)) g
 
 pub argument : {K : Type 0} (is : K → List ℕ → Type 0) (kinds : List K) (T : List (List ℕ) → Type 0) (place : ℕ) (d : K)
     (L : List (List ℕ) → Type 0) (words : List (List ℕ)) → place < length kinds → place < length words
     → is (get_or kinds place d) (get_or words place [])
-    → GoesOn L words (Behind is (drop place kinds) T) place → GoesOn L words (Behind is (drop (place + 1) kinds) T) (place + 1)
+    → GoesOn L words (Past is (drop place kinds) T) place → GoesOn L words (Past is (drop (place + 1) kinds) T) (place + 1)
 argument is kinds T place d L words there within valued g =
     one_argument is kinds T place (get_or kinds place d) L words (drop_more kinds place d there) within valued g
 
@@ -296,20 +296,20 @@ argument is kinds T place d L words there within valued g =
 pub stops_at_argument : {K : Type 0} (is : K → List ℕ → Type 0) → ((kind : K) → (word : List ℕ) × is kind word) → (kinds : List K)
     (t : PlainTail K) (place : ℕ) (d : K) (L : List (List ℕ) → Type 0) (words : List (List ℕ)) → place < length kinds
     → (place < length words → ¬ is (get_or kinds place d) (get_or words place []))
-    → GoesOn L words (Behind is (drop place kinds) (IsTail is t)) place → StopsAt L words place
+    → GoesOn L words (Past is (drop place kinds) (IsTail is t)) place → StopsAt L words place
 stops_at_argument is some kinds t place d L words there none g =
     let kind = get_or kinds place d in
     let more_kinds = drop (place + 1) kinds in
     let end = some_tail is t in
-    let line = some_behind is some (kind ∷ more_kinds) (IsTail is t) end.0 end.1 in
-    let now = subst (λ ks. GoesOn L words (Behind is ks (IsTail is t)) place) (drop_more kinds place d there) g in
-    stops_there L words (Behind is (kind ∷ more_kinds) (IsTail is t)) place [] now (λ b. b) (λ within more b. none within b.0) line.0 line.1
+    let line = some_past is some (kind ∷ more_kinds) (IsTail is t) end.0 end.1 in
+    let now = subst (λ ks. GoesOn L words (Past is ks (IsTail is t)) place) (drop_more kinds place d there) g in
+    stops_there L words (Past is (kind ∷ more_kinds) (IsTail is t)) place [] now (λ b. b) (λ within more b. none within b.0) line.0 line.1
 
--- behind the last stands the tail
-pub behind_arguments : {K : Type 0} (is : K → List ℕ → Type 0) (kinds : List K) (T : List (List ℕ) → Type 0) (place : ℕ)
+-- after the last stands the tail
+pub past_arguments : {K : Type 0} (is : K → List ℕ → Type 0) (kinds : List K) (T : List (List ℕ) → Type 0) (place : ℕ)
     (L : List (List ℕ) → Type 0) (words : List (List ℕ)) → length kinds ≤ place
-    → GoesOn L words (Behind is (drop place kinds) T) place → GoesOn L words T place
-behind_arguments is kinds T place L words all g = subst (λ ks. GoesOn L words (Behind is ks T) place) (drop_all place kinds all) g
+    → GoesOn L words (Past is (drop place kinds) T) place → GoesOn L words T place
+past_arguments is kinds T place L words all g = subst (λ ks. GoesOn L words (Past is ks T) place) (drop_all place kinds all) g
 
 -- ---- tails
 
@@ -326,9 +326,9 @@ stops_at_maybe is kind words within none =
     stops_at_place L words L 0 [] (goes_on_none L words) within
     (λ more t. ⊎_elim (λ e. cc) (λ v. none (subst (λ w. is kind w) (sym (ap (λ l. get_or l 0 []) v.1)) v.2)) t) [] (inl refl)
 
-pub stops_behind_maybe : {K : Type 0} (is : K → List ℕ → Type 0) (kind : K) (words : List (List ℕ)) → 1 < length words
+pub stops_past_maybe : {K : Type 0} (is : K → List ℕ → Type 0) (kind : K) (words : List (List ℕ)) → 1 < length words
     → is kind (get_or words 0 []) → StopsAt (IsTail is (tail_maybe kind)) words 1
-stops_behind_maybe is kind words within valued =
+stops_past_maybe is kind words within valued =
     let L = IsTail is (tail_maybe kind) in
     let word = get_or words 0 [] in
     let one : GoesOn L words (λ more. L (word ∷ more)) 1 =

@@ -71,7 +71,7 @@ of_kind is (k ∷ kinds) arguments rest zero kind a e =
 of_kind is (k ∷ kinds) arguments rest (suc i) kind a e =
     subst (λ l. is kind (get_or (l ++ rest) (suc i) [])) (sym a.2) (of_kind is kinds a.1 rest i kind a.4 e)
 
--- an argument stands behind the lead and the name
+-- an argument stands after the lead and the name
 pub argument_at : {K C : Type 0} (is : K → List ℕ → Type 0) (table : PlainTable K C) (form : PlainForm K C) (words : List (List ℕ))
     (l : IsLineOf is table form words) (i : ℕ) → get_or words (length l.lead + 1 + i) [] ≡ get_or (l.arguments ++ l.rest) i []
 argument_at is table form words l i =
@@ -93,7 +93,7 @@ as_many : {K : Type 0} (is : K → List ℕ → Type 0) (kinds : List K) (argume
 as_many is [] arguments a = ap length a
 as_many is (k ∷ kinds) arguments a = ap length a.2 ∙ ap suc (as_many is kinds a.1 a.4)
 
--- behind the arguments stands the tail
+-- after the arguments stands the tail
 pub rest_at : {K C : Type 0} (is : K → List ℕ → Type 0) (table : PlainTable K C) (form : PlainForm K C) (words : List (List ℕ))
     (l : IsLineOf is table form words) → drop (length l.lead + 1 + length form.arguments) words ≡ l.rest
 rest_at is table form words l =
@@ -111,7 +111,7 @@ line_without_tail is table form words l none =
 
 -- ---- values of options
 
--- the value behind an option's name is of its kind
+-- the value after an option's name is of its kind
 pub value_of_kind : {K : Type 0} (is : K → List ℕ → Type 0) (options : List (PlainOption K)) (words : List (List ℕ)) (i : ℕ)
     (o : PlainOption K) (value : List ℕ) → are_distinct (map option_name options) ≡ true → AreOptions is options words
     → slice_get options i ≡ Some o → HasValue words o.name value → is o.kind value
@@ -148,7 +148,7 @@ place_of_argument is table form words line read i place at within =
     ∙ get_or_append_left l.arguments l.rest [] i (omega (arith, within, many))
 
 pub rest_that_was_read : {K C : Type 0} (is : K → List ℕ → Type 0) (table : PlainTable K C) (form : PlainForm K C) (words : List (List ℕ))
-    (line : Line C) (read : IsReadOf is table form words line) → drop line.behind words ≡ read.is_line.rest
+    (line : Line C) (read : IsReadOf is table form words line) → drop line.past words ≡ read.is_line.rest
 rest_that_was_read is table form words line read =
-    let e : line.behind ≡ length read.is_line.lead + 1 + length form.arguments = omega (arith, read.first, read.behind) in
+    let e : line.past ≡ length read.is_line.lead + 1 + length form.arguments = omega (arith, read.first, read.past) in
     ap (λ n. drop n words) e ∙ rest_at is table form words read.is_line

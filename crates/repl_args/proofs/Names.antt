@@ -64,10 +64,10 @@ one_of_name key (x ∷ xs) a b distinct c d same =
 
 -- ---- a table
 
-distinct_behind : {K : Type 0} (lead : Option (PlainOption K)) (names : List (List ℕ)) → are_distinct (lead_names lead ++ names) ≡ true
+distinct_past : {K : Type 0} (lead : Option (PlainOption K)) (names : List (List ℕ)) → are_distinct (lead_names lead ++ names) ≡ true
     → are_distinct names ≡ true
-distinct_behind None names distinct = distinct
-distinct_behind (Some o) names distinct = (and_parts (not (list_any (bytes_eq o.name) names)) (are_distinct names) distinct).1
+distinct_past None names distinct = distinct
+distinct_past (Some o) names distinct = (and_parts (not (list_any (bytes_eq o.name) names)) (are_distinct names) distinct).1
 
 apart : {K A : Type 0} (key : A → List ℕ) (lead : Option (PlainOption K)) (xs : List A) (o : PlainOption K) (x : A)
     → are_distinct (lead_names lead ++ map key xs) ≡ true → lead ≡ Some o → Contains xs x → o.name ≡ key x → ⊥
@@ -93,7 +93,7 @@ are_apart {K} {C} table test =
     record {
       some = ltb-true 0 (length table.forms) front.0;
       forms = λ f g c d same. one_of_name form_name table.forms f g
-          (distinct_behind table.lead (map form_name table.forms) front.1) c d same;
+          (distinct_past table.lead (map form_name table.forms) front.1) c d same;
       lead = λ o f is c same. apart form_name table.lead table.forms o f front.1 is c same;
       options = λ f c. passes (λ (f : PlainForm K C). are_options_distinct f.tail) table.forms f parts.1 c;
     }

@@ -4,7 +4,7 @@ use Rattle.std.proofs.lemmas.List.{take_more, drop_more, length-drop}
 use Rattle.std.proofs.lemmas.List.Elements.{All-contains}
 use Rattle.repl_text.specs.Language.{StopsAt}
 use Rattle.repl_args.specs.Forms.{PlainOption, option_name, are_distinct}
-use Rattle.repl_args.specs.Options.{HasValue, HasName, IsOptionOf, AreOptionsBehind}
+use Rattle.repl_args.specs.Options.{HasValue, HasName, IsOptionOf, AreOptionsPast}
 use Rattle.repl_args.specs.Rests.{GoesOn}
 use Rattle.repl_args.proofs.Stops.{goes_on_at, stops_there, stops_at_place}
 use Rattle.repl_args.proofs.Names.{one_of_name}
@@ -13,24 +13,24 @@ use Rattle.repl_args.proofs.Names.{one_of_name}
 
 -- a name that stands before already
 pub name_is_gone : {K : Type 0} (is : K → List ℕ → Type 0) (options : List (PlainOption K)) (before : List (List ℕ)) (name : List ℕ)
-    → HasName before name → (more : List (List ℕ)) → ¬ AreOptionsBehind is options before (name ∷ more)
+    → HasName before name → (more : List (List ℕ)) → ¬ AreOptionsPast is options before (name ∷ more)
 name_is_gone is options before name there [] a = a
 name_is_gone is options before name there (value ∷ more) a = a.0 there
 
 -- a name of no option
 pub name_is_none : {K : Type 0} (is : K → List ℕ → Type 0) (options : List (PlainOption K)) (before : List (List ℕ)) (name : List ℕ)
     → All (λ (o : PlainOption K). o.name ≢ name) options → (more : List (List ℕ))
-    → ¬ AreOptionsBehind is options before (name ∷ more)
+    → ¬ AreOptionsPast is options before (name ∷ more)
 name_is_none is options before name none [] a = a
 name_is_none {K} is options before name none (value ∷ more) a =
     All-contains (λ (o : PlainOption K). o.name ≢ name) options a.1.option none a.1.one a.1.named
 
 pub stops_at_name : {K : Type 0} (is : K → List ℕ → Type 0) (options : List (PlainOption K)) (L : List (List ℕ) → Type 0)
     (before words : List (List ℕ)) (place : ℕ) → place < length words
-    → ((more : List (List ℕ)) → ¬ AreOptionsBehind is options before (get_or words place [] ∷ more))
-    → GoesOn L words (AreOptionsBehind is options before) place → StopsAt L words place
+    → ((more : List (List ℕ)) → ¬ AreOptionsPast is options before (get_or words place [] ∷ more))
+    → GoesOn L words (AreOptionsPast is options before) place → StopsAt L words place
 stops_at_name is options L before words place within none g =
-    stops_at_place L words (AreOptionsBehind is options before) place [] g within none [] tt
+    stops_at_place L words (AreOptionsPast is options before) place [] g within none [] tt
 
 -- ---- where a value stops
 
@@ -38,9 +38,9 @@ pub stops_at_value : {K : Type 0} (is : K → List ℕ → Type 0) → ((kind : 
     → (options : List (PlainOption K)) (o : PlainOption K) (L : List (List ℕ) → Type 0) (before words : List (List ℕ)) (place : ℕ)
     → place < length words → ¬ HasName before (get_or words place []) → Contains options o → o.name ≡ get_or words place []
     → are_distinct (map option_name options) ≡ true → (place + 1 < length words → ¬ is o.kind (get_or words (place + 1) []))
-    → GoesOn L words (AreOptionsBehind is options before) place → StopsAt L words (place + 1)
+    → GoesOn L words (AreOptionsPast is options before) place → StopsAt L words (place + 1)
 stops_at_value is some options o L before words place within fresh one named distinct none g =
-    let A = AreOptionsBehind is options before in
+    let A = AreOptionsPast is options before in
     let name = get_or words place [] in
     let value = some o.kind in
     let half : GoesOn L words (λ more. A (name ∷ more)) (place + 1) =
@@ -63,30 +63,30 @@ two_more words place within =
 pub pair : {K : Type 0} (is : K → List ℕ → Type 0) (options : List (PlainOption K)) (o : PlainOption K) (L : List (List ℕ) → Type 0)
     (words : List (List ℕ)) (place : ℕ) → place + 1 < length words → ¬ HasName (take place words) (get_or words place [])
     → Contains options o → o.name ≡ get_or words place [] → is o.kind (get_or words (place + 1) [])
-    → GoesOn L words (AreOptionsBehind is options (take place words)) place
-    → GoesOn L words (AreOptionsBehind is options (take (place + 1 + 1) words)) (place + 1 + 1)
+    → GoesOn L words (AreOptionsPast is options (take place words)) place
+    → GoesOn L words (AreOptionsPast is options (take (place + 1 + 1) words)) (place + 1 + 1)
 pair is options o L words place within fresh one named valued g =
     let name = get_or words place [] in
     let value = get_or words (place + 1) [] in
     let before = take place words in
-    let A = AreOptionsBehind is options before in
-    let N = AreOptionsBehind is options (take (place + 1 + 1) words) in
+    let A = AreOptionsPast is options before in
+    let N = AreOptionsPast is options (take (place + 1 + 1) words) in
     let e = two_more words place within in
     let half : GoesOn L words (λ more. A (name ∷ more)) (place + 1) =
     goes_on_at L words A (λ more. A (name ∷ more)) place [] (omega arith) (λ more a. a) (λ more a. a) g in
     goes_on_at L words (λ more. A (name ∷ more)) N (place + 1) [] within
-    (λ more a. subst (λ b. AreOptionsBehind is options b more) (sym e) a.2)
+    (λ more a. subst (λ b. AreOptionsPast is options b more) (sym e) a.2)
     (λ more a. (
       fresh,
       record { option = o; one = one; named = named; valued = valued },
-      subst (λ b. AreOptionsBehind is options b more) e a,
+      subst (λ b. AreOptionsPast is options b more) e a,
     )) half
 
 -- ---- what stands in them
 
 -- each value is one of an option
 pub value_of_option : {K : Type 0} (is : K → List ℕ → Type 0) (options : List (PlainOption K)) (before words : List (List ℕ))
-    (name value : List ℕ) → AreOptionsBehind is options before words → HasValue words name value → IsOptionOf is options name value
+    (name value : List ℕ) → AreOptionsPast is options before words → HasValue words name value → IsOptionOf is options name value
 value_of_option is options before [] name value a h = absurd h
 value_of_option is options before (n ∷ []) name value a h = absurd h
 value_of_option is options before (n ∷ v ∷ words) name value a h = ⊎_elim
@@ -115,7 +115,7 @@ has_still (m ∷ []) more name value h = absurd h
 has_still (m ∷ w ∷ before) more name value h = ⊎_elim (λ here. inl here) (λ later. inr (has_still before more name value later)) h
 
 not_again : {K : Type 0} (is : K → List ℕ → Type 0) (options : List (PlainOption K)) (before words : List (List ℕ)) (name old new : List ℕ)
-    → AreOptionsBehind is options before words → HasValue before name old → HasValue words name new → ⊥
+    → AreOptionsPast is options before words → HasValue before name old → HasValue words name new → ⊥
 not_again is options before [] name old new a o h = h
 not_again is options before (n ∷ []) name old new a o h = h
 not_again is options before (n ∷ v ∷ words) name old new a o h = ⊎_elim
@@ -124,7 +124,7 @@ not_again is options before (n ∷ v ∷ words) name old new a o h = ⊎_elim
 
 -- a name has one value
 pub one_value : {K : Type 0} (is : K → List ℕ → Type 0) (options : List (PlainOption K)) (before words : List (List ℕ))
-    (name a b : List ℕ) → ArePairs before → AreOptionsBehind is options before words → HasValue words name a → HasValue words name b → a ≡ b
+    (name a b : List ℕ) → ArePairs before → AreOptionsPast is options before words → HasValue words name a → HasValue words name b → a ≡ b
 one_value is options before [] name a b p all h k = absurd h
 one_value is options before (n ∷ []) name a b p all h k = absurd h
 one_value is options before (n ∷ v ∷ words) name a b p all h k =
@@ -165,9 +165,9 @@ has_none [] name value short h = h
 has_none (n ∷ []) name value short h = h
 has_none (n ∷ v ∷ words) name value short h = absurd (omega (arith, short))
 
-pub has_none_behind : (words : List (List ℕ)) (place : ℕ) (name value : List ℕ) → length words ≤ place + 1
+pub has_none_past : (words : List (List ℕ)) (place : ℕ) (name value : List ℕ) → length words ≤ place + 1
     → HasValue (drop place words) name value → ⊥
-has_none_behind words place name value short h =
+has_none_past words place name value short h =
     has_none (drop place words) name value (omega (arith, short, length-drop place words)) h
 
 pub has_moved : (a b : List (List ℕ)) (m n : List ℕ) → a ≡ b → m ≡ n → HasName a m → HasName b n

@@ -1,4 +1,4 @@
--- Where a list leaves a language, told by where its rest leaves what the language is behind its first elements.
+-- Where a list leaves a language, told by where its rest leaves what the language is after its first elements.
 use Rattle.std.proofs.Common.{◌≡◌, ℕ, suc, ◌+◌, ◌<◌, List, [], ◌∷◌, ◌++◌, length, get_or, take, drop, ⊎_elim, sym, subst, arith}
 use Rattle.std.proofs.lemmas.Bool.{cases_lt}
 use Rattle.std.proofs.lemmas.List.{drop_more, drop_all}
@@ -22,9 +22,9 @@ stops_at_word L word rest none some is = record {
   stops = λ h b. none b.0 b.1;
 }
 
-pub stops_behind : {A : Type 0} (L : List A → Type 0) (word : A) (rest : List A) (place : ℕ) → StopsAt (λ more. L (word ∷ more)) rest place
+pub stops_past : {A : Type 0} (L : List A → Type 0) (word : A) (rest : List A) (place : ℕ) → StopsAt (λ more. L (word ∷ more)) rest place
     → StopsAt L (word ∷ rest) (suc place)
-stops_behind L word rest place s = record {
+stops_past L word rest place s = record {
   within = omega (arith, s.within);
   refused = s.refused;
   goes_on = (s.goes_on.0, s.goes_on.1);
@@ -81,9 +81,9 @@ pub goes_on_more : {A : Type 0} (L : List A → Type 0) (list : List A) (rest ne
 goes_on_more L list rest next place word parts there back g = record {
   stops = λ p s.
       let moved = stops_alike next (λ more. rest (word ∷ more)) (drop (place + 1) list) p back there s in
-      let behind = stops_behind rest word (drop (place + 1) list) p moved in
+      let past = stops_past rest word (drop (place + 1) list) p moved in
       let e : place + suc p ≡ place + 1 + p = omega arith in
-      subst (λ n. StopsAt L list n) e (g.stops (suc p) (subst (λ l. StopsAt rest l (suc p)) (sym parts) behind));
+      subst (λ n. StopsAt L list n) e (g.stops (suc p) (subst (λ l. StopsAt rest l (suc p)) (sym parts) past));
   is = λ n. g.is (subst rest (sym parts) (back (drop (place + 1) list) n));
 }
 
@@ -108,7 +108,7 @@ stops_at_place L list rest place d g within none some is =
     let here = stops_at_word rest (get_or list place d) (drop (place + 1) list) none some is in
     stops_on L list rest place 0 place g (subst (λ l. StopsAt rest l 0) (sym (drop_more list place d within)) here) (omega arith)
 
--- there, or behind the last
+-- there, or after the last
 pub stops_there : {A : Type 0} (L : List A → Type 0) (list : List A) (rest : List A → Type 0) (place : ℕ) (d : A) → GoesOn L list rest place
     → ¬ rest [] → (place < length list → (more : List A) → ¬ rest (get_or list place d ∷ more)) → (some : List A) → rest some
     → StopsAt L list place

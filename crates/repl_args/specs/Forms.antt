@@ -13,7 +13,7 @@ pub record PlainOption (K : Type 0) : Type 0 where
   pub name : List ℕ
   pub kind : K
 
--- what stands behind the arguments: nothing, at most one word of this kind, or some of these options
+-- what stands after the arguments: nothing, at most one word of this kind, or some of these options
 pub data PlainTail (K : Type 0) : Type 0 where
   no_tail : PlainTail K
   tail_maybe : K → PlainTail K

@@ -11,7 +11,7 @@ abbrev pub IsLead : {K : Type 0} → (K → List ℕ → Type 0) → Option (Pla
 IsLead is None words = words ≡ []
 IsLead is (Some lead) words = (words ≡ []) ⊎ ((value : List ℕ) × (words ≡ lead.name ∷ value ∷ []) × is lead.kind value)
 
--- what stands behind the arguments
+-- what stands after the arguments
 abbrev pub IsTail : {K : Type 0} → (K → List ℕ → Type 0) → PlainTail K → List (List ℕ) → Type 0
 IsTail is no_tail words = words ≡ []
 IsTail is (tail_maybe kind) words = (words ≡ []) ⊎ ((word : List ℕ) × (words ≡ word ∷ []) × is kind word)
@@ -31,12 +31,12 @@ pub record IsLineOf {K C : Type 0} (is : K → List ℕ → Type 0) (table : Pla
 abbrev pub IsLine : {K C : Type 0} → (K → List ℕ → Type 0) → PlainTable K C → List (List ℕ) → Type 0
 IsLine {K} {C} is table words = (form : PlainForm K C) × Contains table.forms form × IsLineOf is table form words
 
--- where in a line of this form its parts stand: the command's name, and what is behind its arguments
+-- where in a line of this form its parts stand: the command's name, and what is after its arguments
 pub record IsReadOf {K C : Type 0} (is : K → List ℕ → Type 0) (table : PlainTable K C) (form : PlainForm K C) (words : List (List ℕ))
     (line : Line C) : Type 0 where
   pub is_line : IsLineOf is table form words
   pub first : line.first ≡ length is_line.lead
-  pub behind : line.behind ≡ line.first + 1 + length form.arguments
+  pub past : line.past ≡ line.first + 1 + length form.arguments
 
 -- what is answered of a line of the table: its command, and where its parts stand
 pub record IsRead {K C : Type 0} (is : K → List ℕ → Type 0) (table : PlainTable K C) (words : List (List ℕ)) (line : Line C) : Type 0 where

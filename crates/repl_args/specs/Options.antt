@@ -2,7 +2,7 @@
 use Rattle.std.specs.Prelude.{◌≡◌, ◌⊎◌, ℕ, List, [], ◌∷◌, ◌++◌, Contains}
 use Rattle.repl_args.specs.Forms.{PlainOption}
 
--- among names and values in turn, this value stands behind this name
+-- among names and values in turn, this value stands after this name
 abbrev pub HasValue : List (List ℕ) → List ℕ → List ℕ → Type 0
 HasValue [] name value = ⊥
 HasValue (_ ∷ []) name value = ⊥
@@ -20,12 +20,12 @@ pub record IsOptionOf {K : Type 0} (is : K → List ℕ → Type 0) (options : L
   pub valued : is option.kind value
 
 -- names and values of options, where those that stand before are gone
-abbrev pub AreOptionsBehind : {K : Type 0} → (K → List ℕ → Type 0) → List (PlainOption K) → List (List ℕ) → List (List ℕ) → Type 0
-AreOptionsBehind is options before [] = Unit {0}
-AreOptionsBehind is options before (_ ∷ []) = ⊥
-AreOptionsBehind is options before (name ∷ value ∷ rest) =
-    ¬ HasName before name × IsOptionOf is options name value × AreOptionsBehind is options (before ++ name ∷ value ∷ []) rest
+abbrev pub AreOptionsPast : {K : Type 0} → (K → List ℕ → Type 0) → List (PlainOption K) → List (List ℕ) → List (List ℕ) → Type 0
+AreOptionsPast is options before [] = Unit {0}
+AreOptionsPast is options before (_ ∷ []) = ⊥
+AreOptionsPast is options before (name ∷ value ∷ rest) =
+    ¬ HasName before name × IsOptionOf is options name value × AreOptionsPast is options (before ++ name ∷ value ∷ []) rest
 
 -- names and values of options, each name once
 abbrev pub AreOptions : {K : Type 0} → (K → List ℕ → Type 0) → List (PlainOption K) → List (List ℕ) → Type 0
-AreOptions is options words = AreOptionsBehind is options [] words
+AreOptions is options words = AreOptionsPast is options [] words

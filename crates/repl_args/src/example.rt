@@ -42,7 +42,7 @@ enum Command {
     Run,
 }
 
-/// `names TEXT`, `bit BIT [TEXT]`, and `run [--first BIT] [--then TEXT]`, each behind `[-D DIR]`.
+/// `names TEXT`, `bit BIT [TEXT]`, and `run [--first BIT] [--then TEXT]`, each after `[-D DIR]`.
 const TABLE: Table<'static, Word, Command> = Table {
     lead: Some(OptionForm {
         name: "-D",
@@ -101,6 +101,6 @@ fn read_task(words: &[String]) -> Result<Task<'_>, usize>
     match line.command {
         Command::Names => Ok(Task::Names(word_at(words, line.first + 1))),
         Command::Bit => Ok(Task::Bit(word_at(words, line.first + 1))),
-        Command::Run => Ok(Task::Run(option_value(words, line.behind, "--first"))),
+        Command::Run => Ok(Task::Run(option_value(words, line.past, "--first"))),
     }
 }

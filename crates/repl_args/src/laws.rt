@@ -20,7 +20,7 @@ pub fn one_usage<K: Kind, C>()
     ensures none { (table : PlainTable K C) (words : List (List ℕ)) (word : ℕ) → IsLine K.is table words → ¬ IsUsage K.is table words word }
 {}
 
-/// Each argument of a line that was read stands behind the command's name, in order, and is of its kind.
+/// Each argument of a line that was read stands after the command's name, in order, and is of its kind.
 pub fn arguments_are_of_their_kinds<K: Kind, C>()
     ensures place { (table : PlainTable K C) (form : PlainForm K C) (words : List (List ℕ)) (line : Line C)
         (read : IsReadOf K.is table form words line) (i place : ℕ) → place ≡ line.first + 1 + i → i < length form.arguments
@@ -30,13 +30,13 @@ pub fn arguments_are_of_their_kinds<K: Kind, C>()
         → slice_get form.arguments i ≡ Some kind → K.is kind (get_or words place []) }
 {}
 
-/// Behind its arguments stands its tail.
-pub fn tail_is_behind<K: Kind, C>()
+/// After its arguments stands its tail.
+pub fn tail_is_past<K: Kind, C>()
     ensures { (table : PlainTable K C) (form : PlainForm K C) (words : List (List ℕ)) (line : Line C)
-        (read : IsReadOf K.is table form words line) → drop line.behind words ≡ read.is_line.rest }
+        (read : IsReadOf K.is table form words line) → drop line.past words ≡ read.is_line.rest }
 {}
 
-/// A name among options has one value at most, and the value behind an option's name is of its kind.
+/// A name among options has one value at most, and the value after an option's name is of its kind.
 pub fn options_have_one_value<K: Kind>()
     ensures one { (options : List (PlainOption K)) (words : List (List ℕ)) (name value other : List ℕ) → AreOptions K.is options words
         → HasValue words name value → HasValue words name other → value ≡ other }

@@ -20,17 +20,17 @@
 //!     ],
 //! };
 //!
-//! let line = read_line(&TABLE, words)?;                 // -D here history 7: history, first 2, behind 4
+//! let line = read_line(&TABLE, words)?;                 // -D here history 7: history, first 2, after 4
 //! match line.command {
 //!     Command::History => word_at(words, line.first + 1),                  // a word of the kind Timeline
-//!     Command::Simulate => option_value(words, line.behind, "--stops"),    // or None, where it is not there
+//!     Command::Simulate => option_value(words, line.past, "--stops"),    // or None, where it is not there
 //! }
 //! ```
 //!
 //! Contracts speak of a table as plain data (`plain`, `PlainTable`): a contract cannot name a constant that holds references,
 //! so a program writes its table a second time in its specs, and `plain TABLE` computes to that. That names differ, `is_table`,
 //! is a test that computes there too. A caller that knows its table gets the shape of a line from `IsRead` by computation, and
-//! from the laws: `one_form`, `one_usage`, `arguments_are_of_their_kinds`, `tail_is_behind`, `options_have_one_value`,
+//! from the laws: `one_form`, `one_usage`, `arguments_are_of_their_kinds`, `tail_is_past`, `options_have_one_value`,
 //! `commands_tell_forms`. They take no time; as lemmas they stand in `proofs/LinesRead.antt`.
 //! Stands on `repl_text` for `StopsAt`.
 #![tactic(auto)]
@@ -48,7 +48,7 @@ mod words;
 pub use kind::Kind;
 pub use laws::{
     arguments_are_of_their_kinds, commands_tell_forms, one_form, one_usage, options_have_one_value,
-    tail_is_behind,
+    tail_is_past,
 };
 pub use line::{Line, read_line};
 pub use options::option_value;

@@ -3,7 +3,7 @@ ghost use Rattle.repl_args.specs.Words.{texts};
 ghost use Rattle.repl_args.specs.Forms.{plain, plain_form, is_table, form_name};
 ghost use Rattle.repl_args.specs.Lines.{IsRead, IsUsage};
 
-use crate::form::read_behind_name;
+use crate::form::read_past_name;
 use crate::kind::Kind;
 use crate::lead::read_lead;
 use crate::table::{Form, Table};
@@ -13,10 +13,10 @@ use crate::table::{Form, Table};
 pub struct Line<C> {
     /// The command of the form.
     pub command: C,
-    /// The place of the command's name: 0, or 2 behind a lead.
+    /// The place of the command's name: 0, or 2 after a lead.
     pub first: usize,
-    /// The place behind the arguments, at which the tail begins.
-    pub behind: usize,
+    /// The place after the arguments, at which the tail begins.
+    pub past: usize,
 }
 
 /// Reads the words of a command line, without the program's name, by the table.
@@ -38,11 +38,11 @@ pub fn read_line<K: Kind, C: Copy>(table: &Table<K, C>, words: &[String]) -> Res
     let Some(form) = find_form(table.forms, words[first].as_str()) else {
         return Err(first + 1);
     };
-    match read_behind_name(form, &words[first + 1..]) {
+    match read_past_name(form, &words[first + 1..]) {
         Ok(()) => Ok(Line {
             command: form.command,
             first,
-            behind: first + 1 + form.arguments.len(),
+            past: first + 1 + form.arguments.len(),
         }),
         Err(place) => Err(first + place + 2),
     }

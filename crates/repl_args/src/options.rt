@@ -8,7 +8,7 @@ use crate::kind::Kind;
 use crate::table::OptionForm;
 use crate::words::takes_at;
 
-/// The value behind this name, where from the place on the words are names and values of options in turn.
+/// The value after this name, where from the place on the words are names and values of options in turn.
 pub fn option_value<'w>(words: &'w [String], from: usize, name: &str) -> Option<&'w str>
     ensures some { IfSome result (λ value. HasValue (drop from (texts words.now)) name.now value.now) }
     ensures none { IfNone result (¬ HasName (drop from (texts words.now)) name.now) }
@@ -23,7 +23,7 @@ pub fn option_value<'w>(words: &'w [String], from: usize, name: &str) -> Option<
     None
 }
 
-/// Whether a value stands behind this name.
+/// Whether a value stands after this name.
 fn has_name(words: &[String], name: &str) -> bool
     ensures { IsTrue result ↔ HasName (texts words.now) name.now }
 {

@@ -7,7 +7,7 @@ pub struct OptionForm<'a, K> {
     pub kind: K,
 }
 
-/// What stands behind the arguments.
+/// What stands after the arguments.
 #[derive(Clone, Copy)]
 pub enum Tail<'a, K> {
     /// Nothing more.
@@ -25,9 +25,9 @@ pub struct Form<'a, K, C> {
     pub command: C,
     /// The first word of the form.
     pub name: &'a str,
-    /// What the words behind it are, in order.
+    /// What the words after it are, in order.
     pub arguments: &'a [K],
-    /// What stands behind those.
+    /// What stands after those.
     pub tail: Tail<'a, K>,
 }
 

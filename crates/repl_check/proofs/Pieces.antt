@@ -119,7 +119,7 @@ read_more old mid head before after end room is backs_on pages more goes ident a
     let floor = head.control.floor in
     let n = length is.taken in
     let count = min room (end - check_position before) in
-    let place = is.judged.behind in
+    let place = is.judged.past in
     let begins = is.judged.begins in
     record {
       taken = is.taken ++ goes.bytes;
@@ -148,7 +148,7 @@ pub read_all : (disk : DiskState) (head : Head) (check : LogCheck) (s : State) �
     → head.control.flushed ≤ check_position check → Backs disk head s
     → HasJudged check (timeline_at head.path) head.control.floor s.durable.bytes
 read_all disk head check s is done backs =
-    let counted : length is.taken ≡ length s.durable.bytes = omega (arith, is.judged.behind, is.within, done, backs.counted) in
+    let counted : length is.taken ≡ length s.durable.bytes = omega (arith, is.judged.past, is.within, done, backs.counted) in
     let all : is.taken ≡ s.durable.bytes = is.of_log s backs ∙ take_at s.durable.bytes s.unflushed (length is.taken) (sym counted) in
     subst (HasJudged check (timeline_at head.path) head.control.floor) all is.judged
 
@@ -248,7 +248,7 @@ still_whole A x old true whole breaks = elim (breaks.0 refl) [
   | inr failed ↦ absurd cc
 ]
 
--- ---- a call behind others
+-- ---- a call after others
 
 pub comes_after : (A : Type 0) (result : Result A StoreFault) (old mid new : DiskState) (head : Head) (s : State) → SoFar old mid head s
     → Stood old.faults mid.faults → Comes result mid new head (Before s) s (λ t. t ≡ s) → Comes result old new head (Before s) s (λ t. t ≡ s)

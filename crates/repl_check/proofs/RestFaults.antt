@@ -44,14 +44,14 @@ page_not_before ident timeline rest from page other log fault another below a b 
       b.is_page,
     )) a
 
--- behind a wrong header no gap is judged
+-- after a wrong header no gap is judged
 header_or_gap : (ident : Ident) (timeline : ℕ → ℕ) (rest from page : ℕ) (log : List ℕ) (fault : PageFault) → IsSegSize ident.size
     → IsWrongHeader ident timeline rest from log page fault → IsWrongGap ident timeline rest from log → ⊥
 header_or_gap ident timeline rest from page log fault size_is is gap =
     let size = ident.size in
     let n = length gap.front in
-    let front : take n log ≡ gap.front = ap (take n) gap.parts ∙ take_at gap.front gap.behind n refl in
-    let within : n ≤ length log = omega (arith, ap length gap.parts, length-append gap.front gap.behind) in
+    let front : take n log ≡ gap.front = ap (take n) gap.parts ∙ take_at gap.front gap.past n refl in
+    let within : n ≤ length log = omega (arith, ap length gap.parts, length-append gap.front gap.past) in
     let counted : length (content size from (take n log)) ≡ rest = ap (λ (t : List ℕ). length (content size from t)) front ∙ gap.bytes in
     let before : page - from < n = elim (cases_lt (page - from) n) [
       | inl less ↦ less

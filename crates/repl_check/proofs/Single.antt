@@ -1,4 +1,4 @@
--- Of records behind a record that is not known there is one end and one fault, and the start of the last is one where a
+-- Of records after a record that is not known there is one end and one fault, and the start of the last is one where a
 -- record ends.
 use Rattle.std.proofs.Common.{◌≡◌, ◌≢◌, ℕ, ◌%◌, ◌<◌, ◌⊎◌, List, take, sym, ap, ◌∙◌, subst, inl, inr, arith}
 use Rattle.std.proofs.lemmas.Bool.{cases_eq, cases_lt, cases_order}
@@ -16,8 +16,8 @@ use Rattle.repl_record.proofs.ImageRightFronts.{image_over}
 use Rattle.repl_record.proofs.LogAnswers.{same_answer}
 use Rattle.repl_record.proofs.LogChains.{first_record, same_last}
 use Rattle.repl_record.proofs.LogEnds.{from_le}
-use Rattle.repl_walk.specs.Faults.{IsFaultBehind}
-use Rattle.repl_walk.proofs.BehindAny.{fault_behind, first_fault, one_prev, same_length, told_prev, wrong_no_prefix}
+use Rattle.repl_walk.specs.Faults.{IsFaultPast}
+use Rattle.repl_walk.proofs.PastAny.{fault_past, first_fault, one_prev, same_length, told_prev, wrong_no_prefix}
 use Rattle.repl_walk.proofs.Faults.{fault_greatest, fault_refutes, same_fault}
 use Rattle.repl_check.specs.Fits.{IsBefore, IsOrigin}
 
@@ -32,7 +32,7 @@ before_origin ident floor prev other a b =
       | inr above ↦ inr above
     ]
 
--- where records end behind both, they are one
+-- where records end after both, they are one
 pub one_before : (ident : Ident) (timeline : ℕ → ℕ) (from prev other end last later start : ℕ) (log : List ℕ) → IsSegSize ident.size
     → from < end → RecordEnd ident timeline from prev log end last → from < later → RecordEnd ident timeline from other log later start
     → other ≡ prev
@@ -58,7 +58,7 @@ same_ends ident timeline from prev log end last later start size_is eight a b =
     let ends = subst (λ (e : ℕ). RecordEnd ident timeline from prev log e last) same a.is_end in
     (same, same_last ident timeline from prev log later last start size_is eight ends b.is_end)
 
--- what is said of ends behind one record is so behind another
+-- what is said of ends after one record is so after another
 module _ (ident : Ident) (timeline : ℕ → ℕ) (floor from : ℕ) (log : List ℕ) (size_is : IsSegSize ident.size) (eight : from % 8 ≡ 0) where
   -- both are prefixes of records
   pub one_records_end : (prev other end last later start : ℕ) → IsBefore ident floor prev → IsBefore ident floor other
@@ -94,7 +94,7 @@ module _ (ident : Ident) (timeline : ℕ → ℕ) (floor from : ℕ) (log : List
   -- ---- no fault
 
   pub records_not_bad : (prev other later start at : ℕ) (reason : WalkReason) → IsBefore ident floor prev → IsBefore ident floor other
-      → IsPrefixOfRecords ident timeline from prev log → IsFaultBehind ident timeline from other log later start at reason
+      → IsPrefixOfRecords ident timeline from prev log → IsFaultPast ident timeline from other log later start at reason
       → (¬ IsOrigin ident floor → later ≡ from → (found expected : ℕ) → reason ≢ why.Prev found expected) → ⊥
   records_not_bad prev other later start at reason before another records fault unlike =
       let alike : prev ≡ other → ⊥ = λ same. fault_refutes ident timeline from other log later start at reason size_is eight fault
@@ -107,13 +107,13 @@ module _ (ident : Ident) (timeline : ℕ → ℕ) (floor from : ℕ) (log : List
               let begins : later ≡ from = omega (arith, from_le ident timeline from other log later start fault.records) in
               let first = first_fault size_is eight fault begins in
               wrong_no_prefix ident timeline from prev first.n log reason size_is eight first.within (λ m below. (first.first m below).0)
-              (fault_behind ident timeline from other prev (take first.n log) reason (unlike above begins) first.fault) records
+              (fault_past ident timeline from other prev (take first.n log) reason (unlike above begins) first.fault) records
         ]
       ]
 
   -- ---- one fault
 
-  -- where a record ends behind one, no fault of the first record stands behind the other
+  -- where a record ends after one, no fault of the first record stands after the other
   end_not_bad : (prev other end last at : ℕ) (reason : WalkReason) → from < end → RecordEnd ident timeline from prev log end last
       → ((found expected : ℕ) → reason ≢ why.Prev found expected) → IsFirstFault ident timeline from other log at reason → ⊥
   end_not_bad prev other end last at reason some ends unlike fault =
@@ -121,11 +121,11 @@ module _ (ident : Ident) (timeline : ℕ → ℕ) (floor from : ℕ) (log : List
         | inl none ↦ absurd (omega (arith, none.0))
         | inr first ↦ elim (cases_lt first.n fault.n) [
           | inl before ↦ (fault.first first.n before).0 (image_over ident timeline from prev first.item (take first.n log) size_is first.image)
-          | inr behind ↦
+          | inr past ↦
               let counted = length-take-le first.n log first.within in
               image_right ident timeline from prev fault.n first.item (take first.n log) size_is eight first.image (omega arith) reason
-              (subst (λ (t : List ℕ). IsFaultAt ident timeline from prev t reason) (sym (take-take fault.n first.n log behind))
-              (fault_behind ident timeline from other prev (take fault.n log) reason unlike fault.fault))
+              (subst (λ (t : List ℕ). IsFaultAt ident timeline from prev t reason) (sym (take-take fault.n first.n log past))
+              (fault_past ident timeline from other prev (take fault.n log) reason unlike fault.fault))
         ]
       ]
 
@@ -136,7 +136,7 @@ module _ (ident : Ident) (timeline : ℕ → ℕ) (floor from : ℕ) (log : List
   one_first_fault prev other at place reason cause unlike differs a b =
       elim (cases_order a.n b.n) [
         | inl same ↦
-            let moved = fault_behind ident timeline from other prev (take b.n log) cause differs b.fault in
+            let moved = fault_past ident timeline from other prev (take b.n log) cause differs b.fault in
             same_answer ident timeline from prev log (step.Bad at reason) (step.Bad place cause) size_is eight a (record {
               n = a.n;
               within = a.within;
@@ -144,22 +144,22 @@ module _ (ident : Ident) (timeline : ℕ → ℕ) (floor from : ℕ) (log : List
               fault = subst (λ (k : ℕ). IsFaultAt ident timeline from prev (take k log) cause) (sym same) moved;
               place = b.place ∙ ap (λ (k : ℕ). place_of ident.size from (take k log) cause) (sym same);
             })
-        | inr (inl below) ↦ absurd ((b.first a.n below).1 reason (fault_behind ident timeline from prev other (take a.n log) reason unlike a.fault))
-        | inr (inr above) ↦ absurd ((a.first b.n above).1 cause (fault_behind ident timeline from other prev (take b.n log) cause differs b.fault))
+        | inr (inl below) ↦ absurd ((b.first a.n below).1 reason (fault_past ident timeline from prev other (take a.n log) reason unlike a.fault))
+        | inr (inr above) ↦ absurd ((a.first b.n above).1 cause (fault_past ident timeline from other prev (take b.n log) cause differs b.fault))
       ]
 
   -- both have a fault
   pub one_bad : (prev other end last at later start place : ℕ) (reason cause : WalkReason) → IsBefore ident floor prev
-      → IsBefore ident floor other → IsFaultBehind ident timeline from prev log end last at reason
+      → IsBefore ident floor other → IsFaultPast ident timeline from prev log end last at reason
       → (¬ IsOrigin ident floor → end ≡ from → (found expected : ℕ) → reason ≢ why.Prev found expected)
-      → IsFaultBehind ident timeline from other log later start place cause
+      → IsFaultPast ident timeline from other log later start place cause
       → (¬ IsOrigin ident floor → later ≡ from → (found expected : ℕ) → cause ≢ why.Prev found expected)
       → (end ≡ later) × ((from < end) ⊎ IsOrigin ident floor → last ≡ start) × (at ≡ place) × (reason ≡ cause)
   one_bad prev other end last at later start place reason cause before another fault unlike second differs =
       let alike : other ≡ prev → (end ≡ later) × ((from < end) ⊎ IsOrigin ident floor → last ≡ start) × (at ≡ place) × (reason ≡ cause) = λ same.
-      let moved = subst (λ (p : ℕ). IsFaultBehind ident timeline from p log later start place cause) same second in
-      let one = same_fault ident timeline from prev log at place reason cause size_is eight (record { end = end; last = last; behind = fault })
-      (record { end = later; last = start; behind = moved }) in
+      let moved = subst (λ (p : ℕ). IsFaultPast ident timeline from p log later start place cause) same second in
+      let one = same_fault ident timeline from prev log at place reason cause size_is eight (record { end = end; last = last; past = fault })
+      (record { end = later; last = start; past = moved }) in
       let ends = same_ends ident timeline from prev log end last later start size_is eight
       (fault_greatest ident timeline from prev log end last at reason size_is eight fault)
       (fault_greatest ident timeline from prev log later start place cause size_is eight moved) in

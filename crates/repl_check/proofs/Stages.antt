@@ -17,7 +17,7 @@ use Rattle.repl_record.proofs.Pages.{header_is}
 use Rattle.repl_walk.specs.declared.pieces.WalkFault.{WalkFault}
 use Rattle.repl_walk.specs.declared.rest.Rest.{Rest}
 use Rattle.repl_walk.specs.declared.rest.TheConstants.{REST_LIMIT}
-use Rattle.repl_walk.specs.Faults.{IsFaultBehind}
+use Rattle.repl_walk.specs.Faults.{IsFaultPast}
 use Rattle.repl_walk.specs.Rest.{HasPassed, IsRest, IsRestWhole, rest_identity}
 use Rattle.repl_walk.specs.Walks.{HasWalked}
 use Rattle.repl_walk.proofs.Ends.{ends_within}
@@ -103,24 +103,24 @@ records_placed : (ident : Ident) (timeline : ℕ → ℕ) (rest floor : ℕ) (lo
     → InRecords ident timeline rest floor log start w → position w ≡ floor + length log
 records_placed ident timeline rest floor log start w on_page is =
     let placed = first_placed ident timeline rest floor log start on_page is.first in
-    let behind = drop (start - floor) log in
-    let above = from_le (identity w) timeline start is.prev behind (last_end w) (last_start w) is.walked.records in
-    let within = ends_within (identity w) timeline start is.prev behind (last_end w) (last_start w) is.walked.records in
+    let past = drop (start - floor) log in
+    let above = from_le (identity w) timeline start is.prev past (last_end w) (last_start w) is.walked.records in
+    let within = ends_within (identity w) timeline start is.prev past (last_end w) (last_start w) is.walked.records in
     omega (
       arith,
       placed.0,
       placed.1,
       above,
       within,
-      is.walked.stands.keeps.behind,
+      is.walked.stands.keeps.past,
       length-drop (start - floor) log,
-      length-drop (last_end w - start) behind,
+      length-drop (last_end w - start) past,
     )
 
 pub stage_placed : (ident : Ident) (timeline : ℕ → ℕ) (rest floor at : ℕ) (log : List ℕ) (s : Stage) → IsPage floor → at ≡ floor + length log
     → IsPage at → IsAtStage ident timeline rest floor log s → IsPlaced s at
 stage_placed ident timeline rest floor at log (stage.InRest r) on_page is next at_stage =
-    (at_stage.passed (subst IsPage is next)).behind ∙ sym is
+    (at_stage.passed (subst IsPage is next)).past ∙ sym is
 stage_placed ident timeline rest floor at log (stage.BadRest fault) on_page is next at_stage = tt
 stage_placed ident timeline rest floor at log (stage.InRecords start w) on_page is next at_stage =
     records_placed ident timeline rest floor log start w on_page at_stage ∙ sym is
@@ -181,9 +181,9 @@ pub records_stop : (ident : Ident) (timeline : ℕ → ℕ) (rest floor start at
     → HasBadRecord ident timeline rest floor (log ++ bytes) start end last at reason
 records_stop ident timeline rest floor start at end last reason log bytes w on_page first of_log end_is last_is stop =
     let all = log ++ bytes in
-    let Wrong : Ident → ℕ → ℕ → List ℕ → Type 0 = λ i e l t. IsFaultBehind i timeline start stop.prev t e l at reason in
+    let Wrong : Ident → ℕ → ℕ → List ℕ → Type 0 = λ i e l t. IsFaultPast i timeline start stop.prev t e l at reason in
     let fault : Wrong ident (last_end w) (last_start w) (drop (start - floor) log ++ bytes) =
-    subst (λ (i : Ident). Wrong i (last_end w) (last_start w) (drop (start - floor) log ++ bytes)) of_log stop.refused.behind in
+    subst (λ (i : Ident). Wrong i (last_end w) (last_start w) (drop (start - floor) log ++ bytes)) of_log stop.refused.past in
     let here : Wrong ident (last_end w) (last_start w) (drop (start - floor) all) =
     subst (Wrong ident (last_end w) (last_start w)) (sym (drop_more ident timeline rest floor log bytes start on_page first)) fault in
     record {
@@ -201,19 +201,19 @@ pub records_found : (ident : Ident) (timeline : ℕ → ℕ) (rest floor start e
     → end ≡ last_end w → last ≡ last_start w → InRecords ident timeline rest floor log start w
     → HasRecords ident timeline rest floor log start end last
 records_found ident timeline rest floor start end last log w size_is end_is last_is is =
-    let behind = drop (start - floor) log in
+    let past = drop (start - floor) log in
     let here = subst (λ (i : Ident). IsSegSize i.size) (sym is.of_log) size_is in
-    let greatest : IsWholeEnd ident timeline start is.prev behind (last_end w) (last_start w) =
-    subst (λ (i : Ident). IsWholeEnd i timeline start is.prev behind (last_end w) (last_start w)) is.of_log
-    (walked_whole w timeline start is.prev behind here is.walked) in
+    let greatest : IsWholeEnd ident timeline start is.prev past (last_end w) (last_start w) =
+    subst (λ (i : Ident). IsWholeEnd i timeline start is.prev past (last_end w) (last_start w)) is.of_log
+    (walked_whole w timeline start is.prev past here is.walked) in
     record {
       first = is.first;
       prev = is.prev;
       before = is.before;
-      records = subst (λ (i : Ident). IsPrefixOfRecords i timeline start is.prev behind) is.of_log (walked_prefix w timeline start is.prev
-          behind is.walked);
-      whole = subst (λ (l : ℕ). IsWholeEnd ident timeline start is.prev behind end l) (sym last_is)
-          (subst (λ (e : ℕ). IsWholeEnd ident timeline start is.prev behind e (last_start w)) (sym end_is) greatest);
+      records = subst (λ (i : Ident). IsPrefixOfRecords i timeline start is.prev past) is.of_log (walked_prefix w timeline start is.prev
+          past is.walked);
+      whole = subst (λ (l : ℕ). IsWholeEnd ident timeline start is.prev past end l) (sym last_is)
+          (subst (λ (e : ℕ). IsWholeEnd ident timeline start is.prev past e (last_start w)) (sym end_is) greatest);
     }
 
 -- ---- a stage that stays
@@ -248,7 +248,7 @@ judged_on old new timeline floor log bytes ident begins at judged stage =
       size = subst (λ (i : Ident). IsSegSize i.size) (sym ident) judged.size;
       on_page = judged.on_page;
       begins = on;
-      behind = omega (arith, at, judged.behind, length-append log bytes);
+      past = omega (arith, at, judged.past, length-append log bytes);
       at_stage = subst (λ (i : Ident). IsAtStage i timeline (rest_of i floor all) floor all new.stage) (sym ident) here;
     }
 
@@ -259,6 +259,6 @@ judged_new ident timeline floor w size_is on_page of_log stands = record {
   size = size_is;
   on_page = on_page;
   begins = refl;
-  behind = omega arith;
+  past = omega arith;
   at_stage = fresh_records ident timeline (rest_of ident floor []) floor w on_page (rest_none ident floor) of_log stands;
 }

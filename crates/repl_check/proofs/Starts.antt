@@ -9,7 +9,7 @@ use Rattle.repl_walk.proofs.Faults.{fault_more}
 use Rattle.repl_walk.proofs.RestAnswers.{fault_not_whole, one_whole, whole_not_begun}
 use Rattle.repl_walk.proofs.RestWalks.{whole_more}
 use Rattle.repl_walk.proofs.RestWalks.{fault_more as rest_fault_more}
-use Rattle.repl_walk.specs.Faults.{IsFaultBehind}
+use Rattle.repl_walk.specs.Faults.{IsFaultPast}
 use Rattle.repl_check.specs.Fits.{HasBadRecord, HasBadRest, IsFirst, IsUnbegun}
 
 -- ---- one start
@@ -52,7 +52,7 @@ pub first_more : (ident : Ident) (timeline : ℕ → ℕ) (rest floor : ℕ) (lo
 first_more ident timeline rest floor log more start (inl a) = inl a
 first_more ident timeline rest floor log more start (inr a) = inr (a.0, whole_more ident timeline rest floor start log more a.1)
 
--- what stands behind the start
+-- what stands after the start
 pub drop_more : (ident : Ident) (timeline : ℕ → ℕ) (rest floor : ℕ) (log more : List ℕ) (start : ℕ) → IsPage floor
     → IsFirst ident timeline rest floor log start → drop (start - floor) (log ++ more) ≡ drop (start - floor) log ++ more
 drop_more ident timeline rest floor log more start on_page first =
@@ -70,7 +70,7 @@ bad_record_more ident timeline rest floor log more start end last at reason on_p
   first = first_more ident timeline rest floor log more start bad.first;
   prev = bad.prev;
   before = bad.before;
-  fault = subst (λ (t : List ℕ). IsFaultBehind ident timeline start bad.prev t end last at reason)
+  fault = subst (λ (t : List ℕ). IsFaultPast ident timeline start bad.prev t end last at reason)
       (sym (drop_more ident timeline rest floor log more start on_page bad.first))
       (fault_more ident timeline start bad.prev (drop (start - floor) log) more end last at reason bad.fault);
   unlike = bad.unlike;

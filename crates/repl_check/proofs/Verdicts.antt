@@ -7,7 +7,7 @@ use Rattle.repl_record.specs.declared.answer.WalkReason.{WalkReason}
 use Rattle.repl_check.specs.declared.flaw.Flaw.{Flaw}
 use Rattle.repl_check.specs.declared.flaw.Flaw.TheVariants as flaw
 use Rattle.repl_check.specs.Fits.{Fits, HasBadRecord, HasBadRest, HasRecords, IsOrigin, IsStoredRight, rest_of}
-use Rattle.repl_check.specs.Flaws.{BreaksOff, HasEnd, IsFlaw, IsFlawBehind, StartsElsewhere}
+use Rattle.repl_check.specs.Flaws.{BreaksOff, HasEnd, IsFlaw, IsFlawPast, StartsElsewhere}
 use Rattle.repl_walk.proofs.RestAnswers.{fault_not_begun}
 use Rattle.repl_check.proofs.RestFaults.{one_rest_fault}
 use Rattle.repl_check.proofs.Single.{one_bad, one_records_end, records_not_bad}
@@ -61,7 +61,7 @@ module _ (ident : Ident) (timeline : ℕ → ℕ) (rest floor : ℕ) (log : List
   -- ---- no flaw
 
   no_flaw : (start whole last stored : ℕ) (f : Flaw) → Records start whole last → IsStoredRight ident floor start whole last stored
-      → IsFlawBehind ident timeline rest floor log whole stored f → ⊥
+      → IsFlawPast ident timeline rest floor log whole stored f → ⊥
   no_flaw start whole last stored flaw.Whole records right (inl unbegun) = first_begun ident timeline rest floor log start records.first unbegun
   no_flaw start whole last stored flaw.Whole records right (inr (inl e)) =
       e.elsewhere (sym (one_end start whole last e.start e.end e.last records e.records).1)
@@ -87,7 +87,7 @@ module _ (ident : Ident) (timeline : ℕ → ℕ) (rest floor : ℕ) (log : List
   end_of start whole last (inl records) at reason bad = first_not_bad ident timeline rest floor log start at reason size_is records.first bad
   end_of start whole last (inr found) at reason bad = first_not_bad ident timeline rest floor log start at reason size_is found.2.first bad
 
-  whole_not_last : (whole stored : ℕ) → IsFlawBehind ident timeline rest floor log whole stored flaw.Whole
+  whole_not_last : (whole stored : ℕ) → IsFlawPast ident timeline rest floor log whole stored flaw.Whole
       → (start last : ℕ) → HasEnd ident timeline rest floor log start whole last → ⊥
   whole_not_last whole stored (inl unbegun) start last (inl records) = first_begun ident timeline rest floor log start records.first unbegun
   whole_not_last whole stored (inl unbegun) start last (inr found) = first_begun ident timeline rest floor log start found.2.first unbegun
@@ -104,8 +104,8 @@ module _ (ident : Ident) (timeline : ℕ → ℕ) (rest floor : ℕ) (log : List
         (one_break e.start e.end e.last e.at start whole last found.0 e.reason found.1 e.bad found.2).1,
       ))
 
-  whole_not_bad : (whole stored at : ℕ) (reason : WalkReason) → IsFlawBehind ident timeline rest floor log whole stored flaw.Whole
-      → IsFlawBehind ident timeline rest floor log whole stored (flaw.Bad at reason) → ⊥
+  whole_not_bad : (whole stored at : ℕ) (reason : WalkReason) → IsFlawPast ident timeline rest floor log whole stored flaw.Whole
+      → IsFlawPast ident timeline rest floor log whole stored (flaw.Bad at reason) → ⊥
   whole_not_bad whole stored at reason (inl unbegun) (inl bad) =
       fault_not_begun ident timeline rest floor log at reason size_is bad.1 unbegun.1
   whole_not_bad whole stored at reason (inl unbegun) (inr b) = first_begun ident timeline rest floor log b.start b.bad.first unbegun
@@ -134,7 +134,7 @@ module _ (ident : Ident) (timeline : ℕ → ℕ) (rest floor : ℕ) (log : List
       one.1 one.2) right)
 
   last_not_bad : (whole stored at : ℕ) (reason : WalkReason) → StartsElsewhere ident timeline rest floor log whole stored
-      → IsFlawBehind ident timeline rest floor log whole stored (flaw.Bad at reason) → ⊥
+      → IsFlawPast ident timeline rest floor log whole stored (flaw.Bad at reason) → ⊥
   last_not_bad whole stored at reason l (inl bad) = end_of l.start whole l.last l.ends at reason bad
   last_not_bad whole stored at reason l (inr b) = last_not_break whole stored l.start l.last at reason l.ends l.wrong b
 
@@ -142,8 +142,8 @@ module _ (ident : Ident) (timeline : ℕ → ℕ) (rest floor : ℕ) (log : List
   bad_is {at = at} {cause = cause} same alike = ap (flaw.Bad at) alike ∙ ap (λ (p : ℕ). flaw.Bad p cause) same
 
   one_bad_flaw : (whole stored at place : ℕ) (reason cause : WalkReason)
-      → IsFlawBehind ident timeline rest floor log whole stored (flaw.Bad at reason)
-      → IsFlawBehind ident timeline rest floor log whole stored (flaw.Bad place cause) → flaw.Bad at reason ≡ flaw.Bad place cause
+      → IsFlawPast ident timeline rest floor log whole stored (flaw.Bad at reason)
+      → IsFlawPast ident timeline rest floor log whole stored (flaw.Bad place cause) → flaw.Bad at reason ≡ flaw.Bad place cause
   one_bad_flaw whole stored at place reason cause (inl a) (inl b) =
       let one = one_rest_fault ident timeline rest floor at place log reason cause size_is a.1 b.1 in bad_is one.0 one.1
   one_bad_flaw whole stored at place reason cause (inl a) (inr b) =
@@ -153,22 +153,22 @@ module _ (ident : Ident) (timeline : ℕ → ℕ) (rest floor : ℕ) (log : List
   one_bad_flaw whole stored at place reason cause (inr a) (inr b) =
       let one = one_break a.start a.end a.last at b.start b.end b.last place reason cause a.bad b.bad in bad_is one.3 one.4
 
-  one_flaw_behind : (whole stored : ℕ) (f g : Flaw) → IsFlawBehind ident timeline rest floor log whole stored f
-      → IsFlawBehind ident timeline rest floor log whole stored g → f ≡ g
-  one_flaw_behind whole stored flaw.Whole flaw.Whole a b = refl
-  one_flaw_behind whole stored flaw.Whole flaw.Last a b = absurd (whole_not_last whole stored a b.start b.last b.ends)
-  one_flaw_behind whole stored flaw.Whole (flaw.Bad at reason) a b = absurd (whole_not_bad whole stored at reason a b)
-  one_flaw_behind whole stored flaw.Last flaw.Whole a b = absurd (whole_not_last whole stored b a.start a.last a.ends)
-  one_flaw_behind whole stored flaw.Last flaw.Last a b = refl
-  one_flaw_behind whole stored flaw.Last (flaw.Bad at reason) a b = absurd (last_not_bad whole stored at reason a b)
-  one_flaw_behind whole stored (flaw.Bad at reason) flaw.Whole a b = absurd (whole_not_bad whole stored at reason b a)
-  one_flaw_behind whole stored (flaw.Bad at reason) flaw.Last a b = absurd (last_not_bad whole stored at reason b a)
-  one_flaw_behind whole stored (flaw.Bad at reason) (flaw.Bad place cause) a b = one_bad_flaw whole stored at place reason cause a b
+  one_flaw_past : (whole stored : ℕ) (f g : Flaw) → IsFlawPast ident timeline rest floor log whole stored f
+      → IsFlawPast ident timeline rest floor log whole stored g → f ≡ g
+  one_flaw_past whole stored flaw.Whole flaw.Whole a b = refl
+  one_flaw_past whole stored flaw.Whole flaw.Last a b = absurd (whole_not_last whole stored a b.start b.last b.ends)
+  one_flaw_past whole stored flaw.Whole (flaw.Bad at reason) a b = absurd (whole_not_bad whole stored at reason a b)
+  one_flaw_past whole stored flaw.Last flaw.Whole a b = absurd (whole_not_last whole stored b a.start a.last a.ends)
+  one_flaw_past whole stored flaw.Last flaw.Last a b = refl
+  one_flaw_past whole stored flaw.Last (flaw.Bad at reason) a b = absurd (last_not_bad whole stored at reason a b)
+  one_flaw_past whole stored (flaw.Bad at reason) flaw.Whole a b = absurd (whole_not_bad whole stored at reason b a)
+  one_flaw_past whole stored (flaw.Bad at reason) flaw.Last a b = absurd (last_not_bad whole stored at reason b a)
+  one_flaw_past whole stored (flaw.Bad at reason) (flaw.Bad place cause) a b = one_bad_flaw whole stored at place reason cause a b
 
 pub same_flaw : (ident : Ident) (timeline : ℕ → ℕ) (floor : ℕ) (log : List ℕ) (whole stored : ℕ) (f g : Flaw) → IsSegSize ident.size
     → IsPage floor → IsFlaw ident timeline floor log whole stored f → IsFlaw ident timeline floor log whole stored g → f ≡ g
 same_flaw ident timeline floor log whole stored f g size_is on_page a b =
-    one_flaw_behind ident timeline (rest_of ident floor log) floor log size_is on_page whole stored f g a b
+    one_flaw_past ident timeline (rest_of ident floor log) floor log size_is on_page whole stored f g a b
 
 pub fits_no_flaw : (ident : Ident) (timeline : ℕ → ℕ) (floor : ℕ) (log : List ℕ) (whole stored : ℕ) (f : Flaw) → IsSegSize ident.size
     → IsPage floor → Fits ident timeline floor log whole stored → IsFlaw ident timeline floor log whole stored f → ⊥

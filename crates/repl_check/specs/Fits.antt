@@ -10,7 +10,7 @@ use Rattle.repl_record.specs.declared.answer.WalkReason.{WalkReason}
 use Rattle.repl_record.specs.declared.answer.WalkReason.TheVariants as why
 use Rattle.repl_record.specs.Log.{IsPrefixOfRecords, IsWholeEnd}
 use Rattle.repl_walk.specs.declared.rest.TheConstants.{REST_LIMIT}
-use Rattle.repl_walk.specs.Faults.{IsFaultBehind}
+use Rattle.repl_walk.specs.Faults.{IsFaultPast}
 use Rattle.repl_walk.specs.Rest.{IsRestBegun, IsRestFault, IsRestWhole}
 
 -- ---- where records begin
@@ -25,7 +25,7 @@ abbrev pub rest_of : Ident → ℕ → List ℕ → ℕ
 rest_of ident floor log = if floor == ident.size then 0 else (if nat_lt (length log) (header_length ident.size floor) then 0 else min
     (field 16 4 log) REST_LIMIT)
 
--- Behind so many bytes of an earlier record the image of the first record begins here.
+-- After so many bytes of an earlier record the image of the first record begins here.
 abbrev pub IsFirst : Ident → (ℕ → ℕ) → ℕ → ℕ → List ℕ → ℕ → Type 0
 IsFirst ident timeline rest floor log start = ((rest ≡ 0) × (start ≡ floor)) ⊎ ((0 < rest) × IsRestWhole ident timeline rest floor log start)
 
@@ -35,7 +35,7 @@ IsBefore ident floor prev = IsOrigin ident floor → prev ≡ 0
 
 -- ---- what stands in the log
 
--- Behind the rest the log is records, and then the beginning of one: the first record's image begins at `start`, and the
+-- After the rest the log is records, and then the beginning of one: the first record's image begins at `start`, and the
 -- last whole record ends at `end` and starts at `last`. Without a whole record both ends are one.
 pub record HasRecords (ident : Ident) (timeline : ℕ → ℕ) (rest floor : ℕ) (log : List ℕ) (start end last : ℕ) : Type 0 where
   pub first : IsFirst ident timeline rest floor log start
@@ -44,14 +44,14 @@ pub record HasRecords (ident : Ident) (timeline : ℕ → ℕ) (rest floor : ℕ
   pub records : IsPrefixOfRecords ident timeline start prev (drop (start - floor) log)
   pub whole : IsWholeEnd ident timeline start prev (drop (start - floor) log) end last
 
--- Behind the rest the log is records up to `end`, and what stands behind them is none. Where the first record says that the
+-- After the rest the log is records up to `end`, and what stands after them is none. Where the first record says that the
 -- one before it starts is no fault above the origin.
 pub record HasBadRecord (ident : Ident) (timeline : ℕ → ℕ) (rest floor : ℕ) (log : List ℕ) (start end last at : ℕ) (reason : WalkReason)
     : Type 0 where
   pub first : IsFirst ident timeline rest floor log start
   pub prev : ℕ
   pub before : IsBefore ident floor prev
-  pub fault : IsFaultBehind ident timeline start prev (drop (start - floor) log) end last at reason
+  pub fault : IsFaultPast ident timeline start prev (drop (start - floor) log) end last at reason
   pub unlike : ¬ IsOrigin ident floor → end ≡ start → (found expected : ℕ) → reason ≢ why.Prev found expected
 
 -- no record begins in the log, and nothing is wrong

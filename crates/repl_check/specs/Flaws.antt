@@ -28,7 +28,7 @@ pub record EndsLater (ident : Ident) (timeline : ℕ → ℕ) (rest floor : ℕ)
 
 -- ---- the last whole record ends there, and starts elsewhere
 
--- the last whole record ends at `end`, whatever stands behind it
+-- the last whole record ends at `end`, whatever stands after it
 abbrev pub HasEnd : Ident → (ℕ → ℕ) → ℕ → ℕ → List ℕ → ℕ → ℕ → ℕ → Type 0
 HasEnd ident timeline rest floor log start end last = HasRecords ident timeline rest floor log start end last
     ⊎ ((at : ℕ) × (reason : WalkReason) × HasBadRecord ident timeline rest floor log start end last at reason)
@@ -41,7 +41,7 @@ pub record StartsElsewhere (ident : Ident) (timeline : ℕ → ℕ) (rest floor 
 
 -- ---- bytes that are no record
 
--- what stands behind the records is none, and they end before that position, or there and as is said
+-- what stands after the records is none, and they end before that position, or there and as is said
 pub record BreaksOff (ident : Ident) (timeline : ℕ → ℕ) (rest floor : ℕ) (log : List ℕ) (whole stored at : ℕ) (reason : WalkReason)
     : Type 0 where
   pub start : ℕ
@@ -53,15 +53,15 @@ pub record BreaksOff (ident : Ident) (timeline : ℕ → ℕ) (rest floor : ℕ)
 
 -- ---- the flaw
 
--- behind so many bytes of an earlier record
-abbrev pub IsFlawBehind : Ident → (ℕ → ℕ) → ℕ → ℕ → List ℕ → ℕ → ℕ → Flaw → Type 0
-IsFlawBehind ident timeline rest floor log whole stored flaw.Whole = IsUnbegun ident timeline rest floor log
+-- after so many bytes of an earlier record
+abbrev pub IsFlawPast : Ident → (ℕ → ℕ) → ℕ → ℕ → List ℕ → ℕ → ℕ → Flaw → Type 0
+IsFlawPast ident timeline rest floor log whole stored flaw.Whole = IsUnbegun ident timeline rest floor log
     ⊎ EndsElsewhere ident timeline rest floor log whole
     ⊎ EndsLater ident timeline rest floor log whole
-IsFlawBehind ident timeline rest floor log whole stored flaw.Last = StartsElsewhere ident timeline rest floor log whole stored
-IsFlawBehind ident timeline rest floor log whole stored (flaw.Bad at reason) = HasBadRest ident timeline rest floor log at reason
+IsFlawPast ident timeline rest floor log whole stored flaw.Last = StartsElsewhere ident timeline rest floor log whole stored
+IsFlawPast ident timeline rest floor log whole stored (flaw.Bad at reason) = HasBadRest ident timeline rest floor log at reason
     ⊎ BreaksOff ident timeline rest floor log whole stored at reason
 
 -- the log has this flaw, where the store says that the last whole record ends at `whole` and starts at `stored`
 abbrev pub IsFlaw : Ident → (ℕ → ℕ) → ℕ → List ℕ → ℕ → ℕ → Flaw → Type 0
-IsFlaw ident timeline floor log whole stored flaw = IsFlawBehind ident timeline (rest_of ident floor log) floor log whole stored flaw
+IsFlaw ident timeline floor log whole stored flaw = IsFlawPast ident timeline (rest_of ident floor log) floor log whole stored flaw

@@ -32,7 +32,7 @@ pub record InRecords (ident : Ident) (timeline : ℕ → ℕ) (rest floor : ℕ)
   pub before : IsBefore ident floor prev
   pub walked : HasWalked w timeline start prev (drop (start - floor) log)
 
--- the walker went through more records, behind some record
+-- the walker went through more records, after some record
 pub record HasWalkedOn (ident : Ident) (timeline : ℕ → ℕ) (floor start : ℕ) (log : List ℕ) (w : Walker) : Type 0 where
   pub prev : ℕ
   pub before : IsBefore ident floor prev
@@ -46,7 +46,7 @@ pub record HasStopped (ident : Ident) (timeline : ℕ → ℕ) (floor start : �
     pub refused : HasRefused w timeline start prev log at reason
     pub unlike : ¬ IsOrigin ident floor → last_end w ≡ start → (found expected : ℕ) → reason ≢ why.Prev found expected
 
--- what each stage says of the bytes, behind so many of an earlier record
+-- what each stage says of the bytes, after so many of an earlier record
 abbrev pub IsAtStage : Ident → (ℕ → ℕ) → ℕ → ℕ → List ℕ → Stage → Type 0
 IsAtStage ident timeline rest floor log (stage.InRest r) = InRest ident timeline rest floor log r
 IsAtStage ident timeline rest floor log (stage.BadRest fault) = HasBadRest ident timeline rest floor log fault.at fault.why
@@ -80,7 +80,7 @@ pub record HasJudged (check : LogCheck) (timeline : ℕ → ℕ) (floor : ℕ) (
   pub size : IsSegSize check.ident.size
   pub on_page : IsPage floor
   pub begins : check.floor ≡ floor
-  pub behind : check.at ≡ floor + length log
+  pub past : check.at ≡ floor + length log
   pub at_stage : IsAtStage check.ident timeline (rest_of check.ident floor log) floor log check.stage
 
 -- it has taken some log, whose pages are on these timelines

@@ -20,7 +20,7 @@ pub enum CheckFault {
     Whole,
     /// There it ends, and starts elsewhere than the store says.
     Last,
-    /// Behind the last whole record, or where the log begins, stands what is no record.
+    /// After the last whole record, or where the log begins, stands what is no record.
     Bad {
         /// Where the record begins, or, for a page's header, the page's address.
         at: Lsn,

@@ -28,13 +28,13 @@ pub(crate) enum Stage {
     InRest(Rest),
     /// The log does not begin with the rest of a record.
     BadRest(WalkFault),
-    /// All behind the rest are records.
+    /// All after the rest are records.
     InRecords {
         /// Where the image of the first begins.
         start: Lsn,
         walker: Walker,
     },
-    /// What stands behind the records is none.
+    /// What stands after the records is none.
     BadRecord {
         start: Lsn,
         /// Where the last of them ends.

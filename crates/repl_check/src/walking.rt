@@ -11,7 +11,7 @@ use crate::log_check::{LogCheck, Stage};
 use repl_lsn::{Lsn, Tli};
 use repl_page::PAGE_SIZE;
 use repl_record::Walker;
-use repl_walk::{Rest, RestStep, WalkFault, walk, walk_behind_any};
+use repl_walk::{Rest, RestStep, WalkFault, walk, walk_past_any};
 
 impl LogCheck {
     /// Goes through the bytes from this stage on.
@@ -90,7 +90,7 @@ impl LogCheck {
         if self.is_at_origin() {
             walk(walker, tli, bytes)
         } else {
-            walk_behind_any(walker, start, tli, bytes)
+            walk_past_any(walker, start, tli, bytes)
         }
     }
 }

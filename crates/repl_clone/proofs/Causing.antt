@@ -1,4 +1,4 @@
--- Causes of answers behind calls that were done.
+-- Causes of answers after calls that were done.
 use Rattle.std.proofs.Common.{◌≡◌, ◌≢◌, ◌⊎◌, ◌<◌, ◌-◌, ◌^◌, ℕ, min, List, length, Bool, true, false, Option, Some, None, IsSome, is_some, Result, Ok, Err, OnOk, IfErr, refl, sym, ◌∙◌, ap, subst, inl, inr, ⊎_elim, arith}
 use Rattle.repl_clone.specs.Causes.{IsDiskFailure, IsFailure, IsOfDisk, IsSourceFailure, IsUncopied, IsUnheard, fault_of, of_history}
 use Rattle.repl_clone.specs.declared.fault.CopyFault.{CopyFault}

@@ -99,7 +99,7 @@ module _ (head : Head) (is : IsHead head) where
       (λ folder. (s : State) → Backs source head s → LeavesOnly old new (IsCopying old.may_leave head.size s.durable)) (λ folder told s backs.
       told_so old.files folder (λ f. LeavesOnly old new (IsCopying old.may_leave head.size s.durable)) told (log_moments old new s.durable changes))
 
-  -- ---- the control behind it
+  -- ---- the control after it
 
   module _ (s : State) (of_control : s.durable.control ≡ head.control) (of_path : s.durable.path ≡ head.path)
       (counted : head.control.floor + length s.durable.bytes ≡ head.control.flushed) (folder : Folder)
@@ -260,7 +260,7 @@ module _ (head : Head) (is : IsHead head) where
         → HasLog head.size head.path head.control.floor s head.control.flushed image) a.told logged) new any_moment
         (told_so old.files folder (λ f. LeavesOnly old ready (IsCopying old.may_leave head.size s.durable)) told so_far))
 
--- ---- behind a look whether the control is there
+-- ---- after a look whether the control is there
 
 -- a call that only reads
 pub asked : (old new : DiskState) (size : ℕ) (d : Durable) → ((image : Folder) → old.left_since old.moment image → old.may_leave image)
@@ -282,34 +282,34 @@ told_before (Some f) b now same told = (f, refl)
 
 module _ (source : DiskState) (head : Head) (old mid new : DiskState) (stayed : Stayed old.files mid.files)
     (none_new : NoneNew old.may_leave mid.may_leave) where
-  -- the clauses of the call behind the look
+  -- the clauses of the call after the look
   abbrev pub Copied : Result (Unit {0}) CopyFault → Type 0
   Copied result = (s : State) → Backs source head s → OnOk result (IfTold mid.files (λ folder. (image : Folder) → new.may_leave image
       → IsCopyOf mid.may_leave head.size s.durable image))
 
-  pub moments_behind : ((image : Folder) → old.left_since old.moment image → old.may_leave image) → Elapses old mid
+  pub moments_past : ((image : Folder) → old.left_since old.moment image → old.may_leave image) → Elapses old mid
       → IfTold mid.files (λ folder. (s : State) → Backs source head s → LeavesOnly mid new (IsCopying mid.may_leave head.size s.durable))
       → IfTold old.files (λ folder. (s : State) → Backs source head s → LeavesOnly old new (IsCopying old.may_leave head.size s.durable))
-  moments_behind only_now time behind = where_told old.files
+  moments_past only_now time past = where_told old.files
       (λ folder. (s : State) → Backs source head s → LeavesOnly old new (IsCopying old.may_leave head.size s.durable)) (λ folder told s backs.
       let later = told_so mid.files folder (λ f. (s : State) → Backs source head s
-      → LeavesOnly mid new (IsCopying mid.may_leave head.size s.durable)) (stayed ∙ told) behind s backs in
+      → LeavesOnly mid new (IsCopying mid.may_leave head.size s.durable)) (stayed ∙ told) past s backs in
       joined old mid new (IsCopying old.may_leave head.size s.durable) (asked old mid head.size s.durable only_now none_new time)
       (weakened mid new (IsCopying mid.may_leave head.size s.durable) (IsCopying old.may_leave head.size s.durable) later (λ image either.
       ⊎_elim (λ (b : (before : Folder) × mid.may_leave before × (image control_name ≡ before control_name)).
       inl (b.0, none_new b.0 b.1, b.2)) (λ (copy : IsCopy head.size s.durable image). inr copy) either)))
 
-  pub done_behind : (result : Result (Unit {0}) CopyFault) → IfTold old.files (λ folder. folder control_name ≡ None) → Copied result
+  pub done_past : (result : Result (Unit {0}) CopyFault) → IfTold old.files (λ folder. folder control_name ≡ None) → Copied result
       → OnOk result (IfTold old.files (λ folder. (folder control_name ≡ None) × ((s : State) → Backs source head s → (image : Folder)
       → new.may_leave image → IsCopy head.size s.durable image)))
-  done_behind (Ok x) free copies = where_told old.files (λ folder. (folder control_name ≡ None) × ((s : State) → Backs source head s
+  done_past (Ok x) free copies = where_told old.files (λ folder. (folder control_name ≡ None) × ((s : State) → Backs source head s
       → (image : Folder) → new.may_leave image → IsCopy head.size s.durable image)) (λ folder told. (
         told_so old.files folder (λ f. f control_name ≡ None) told free,
         λ s backs image left. is_copy mid.may_leave head.size s.durable image (told_so mid.files folder
             (λ f. (image : Folder) → new.may_leave image → IsCopyOf mid.may_leave head.size s.durable image) (stayed ∙ told) (copies s backs)
             image left),
       ))
-  done_behind (Err e) free copies = tt
+  done_past (Err e) free copies = tt
 
   module _ (tells : is_some new.files ≡ is_some mid.files) (reads : IfTold new.files (λ folder. new.may_leave folder)) where
     of_image : (s : State) → IfTold mid.files (λ folder. (image : Folder) → new.may_leave image
@@ -320,22 +320,22 @@ module _ (source : DiskState) (head : Head) (old mid new : DiskState) (stayed : 
         told_so mid.files before.0 (λ f. (image : Folder) → new.may_leave image → IsCopyOf mid.may_leave head.size s.durable image) before.1
         copies image left
 
-    pub reads_behind : (result : Result (Unit {0}) CopyFault) → Copied result
+    pub reads_past : (result : Result (Unit {0}) CopyFault) → Copied result
         → OnOk result (IfTold new.files (λ folder. (s : State) → Backs source head s → IsCopy head.size s.durable folder))
-    reads_behind (Ok x) copies = where_told new.files (λ folder. (s : State) → Backs source head s → IsCopy head.size s.durable folder)
+    reads_past (Ok x) copies = where_told new.files (λ folder. (s : State) → Backs source head s → IsCopy head.size s.durable folder)
         (λ now told s backs. is_copy mid.may_leave head.size s.durable now (of_image s (copies s backs) now told now
         (told_so new.files now (λ folder. new.may_leave folder) told reads)))
-    reads_behind (Err e) copies = tt
+    reads_past (Err e) copies = tt
 
-    pub known_behind : (result : Result (Unit {0}) CopyFault) (s : State) (known : ℕ) → Backs source head s
+    pub known_past : (result : Result (Unit {0}) CopyFault) (s : State) (known : ℕ) → Backs source head s
         → ((image : Folder) → old.may_leave image → IsKnown image head.control.tli known) → Copied result
         → OnOk result (IfTold new.files (λ folder. StandsFor head.size folder (copied s.durable known)
         × ((image : Folder) → new.may_leave image → StandsFor head.size image (copied s.durable known))))
-    known_behind (Ok x) s known backs heard copies = where_told new.files (λ folder. StandsFor head.size folder (copied s.durable known)
+    known_past (Ok x) s known backs heard copies = where_told new.files (λ folder. StandsFor head.size folder (copied s.durable known)
         × ((image : Folder) → new.may_leave image → StandsFor head.size image (copied s.durable known))) (λ now told.
         let each : (image : Folder) → new.may_leave image → StandsFor head.size image (copied s.durable known) = λ image left.
         let copy = of_image s (copies s backs) now told image left in
         copy.stands known (subst (λ (c : Control). IsKnown copy.before c.tli known) (sym backs.control)
         (heard copy.before (none_new copy.before copy.was))) in
         (each now (told_so new.files now (λ folder. new.may_leave folder) told reads), each))
-    known_behind (Err e) s known backs heard copies = tt
+    known_past (Err e) s known backs heard copies = tt

@@ -14,7 +14,7 @@ use Rattle.repl_disk.specs.Steps.{put_at}
 use Rattle.repl_lsn.specs.History.{Path}
 use Rattle.repl_store.specs.Backing.{State, log}
 use Rattle.repl_store.specs.Durable.{Carries, file_at, segment_file}
-use Rattle.repl_store.proofs.Names.{HasNames, earlier_place, fits_at, place_behind, same_file, same_segment_behind}
+use Rattle.repl_store.proofs.Names.{HasNames, earlier_place, fits_at, place_past, same_file, same_segment_past}
 
 -- ---- one file
 
@@ -218,8 +218,8 @@ module _ (size : ℕ) (path : Path) (floor start to : ℕ) (s : State) (named : 
       let name = segment_file size path (start / size) in
       let place : floor + i ≡ start + j = omega (arith, ge, from) in
       let room : start % size + j < size = omega (arith, ge, lt, from, inside, whole) in
-      let segment : (floor + i) / size ≡ start / size = ap (λ x. x / size) place ∙ same_segment_behind size start j some room in
-      let offset : (floor + i) % size ≡ j = ap (λ x. x % size) place ∙ place_behind size start j some room ∙ ap (λ x. x + j) whole ∙ omega arith in
+      let segment : (floor + i) / size ≡ start / size = ap (λ x. x / size) place ∙ same_segment_past size start j some room in
+      let offset : (floor + i) % size ≡ j = ap (λ x. x % size) place ∙ place_past size start j some room ∙ ap (λ x. x + j) whole ∙ omega arith in
       let file : file_at size image path (floor + i) ≡ content (image name) = ap (λ x. content (image (segment_file size path x))) segment in
       let c = content (image name) in
       let k = length (log_part floor s start to) in

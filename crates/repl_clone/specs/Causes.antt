@@ -30,7 +30,7 @@ pub record IsOfSource {A : Type 0} (result : Result A CopyFault) (old new : Disk
   pub failed : result ≡ Err fault.SourceFault → (broken ≡ true) ⊎ Rose old.faults new.faults ⊎ Rose old.lacks new.lacks
   pub others : result ≢ Err fault.SourceFault → Stood old.faults new.faults
 
--- The source is broken behind a failure of its own, and stays so.
+-- The source is broken after a failure of its own, and stays so.
 abbrev pub BreaksSource : {A : Type 0} → Result A CopyFault → Bool → Bool → Type 0
 BreaksSource result old new = (new ≡ true) ↔ ((old ≡ true) ⊎ (result ≡ Err fault.SourceFault))
 

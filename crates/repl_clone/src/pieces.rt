@@ -13,7 +13,7 @@ use repl_store::Store;
 use std::alloc::Global;
 
 /// Writes the log between two positions into the front of the file, piece by piece, which the room takes. What stands there
-/// behind it, as an earlier copy may have left it, means nothing.
+/// after it, as an earlier copy may have left it, means nothing.
 pub(crate) fn copy_pieces<D: Disk, E: Disk>(
     alloc: Global,
     disk: &mut D,

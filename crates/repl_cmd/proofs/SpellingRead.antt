@@ -61,7 +61,7 @@ slot_read name is =
     (keyword_means (codes "READ_REPLICATION_SLOT") (codes "read_replication_slot") refl, (slot_means name is, tt))
     (λ said f. inl f)
 
--- ---- words that may stand behind
+-- ---- words that may stand after
 
 drop_means : (name : List ℕ) (wait : Bool) → IsSlotName name
     → Means (Keyword (codes "drop_replication_slot") ∷ Slot name ∷ wait_part wait)
@@ -113,15 +113,15 @@ create_means name temporary reserve is =
     let physical = keyword_means (codes "PHYSICAL") (codes "physical") refl in
     (create, (slot, go temporary reserve physical))
   where
-    behind : (reserve : Bool) → Means (reserve_part reserve) (pieces_if reserve (codes "RESERVE_WAL"))
-    behind true = (keyword_means (codes "RESERVE_WAL") (codes "reserve_wal") refl, tt)
-    behind false = tt
+    past : (reserve : Bool) → Means (reserve_part reserve) (pieces_if reserve (codes "RESERVE_WAL"))
+    past true = (keyword_means (codes "RESERVE_WAL") (codes "reserve_wal") refl, tt)
+    past false = tt
 
     go : (temporary reserve : Bool) → MeansOne (Keyword (codes "physical")) (word_piece (codes "PHYSICAL"))
         → Means ((temporary_part temporary ++ Keyword (codes "physical") ∷ []) ++ reserve_part reserve)
         ((pieces_if temporary (codes "TEMPORARY") ++ word_piece (codes "PHYSICAL") ∷ []) ++ pieces_if reserve (codes "RESERVE_WAL"))
-    go true reserve physical = (keyword_means (codes "TEMPORARY") (codes "temporary") refl, (physical, behind reserve))
-    go false reserve physical = (physical, behind reserve)
+    go true reserve physical = (keyword_means (codes "TEMPORARY") (codes "temporary") refl, (physical, past reserve))
+    go false reserve physical = (physical, past reserve)
 
 create_form : (name : List ℕ) (temporary reserve : Bool) (said : List Lexeme)
     → Follow (create_physical name temporary ++ reserve_part reserve) said → OneOf (forms (command.CreateSlot name temporary reserve)) said
@@ -152,9 +152,9 @@ start_means : (slot : Option (List ℕ)) (at : ℕ) (timeline : Option ℕ) → 
 start_means slot at timeline name small number =
     (keyword_means (codes "START_REPLICATION") (codes "start_replication") refl, go slot name)
   where
-    behind : (timeline : Option ℕ) → IsTimeline timeline → Means (timeline_part timeline) (timeline_pieces timeline)
-    behind None number = tt
-    behind (Some n) number = (
+    past : (timeline : Option ℕ) → IsTimeline timeline → Means (timeline_part timeline) (timeline_pieces timeline)
+    past None number = tt
+    past (Some n) number = (
       keyword_means (codes "TIMELINE") (codes "timeline") refl,
       (number_means 1 n (omega (arith, number.0)) number.1, tt),
     )
@@ -162,14 +162,14 @@ start_means slot at timeline name small number =
     go : (slot : Option (List ℕ)) → IsSlotOf slot
         → Means ((slot_part slot ++ Keyword (codes "physical") ∷ []) ++ Position at ∷ timeline_part timeline)
         (start_pieces slot at timeline)
-    go None name = (keyword_means (codes "PHYSICAL") (codes "physical") refl, (position_means at small, behind timeline number))
+    go None name = (keyword_means (codes "PHYSICAL") (codes "physical") refl, (position_means at small, past timeline number))
     go (Some bytes) name = (
       keyword_means (codes "SLOT") (codes "slot") refl,
       (
         slot_means bytes name,
         (
           keyword_means (codes "PHYSICAL") (codes "physical") refl,
-          (position_means at small, behind timeline number),
+          (position_means at small, past timeline number),
         ),
       ),
     )

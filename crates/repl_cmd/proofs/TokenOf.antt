@@ -31,13 +31,13 @@ token_of k text place = record { kind = k; place = place; text = text }
 
 -- these bytes spell a token of this kind with this text
 abbrev pub IsToken : Kind → List ℕ → List ℕ → List ℕ → Type 0
-IsToken k text spelled behind = IsTokenAs command_class command_token (token_of k text) spelled behind
+IsToken k text spelled past = IsTokenAs command_class command_token (token_of k text) spelled past
 
-read_next : (at : ℕ) (blanks spelled behind : List ℕ) (k : Kind) (text : List ℕ) (tokens : List Lexeme)
+read_next : (at : ℕ) (blanks spelled past : List ℕ) (k : Kind) (text : List ℕ) (tokens : List Lexeme)
     → All (λ c. is_blank (command_class c) ≡ true) blanks
-    → IsToken k text spelled behind → Reads (at + length blanks + length spelled) behind tokens
-    → Reads at (blanks ++ spelled ++ behind) (token_of k text (at + length blanks) ∷ tokens)
-read_next at blanks spelled behind k text tokens blank is reads = written.read_next command_class command_token at blanks spelled behind
+    → IsToken k text spelled past → Reads (at + length blanks + length spelled) past tokens
+    → Reads at (blanks ++ spelled ++ past) (token_of k text (at + length blanks) ∷ tokens)
+read_next at blanks spelled past k text tokens blank is reads = written.read_next command_class command_token at blanks spelled past
     (token_of k text) tokens blank is reads
 
 no_blank : All (λ c. is_blank (command_class c) ≡ true) []
@@ -57,16 +57,16 @@ run_is_inside : (run : List ℕ) → All (λ c. is_run_byte c ≡ true) run → 
 run_is_inside run h = All-weaker (λ c. is_run_byte c ≡ true) (λ c. is_inside (command_class c) ≡ true)
     (λ c e. ap is_inside (run_class c e)) run h
 
--- a run, of which there is some, and no more behind it
-run_token : (k : Kind) (run behind : List ℕ) → 0 < length run → All (λ c. is_run_byte c ≡ true) run
-    → EndsBefore (λ c. is_inside (command_class c)) behind
-    → run_kind run ≡ k → IsToken k run run behind
-run_token k run behind some bytes ends is = record {
+-- a run, of which there is some, and no more after it
+run_token : (k : Kind) (run past : List ℕ) → 0 < length run → All (λ c. is_run_byte c ≡ true) run
+    → EndsBefore (λ c. is_inside (command_class c)) past
+    → run_kind run ≡ k → IsToken k run run past
+run_token k run past some bytes ends is = record {
   kind = raw.Word;
   text = run;
   is = (
     refl,
-    run_of command_class class.Letter is_inside run behind some (run_class (get_or run 0 0) (bytes 0 0 some))
+    run_of command_class class.Letter is_inside run past some (run_class (get_or run 0 0) (bytes 0 0 some))
         (run_is_inside run bytes) ends,
   );
   means = λ place. ap (λ l. token_of l run place) is;
@@ -82,44 +82,44 @@ no_slash : (c : ℕ) → is_word_byte c ≡ true → (c == 47) ≡ false
 no_slash c e = grind (arith, nat_tests)
 
 -- bytes of words, of which there are some
-pub word_token : (word behind : List ℕ) → 0 < length word → All (λ c. is_word_byte c ≡ true) word
-    → EndsBefore (λ c. is_inside (command_class c)) behind
-    → IsToken kind.Word word word behind
-word_token word behind some bytes ends =
+pub word_token : (word past : List ℕ) → 0 < length word → All (λ c. is_word_byte c ≡ true) word
+    → EndsBefore (λ c. is_inside (command_class c)) past
+    → IsToken kind.Word word word past
+word_token word past some bytes ends =
     let none = list_any_none (λ c. c == 47) word (All-weaker (λ c. is_word_byte c ≡ true) (λ c. (c == 47) ≡ false) no_slash word bytes) in
-    run_token kind.Word word behind some (word_is_run word bytes) ends (cond-false (list_any (λ c. c == 47) word) _ _ none)
+    run_token kind.Word word past some (word_is_run word bytes) ends (cond-false (list_any (λ c. c == 47) word) _ _ none)
 
 slash_in : (high low : List ℕ) → list_any (λ c. c == 47) (high ++ 47 ∷ low) ≡ true
 slash_in high low = list_any-append (λ c. c == 47) high (47 ∷ low)
     ∙ or_right (list_any (λ c. c == 47) high) (list_any (λ c. c == 47) (47 ∷ low)) refl
 
 -- bytes of words with a slash between them
-pub position_token : (high low behind : List ℕ) → All (λ c. is_word_byte c ≡ true) high → All (λ c. is_word_byte c ≡ true) low
-    → EndsBefore (λ c. is_inside (command_class c)) behind → IsToken kind.Position (high ++ 47 ∷ low) (high ++ 47 ∷ low) behind
-position_token high low behind above below ends =
+pub position_token : (high low past : List ℕ) → All (λ c. is_word_byte c ≡ true) high → All (λ c. is_word_byte c ≡ true) low
+    → EndsBefore (λ c. is_inside (command_class c)) past → IsToken kind.Position (high ++ 47 ∷ low) (high ++ 47 ∷ low) past
+position_token high low past above below ends =
     let bytes = All-append (λ c. is_run_byte c ≡ true) high (47 ∷ low) (word_is_run high above)
     (All-cons (λ c. is_run_byte c ≡ true) 47 low refl (word_is_run low below)) in
-    run_token kind.Position (high ++ 47 ∷ low) behind (omega (arith, length-append high (47 ∷ low))) bytes ends
+    run_token kind.Position (high ++ 47 ∷ low) past (omega (arith, length-append high (47 ∷ low))) bytes ends
     (cond-true (list_any (λ c. c == 47) (high ++ 47 ∷ low)) _ _ (slash_in high low))
 
-pub name_token : (name behind : List ℕ) → EndsBefore (λ c. c == 34) behind → IsToken kind.Name name (quoted 34 name) behind
-name_token name behind ends = record {
+pub name_token : (name past : List ℕ) → EndsBefore (λ c. c == 34) past → IsToken kind.Name name (quoted 34 name) past
+name_token name past ends = record {
   kind = raw.Quoted 34;
   text = name;
   is = (refl, record { spelled = refl; ends = ends });
   means = λ place. refl;
 }
 
-pub text_token : (text behind : List ℕ) → EndsBefore (λ c. c == 39) behind → IsToken kind.Text text (quoted 39 text) behind
-text_token text behind ends = record {
+pub text_token : (text past : List ℕ) → EndsBefore (λ c. c == 39) past → IsToken kind.Text text (quoted 39 text) past
+text_token text past ends = record {
   kind = raw.Quoted 39;
   text = text;
   is = (refl, record { spelled = refl; ends = ends });
   means = λ place. refl;
 }
 
-pub equals_token : (behind : List ℕ) → IsToken kind.Equals [] (codes "=") behind
-equals_token behind = record { kind = raw.Alone 61; text = []; is = (refl, refl, refl); means = λ place. refl }
+pub equals_token : (past : List ℕ) → IsToken kind.Equals [] (codes "=") past
+equals_token past = record { kind = raw.Alone 61; text = []; is = (refl, refl, refl); means = λ place. refl }
 
 -- ---- texts with one space between tokens
 
@@ -132,11 +132,11 @@ pub record Piece : Type 0 where
 -- nothing stands here, or a blank
 abbrev pub IsApart : List ℕ → Type 0
 IsApart [] = Unit {0}
-IsApart (c ∷ behind) = is_blank (command_class c) ≡ true
+IsApart (c ∷ past) = is_blank (command_class c) ≡ true
 
--- the bytes spell the token, where it stands apart from what is behind it
+-- the bytes spell the token, where it stands apart from what is after it
 abbrev pub IsPiece : Piece → Type 0
-IsPiece p = (behind : List ℕ) → IsApart behind → IsToken p.kind p.text p.spelled behind
+IsPiece p = (past : List ℕ) → IsApart past → IsToken p.kind p.text p.spelled past
 
 abbrev pub ArePieces : List Piece → Type 0
 ArePieces [] = Unit {0}
@@ -252,10 +252,10 @@ text_piece text = record { kind = kind.Text; text = text; spelled = quoted 39 te
 abbrev pub equals_piece : Piece
 equals_piece = record { kind = kind.Equals; text = []; spelled = codes "=" }
 
-apart_ends : (test : ℕ → Bool) → ((c : ℕ) → is_blank (command_class c) ≡ true → test c ≡ false) → (behind : List ℕ) → IsApart behind
-    → EndsBefore test behind
+apart_ends : (test : ℕ → Bool) → ((c : ℕ) → is_blank (command_class c) ≡ true → test c ≡ false) → (past : List ℕ) → IsApart past
+    → EndsBefore test past
 apart_ends test blank [] apart = tt
-apart_ends test blank (c ∷ behind) apart = blank c apart
+apart_ends test blank (c ∷ past) apart = blank c apart
 
 blank_class : (k : Class) → is_blank k ≡ true → k ≡ class.Blank
 blank_class class.Blank e = refl
@@ -274,8 +274,8 @@ blank_no_quote : (c quote : ℕ) → is_blank (command_class quote) ≡ false �
 blank_no_quote c quote none e = ne_eqb c quote (λ same. true≢false (sym e ∙ ap (λ b. is_blank (command_class b)) same ∙ none))
 
 pub word_is_piece : (word : List ℕ) → 0 < length word → All (λ c. is_word_byte c ≡ true) word → IsPiece (word_piece word)
-word_is_piece word some bytes = λ behind apart. word_token word behind some bytes
-    (apart_ends (λ c. is_inside (command_class c)) blank_no_run behind apart)
+word_is_piece word some bytes = λ past apart. word_token word past some bytes
+    (apart_ends (λ c. is_inside (command_class c)) blank_no_run past apart)
 
 -- a test of a keyword, which computes
 abbrev pub all_word_bytes : List ℕ → Bool
@@ -304,18 +304,18 @@ number_is_piece n small = word_is_piece (decimal n) (decimal_nonempty n small)
     (digits_are_word_bytes 10 (decimal n) (omega arith) (decimal_is_IsNumeral n small).0.1)
 
 pub position_is_piece : (at : ℕ) → at < 2 ^ 64 → IsPiece (position_piece (position_text at))
-position_is_piece at small = λ behind apart.
+position_is_piece at small = λ past apart.
     let s = position_text_spells at small in
-    subst (λ (text : List ℕ). IsToken kind.Position text text behind) (sym s.parts)
-    (position_token s.high s.low behind (digits_are_word_bytes 16 s.high (omega arith) s.high_is.hexadecimal)
+    subst (λ (text : List ℕ). IsToken kind.Position text text past) (sym s.parts)
+    (position_token s.high s.low past (digits_are_word_bytes 16 s.high (omega arith) s.high_is.hexadecimal)
     (digits_are_word_bytes 16 s.low (omega arith) s.low_is.hexadecimal)
-    (apart_ends (λ c. is_inside (command_class c)) blank_no_run behind apart))
+    (apart_ends (λ c. is_inside (command_class c)) blank_no_run past apart))
 
 pub name_is_piece : (name : List ℕ) → IsPiece (name_piece name)
-name_is_piece name = λ behind apart. name_token name behind (apart_ends (λ c. c == 34) (λ c e. blank_no_quote c 34 refl e) behind apart)
+name_is_piece name = λ past apart. name_token name past (apart_ends (λ c. c == 34) (λ c e. blank_no_quote c 34 refl e) past apart)
 
 pub text_is_piece : (text : List ℕ) → IsPiece (text_piece text)
-text_is_piece text = λ behind apart. text_token text behind (apart_ends (λ c. c == 39) (λ c e. blank_no_quote c 39 refl e) behind apart)
+text_is_piece text = λ past apart. text_token text past (apart_ends (λ c. c == 39) (λ c e. blank_no_quote c 39 refl e) past apart)
 
 pub equals_is_piece : IsPiece equals_piece
-equals_is_piece = λ behind apart. equals_token behind
+equals_is_piece = λ past apart. equals_token past

@@ -50,12 +50,12 @@ body_bytes bytes t h = let is = (decode_of-ok t.text bytes h.1).3 in All-from_ge
 abbrev Said : Part → Type 0
 Said p = (t : Lexeme) × Is p t
 
--- some token is the part behind these others
-said : (front : List Part) (p : Part) (behind : List Part) (ts : List Lexeme) → Follow (front ++ p ∷ behind) ts → Said p
-said [] p behind [] f = absurd f
-said [] p behind (t ∷ ts) f = (t, f.0)
-said (q ∷ front) p behind [] f = absurd f
-said (q ∷ front) p behind (t ∷ ts) f = said front p behind ts f.1
+-- some token is the part after these others
+said : (front : List Part) (p : Part) (past : List Part) (ts : List Lexeme) → Follow (front ++ p ∷ past) ts → Said p
+said [] p past [] f = absurd f
+said [] p past (t ∷ ts) f = (t, f.0)
+said (q ∷ front) p past [] f = absurd f
+said (q ∷ front) p past (t ∷ ts) f = said front p past ts f.1
 
 said_slot : (name : List ℕ) → Said (Slot name) → IsSlotName name
 said_slot name (t, h) = h.is_name
@@ -63,19 +63,19 @@ said_slot name (t, h) = h.is_name
 said_number : (n : ℕ) → Said (Number 1 n) → (0 < n) × (n < 2 ^ 32)
 said_number n (t, h) = number_fits n t h
 
-created_slot : (name : List ℕ) (temporary : Bool) (behind : List (List Part)) (ts : List Lexeme)
-    → OneOf (map (λ ps. create_physical name temporary ++ ps) behind) ts → Said (Slot name)
+created_slot : (name : List ℕ) (temporary : Bool) (past : List (List Part)) (ts : List Lexeme)
+    → OneOf (map (λ ps. create_physical name temporary ++ ps) past) ts → Said (Slot name)
 created_slot name temporary [] ts h = absurd h
-created_slot name temporary (ps ∷ behind) ts (inl f) = said (Keyword (codes "create_replication_slot") ∷ []) (Slot name)
+created_slot name temporary (ps ∷ past) ts (inl f) = said (Keyword (codes "create_replication_slot") ∷ []) (Slot name)
     ((temporary_part temporary ++ Keyword (codes "physical") ∷ []) ++ ps) ts f
-created_slot name temporary (ps ∷ behind) ts (inr h) = created_slot name temporary behind ts h
+created_slot name temporary (ps ∷ past) ts (inr h) = created_slot name temporary past ts h
 
 started_slot : (slot : Option (List ℕ)) (ps : List Part) (ts : List Lexeme) → Follow (start_words slot ++ ps) ts → IsSlotOf slot
 started_slot None ps ts f = tt
 started_slot (Some name) ps ts f = said_slot name (said (Keyword (codes "start_replication") ∷ Keyword (codes "slot") ∷ [])
     (Slot name) ps ts f)
 
--- the timeline behind these parts
+-- the timeline after these parts
 timeline_fits : (front : List Part) (timeline : Option ℕ) (ts : List Lexeme) → Follow (front ++ timeline_part timeline) ts
     → IsTimeline timeline
 timeline_fits front None ts f = tt
@@ -90,7 +90,7 @@ started_position [] at timeline (t ∷ ts) f = (place_fits at t f.0, timeline_fi
 started_position (p ∷ front) at timeline [] f = absurd f
 started_position (p ∷ front) at timeline (t ∷ ts) f = started_position front at timeline ts f.1
 
--- the parts of the physical form but for those behind it
+-- the parts of the physical form but for those after it
 physical_slot : (slot : Option (List ℕ)) (ps : List Part) (ts : List Lexeme)
     → Follow ((start_words slot ++ Keyword (codes "physical") ∷ []) ++ ps) ts → IsSlotOf slot
 physical_slot slot ps ts f = started_slot slot (Keyword (codes "physical") ∷ ps) ts (physical_forms slot ps ts f)

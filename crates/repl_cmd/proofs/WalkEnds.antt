@@ -223,23 +223,23 @@ run_goes_on before s run = let e = ends_from s in (
   ),
 )
 
--- nothing behind the token mends it
-pub stuck_unsaid : (before behind : List Lexeme) (t : Lexeme) (s : State) → Runs state.Start before s → IsStuck s t
-    → ¬ IsSaid (before ++ t ∷ behind)
-stuck_unsaid before behind t s run stuck (c, says) =
-    let h = says_arrives (before ++ t ∷ behind) c says in
-    let parts = run_split state.Start h.at before (t ∷ behind) h.runs in
+-- nothing after the token mends it
+pub stuck_unsaid : (before past : List Lexeme) (t : Lexeme) (s : State) → Runs state.Start before s → IsStuck s t
+    → ¬ IsSaid (before ++ t ∷ past)
+stuck_unsaid before past t s run stuck (c, says) =
+    let h = says_arrives (before ++ t ∷ past) c says in
+    let parts = run_split state.Start h.at before (t ∷ past) h.runs in
     let same : parts.0 ≡ s = one_run state.Start parts.0 s before parts.1 run in
     stuck parts.2.0 (subst (λ (a : State). Steps a t parts.2.0) same parts.2.1)
 
-pub stuck_stops_at : (before behind : List Lexeme) (t : Lexeme) (s : State) → Runs state.Start before s → IsStuck s t
-    → StopsAt IsSaid (before ++ t ∷ behind) (length before)
-stuck_stops_at before behind t s run stuck = record {
-  within = omega (arith, length-append before (t ∷ behind));
-  refused = stuck_unsaid before behind t s run stuck;
-  goes_on = subst (Begins IsSaid) (sym (take-append_seam before (t ∷ behind))) (run_goes_on before s run);
+pub stuck_stops_at : (before past : List Lexeme) (t : Lexeme) (s : State) → Runs state.Start before s → IsStuck s t
+    → StopsAt IsSaid (before ++ t ∷ past) (length before)
+stuck_stops_at before past t s run stuck = record {
+  within = omega (arith, length-append before (t ∷ past));
+  refused = stuck_unsaid before past t s run stuck;
+  goes_on = subst (Begins IsSaid) (sym (take-append_seam before (t ∷ past))) (run_goes_on before s run);
   stops = λ _ b.
-      let front : take (length before + 1) (before ++ t ∷ behind) ≡ before ++ t ∷ [] = take-append-add before (t ∷ behind) 1 in
+      let front : take (length before + 1) (before ++ t ∷ past) ≡ before ++ t ∷ [] = take-append-add before (t ∷ past) 1 in
       let said : IsSaid ((before ++ t ∷ []) ++ b.0) = subst (λ (ts : List Lexeme). IsSaid (ts ++ b.0)) front b.1 in
       stuck_unsaid before b.0 t s run stuck (subst IsSaid (append_assoc before (t ∷ []) b.0) said);
 }

@@ -1,4 +1,4 @@
--- What is wanted in a state is what is wanted behind the tokens that lead there, and so are the faults.
+-- What is wanted in a state is what is wanted after the tokens that lead there, and so are the faults.
 use Rattle.std.proofs.Common.{◌≡◌, ℕ, Bool, true, false, inl, inr, List, [], ◌∷◌, ◌++◌, Option, Some, None, codes, refl, ap, subst}
 use Rattle.std.proofs.lemmas.Bool.{false≢true}
 use Rattle.repl_cmd.specs.declared.fault.CmdFault.{CmdFault}
@@ -15,9 +15,9 @@ use Rattle.repl_cmd.proofs.WalkSteps.{one_run}
 use Rattle.repl_cmd.proofs.WalkForms.{Leads, done, more, first, create_named, stream_state, started, stream_physical, stream_at, physical_at, altered, physical_forms}
 use Rattle.repl_cmd.proofs.WalkReached.{Reached, reached, sole}
 
--- ---- what is wanted behind the tokens is wanted in the state
+-- ---- what is wanted after the tokens is wanted in the state
 
--- the state behind the tokens is the one behind their form
+-- the state after the tokens is the one after their form
 known : (test : State → Bool) (form : List Part) (a s : State) (before : List Lexeme) → test a ≡ true → Leads state.Start form a
     → Runs state.Start before s → Follow form before → test s ≡ true
 known test form a s before is leads run f = subst (λ (b : State). test b ≡ true)
@@ -105,65 +105,65 @@ start_wanted before s run e = let r : s ≡ state.Start = subst (λ (ts : List L
 
 -- ---- and the other way round
 
-wants_physical_behind : (s : State) (before : List Lexeme) → Reached s before → wants_physical s ≡ true → WantsPhysical before
-wants_physical_behind (state.CreateNamed name) before h e = (name, false, None, inl (sole (create_words name false) before h))
-wants_physical_behind (state.CreateTemporary name) before h e = (name, true, None, inl (sole (create_words name true) before h))
-wants_physical_behind state.Stream before h e = ([], false, None, inr h)
-wants_physical_behind (state.StreamNamed name) before h e = ([], false, Some name, inr h)
-wants_physical_behind _ before h e = absurd (false≢true e)
+wants_physical_past : (s : State) (before : List Lexeme) → Reached s before → wants_physical s ≡ true → WantsPhysical before
+wants_physical_past (state.CreateNamed name) before h e = (name, false, None, inl (sole (create_words name false) before h))
+wants_physical_past (state.CreateTemporary name) before h e = (name, true, None, inl (sole (create_words name true) before h))
+wants_physical_past state.Stream before h e = ([], false, None, inr h)
+wants_physical_past (state.StreamNamed name) before h e = ([], false, Some name, inr h)
+wants_physical_past _ before h e = absurd (false≢true e)
 
-wants_slot_behind : (s : State) (before : List Lexeme) → Reached s before → wants_slot s ≡ true → WantsSlot before
-wants_slot_behind state.Create before h e = inl (sole (Keyword (codes "create_replication_slot") ∷ []) before h)
-wants_slot_behind state.DropSlot before h e = inr (inl (sole (Keyword (codes "drop_replication_slot") ∷ []) before h))
-wants_slot_behind state.ReadSlot before h e = inr (inr (inl (sole (Keyword (codes "read_replication_slot") ∷ []) before h)))
-wants_slot_behind state.StreamSlot before h e = inr (inr (inr h))
-wants_slot_behind _ before h e = absurd (false≢true e)
+wants_slot_past : (s : State) (before : List Lexeme) → Reached s before → wants_slot s ≡ true → WantsSlot before
+wants_slot_past state.Create before h e = inl (sole (Keyword (codes "create_replication_slot") ∷ []) before h)
+wants_slot_past state.DropSlot before h e = inr (inl (sole (Keyword (codes "drop_replication_slot") ∷ []) before h))
+wants_slot_past state.ReadSlot before h e = inr (inr (inl (sole (Keyword (codes "read_replication_slot") ∷ []) before h)))
+wants_slot_past state.StreamSlot before h e = inr (inr (inr h))
+wants_slot_past _ before h e = absurd (false≢true e)
 
-wants_position_behind : (s : State) (before : List Lexeme) → Reached s before → wants_position s ≡ true → WantsPosition before
-wants_position_behind state.Stream before h e = (None, inl (sole (start_words None) before h))
-wants_position_behind (state.StreamNamed name) before h e = (Some name, inl (sole (start_words (Some name)) before h))
-wants_position_behind (state.StreamPhysical slot) before h e = (slot, inr h)
-wants_position_behind _ before h e = absurd (false≢true e)
+wants_position_past : (s : State) (before : List Lexeme) → Reached s before → wants_position s ≡ true → WantsPosition before
+wants_position_past state.Stream before h e = (None, inl (sole (start_words None) before h))
+wants_position_past (state.StreamNamed name) before h e = (Some name, inl (sole (start_words (Some name)) before h))
+wants_position_past (state.StreamPhysical slot) before h e = (slot, inr h)
+wants_position_past _ before h e = absurd (false≢true e)
 
-timeline_behind : (slot : Option (List ℕ)) (at : ℕ) (before : List Lexeme) → Reached (state.StreamTimeline slot at) before
+timeline_past : (slot : Option (List ℕ)) (at : ℕ) (before : List Lexeme) → Reached (state.StreamTimeline slot at) before
     → WantsNumber before
-timeline_behind slot at before (inl f) = inr (slot, at, inl f)
-timeline_behind slot at before (inr (inl f)) = inr (
+timeline_past slot at before (inl f) = inr (slot, at, inl f)
+timeline_past slot at before (inr (inl f)) = inr (
   slot,
   at,
   inr (inl (physical_forms slot
       (Position at ∷ Keyword (codes "timeline") ∷ []) before f)),
 )
-timeline_behind slot at before (inr (inr f)) = absurd f
+timeline_past slot at before (inr (inr f)) = absurd f
 
-wants_number_behind : (s : State) (before : List Lexeme) → Reached s before → wants_number s ≡ true → WantsNumber before
-wants_number_behind state.History before h e = inl (inl (sole (Keyword (codes "timeline_history") ∷ []) before h))
-wants_number_behind state.Append before h e = inl (inr (inl (sole (Keyword (codes "append") ∷ []) before h)))
-wants_number_behind state.Promote before h e = inl (inr (inr h))
-wants_number_behind (state.StreamTimeline slot at) before h e = timeline_behind slot at before h
-wants_number_behind _ before h e = absurd (false≢true e)
+wants_number_past : (s : State) (before : List Lexeme) → Reached s before → wants_number s ≡ true → WantsNumber before
+wants_number_past state.History before h e = inl (inl (sole (Keyword (codes "timeline_history") ∷ []) before h))
+wants_number_past state.Append before h e = inl (inr (inl (sole (Keyword (codes "append") ∷ []) before h)))
+wants_number_past state.Promote before h e = inl (inr (inr h))
+wants_number_past (state.StreamTimeline slot at) before h e = timeline_past slot at before h
+wants_number_past _ before h e = absurd (false≢true e)
 
-wants_names_behind : (s : State) (before : List Lexeme) → Reached s before → wants_names s ≡ true → WantsNames before
-wants_names_behind state.AlterText before h e = h
-wants_names_behind _ before h e = absurd (false≢true e)
+wants_names_past : (s : State) (before : List Lexeme) → Reached s before → wants_names s ≡ true → WantsNames before
+wants_names_past state.AlterText before h e = h
+wants_names_past _ before h e = absurd (false≢true e)
 
 nothing_before : (before : List Lexeme) → OneOf ([] ∷ []) before → before ≡ []
 nothing_before [] h = refl
 nothing_before (t ∷ ts) (inl h) = absurd h
 nothing_before (t ∷ ts) (inr h) = absurd h
 
-is_start_behind : (s : State) (before : List Lexeme) → Reached s before → is_start s ≡ true → before ≡ []
-is_start_behind state.Start before h e = nothing_before before h
-is_start_behind _ before h e = absurd (false≢true e)
+is_start_past : (s : State) (before : List Lexeme) → Reached s before → is_start s ≡ true → before ≡ []
+is_start_past state.Start before h e = nothing_before before h
+is_start_past _ before h e = absurd (false≢true e)
 
 -- ---- the faults
 
 left_out : (before : List Lexeme) (s : State) (t : Lexeme) (what : Unsupported) → Runs state.Start before s → LeavesOut s t what
     → IsLeftOut before t what
-left_out before s t unsupported.Logical run h = (wants_physical_behind s before (reached s before run) h.0, h.1)
-left_out before s t unsupported.BaseBackup run h = (is_start_behind s before (reached s before run) h.0, h.1)
-left_out before s t unsupported.UploadManifest run h = (is_start_behind s before (reached s before run) h.0, h.1)
-left_out before s t unsupported.AlterSlot run h = (is_start_behind s before (reached s before run) h.0, h.1)
+left_out before s t unsupported.Logical run h = (wants_physical_past s before (reached s before run) h.0, h.1)
+left_out before s t unsupported.BaseBackup run h = (is_start_past s before (reached s before run) h.0, h.1)
+left_out before s t unsupported.UploadManifest run h = (is_start_past s before (reached s before run) h.0, h.1)
+left_out before s t unsupported.AlterSlot run h = (is_start_past s before (reached s before run) h.0, h.1)
 
 leaves_out : (before : List Lexeme) (s : State) (t : Lexeme) (what : Unsupported) → Runs state.Start before s → IsLeftOut before t what
     → LeavesOut s t what
@@ -176,16 +176,16 @@ own_special : (before : List Lexeme) (s : State) (t : Lexeme) (f : CmdFault) →
     → IsSpecial before t f
 own_special before s t (fault.Syntax place) run h = h
 own_special before s t (fault.Unsupported what) run h = left_out before s t what run h
-own_special before s t (fault.BadSlotName place) run h = (h.0, wants_slot_behind s before (reached s before run) h.1, h.2)
+own_special before s t (fault.BadSlotName place) run h = (h.0, wants_slot_past s before (reached s before run) h.1, h.2)
 own_special before s t (fault.BadLsn place) run h = (
   h.0,
-  wants_position_behind s before (reached s before run) h.1,
+  wants_position_past s before (reached s before run) h.1,
   h.2,
   λ p. h.3
       (physical_wanted before s run p.0, p.1),
 )
-own_special before s t (fault.BadNumber place) run h = (h.0, wants_number_behind s before (reached s before run) h.1, h.2)
-own_special before s t (fault.BadNames found) run h = (wants_names_behind s before (reached s before run) h.0, h.1, h.2, h.3)
+own_special before s t (fault.BadNumber place) run h = (h.0, wants_number_past s before (reached s before run) h.1, h.2)
+own_special before s t (fault.BadNames found) run h = (wants_names_past s before (reached s before run) h.0, h.1, h.2, h.3)
 own_special before s t fault.Memory run h = h
 
 special_own : (before : List Lexeme) (s : State) (t : Lexeme) (f : CmdFault) → Runs state.Start before s → IsSpecial before t f
@@ -198,13 +198,13 @@ special_own before s t (fault.BadLsn place) run h = (
   position_wanted before s run h.1,
   h.2,
   λ p. h.3
-      (wants_physical_behind s before (reached s before run) p.0, p.1),
+      (wants_physical_past s before (reached s before run) p.0, p.1),
 )
 special_own before s t (fault.BadNumber place) run h = (h.0, number_wanted before s run h.1, h.2)
 special_own before s t (fault.BadNames found) run h = (names_wanted before s run h.0, h.1, h.2, h.3)
 special_own before s t fault.Memory run h = h
 
-pub fault_behind : (before : List Lexeme) (s : State) (t : Lexeme) (f : CmdFault) → Runs state.Start before s → IsStepFault s t f
+pub fault_past : (before : List Lexeme) (s : State) (t : Lexeme) (f : CmdFault) → Runs state.Start before s → IsStepFault s t f
     → IsFaultOf before t f
-fault_behind before s t (fault.Syntax place) run h = (h.0, λ special. h.1 (special.0, special_own before s t special.0 run special.1))
-fault_behind before s t f run h = own_special before s t f run h
+fault_past before s t (fault.Syntax place) run h = (h.0, λ special. h.1 (special.0, special_own before s t special.0 run special.1))
+fault_past before s t f run h = own_special before s t f run h

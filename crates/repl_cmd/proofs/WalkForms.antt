@@ -69,7 +69,7 @@ dropped : {c : State} {ps : List Part} (name : List ℕ) → Leads (state.Droppe
     → Leads state.Start (Keyword (codes "drop_replication_slot") ∷ Slot name ∷ ps) c
 dropped name rest = first (codes "drop_replication_slot") state.DropSlot refl (more (state.Dropped name) (λ t h. (name, h, refl)) rest)
 
--- the state behind `START_REPLICATION [SLOT name]`
+-- the state after `START_REPLICATION [SLOT name]`
 abbrev pub stream_state : Option (List ℕ) → State
 stream_state None = state.Stream
 stream_state (Some name) = state.StreamNamed name
@@ -94,7 +94,7 @@ pub physical_at : {c : State} {ps : List Part} (slot : Option (List ℕ)) (at : 
     → Leads (state.StreamPhysical slot) (Position at ∷ ps) c
 physical_at slot at rest = more (state.Streamed slot at) (λ t h. (at, h, refl)) rest
 
--- the state behind the position and what follows it
+-- the state past the position and what follows it
 abbrev streamed_state : Option (List ℕ) → ℕ → Option ℕ → State
 streamed_state slot at None = state.Streamed slot at
 streamed_state slot at (Some n) = state.Done (command.StartReplication slot at (Some n))

@@ -71,10 +71,10 @@ one_of_more (form ∷ fs) p ts t (inr f) is = inr (one_of_more fs p ts t f is)
 
 record FirstWord : Type 0 where
   word : List ℕ
-  behind : State
+  past : State
 
 abbrev first_word : List ℕ → State → FirstWord
-first_word word behind = record { word = word; behind = behind }
+first_word word past = record { word = word; past = past }
 
 abbrev first_words : List FirstWord
 first_words =
@@ -97,12 +97,12 @@ first_words =
 
 abbrev found : List FirstWord → List ℕ → Option State
 found [] word = None
-found (r ∷ rs) word = if bytes_eq word r.word then Some r.behind else found rs word
+found (r ∷ rs) word = if bytes_eq word r.word then Some r.past else found rs word
 
 -- the state's tokens are its word
 abbrev AreFronts : List FirstWord → Type 0
 AreFronts [] = Unit {0}
-AreFronts (r ∷ rs) = (fronts r.behind ≡ one (Keyword r.word ∷ [])) × AreFronts rs
+AreFronts (r ∷ rs) = (fronts r.past ≡ one (Keyword r.word ∷ [])) × AreFronts rs
 
 test_is : (b : Bool) (r s : State) (o : Option State) (P : Type 0) → (b ≡ true → r ≡ s → P) → (o ≡ Some s → P)
     → (if b then Some r else o) ≡ Some s → P
@@ -112,13 +112,13 @@ test_is false r s o P hit miss e = miss e
 found_is : (rs : List FirstWord) (word : List ℕ) (s : State) → AreFronts rs → found rs word ≡ Some s → fronts s ≡ one (Keyword word ∷ [])
 found_is [] word s h e = absurd cc
 found_is (r ∷ rs) word s h e =
-    test_is (bytes_eq word r.word) r.behind s (found rs word) (fronts s ≡ one (Keyword word ∷ []))
+    test_is (bytes_eq word r.word) r.past s (found rs word) (fronts s ≡ one (Keyword word ∷ []))
     (λ is same. ap fronts (sym same) ∙ h.0 ∙ ap (λ w. one (Keyword w ∷ [])) (sym ((bytes_eq-Decides word r.word).0 is)))
     (found_is rs word s h.1)
     e
 
-behind_first : (word : List ℕ) (s : State) → first_state word ≡ Some s → fronts s ≡ one (Keyword word ∷ [])
-behind_first word s e = found_is first_words word s (
+past_first : (word : List ℕ) (s : State) → first_state word ≡ Some s → fronts s ≡ one (Keyword word ∷ [])
+past_first word s e = found_is first_words word s (
   refl,
   (
     refl,
@@ -148,7 +148,7 @@ create_more name false parts p ts t h is = follow_more (create_physical name fal
 
 pub move_reached : (a b : State) (ts : List Lexeme) (t : Lexeme) → Moves a t b → OneOf (fronts a) ts → OneOf (fronts b) (ts ++ t ∷ [])
 move_reached state.Start b [] t m h = subst (λ (forms : List (List Part)). OneOf forms (t ∷ []))
-    (sym (behind_first (map to_ascii_lowercase t.text) b m.1)) (inl ((m.0, refl), tt))
+    (sym (past_first (map to_ascii_lowercase t.text) b m.1)) (inl ((m.0, refl), tt))
 move_reached state.Start b (u ∷ ts) t m (inl h) = absurd h
 move_reached state.Start b (u ∷ ts) t m (inr h) = absurd h
 move_reached state.Show b ts t m h = to b (state.Done (command.Show m.0)) _ m.2 (one_of_more (fronts state.Show) (Parameter m.0) ts t h m.1)

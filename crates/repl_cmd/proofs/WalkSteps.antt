@@ -172,7 +172,7 @@ pub run_append : (a b c : State) (ts us : List Lexeme) → Runs a ts b → Runs 
 run_append a b c [] us r s = subst (λ (from : State). Runs from us c) r s
 run_append a b c (t ∷ ts) us (next, step, r) s = (next, step, run_append next b c ts us r s)
 
--- the run up to a place, and behind it
+-- the run up to a place, and after it
 pub run_split : (a c : State) (ts us : List Lexeme) → Runs a (ts ++ us) c → (b : State) × Runs a ts b × Runs b us c
 run_split a c [] us r = (a, refl, r)
 run_split a c (t ∷ ts) us (next, step, r) = let s = run_split next c ts us r in (s.0, (next, step, s.1), s.2)

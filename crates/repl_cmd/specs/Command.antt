@@ -139,7 +139,7 @@ create_words name temporary = Keyword (codes "create_replication_slot") ∷ Slot
 abbrev pub create_physical : List ℕ → Bool → List Part
 create_physical name temporary = create_words name temporary ++ Keyword (codes "physical") ∷ []
 
--- what may stand behind it
+-- what may stand after it
 abbrev pub reserve_forms : Bool → List (List Part)
 reserve_forms true = (reserve_wal ∷ []) ∷ (opening ∷ reserve_wal ∷ closing ∷ []) ∷ (opening ∷ reserve_wal ∷ Flag true ∷ closing ∷ []) ∷ []
 reserve_forms false = [] ∷ (opening ∷ reserve_wal ∷ Flag false ∷ closing ∷ []) ∷ []
@@ -182,7 +182,7 @@ abbrev pub forms : Command → List (List Part)
 forms command.IdentifySystem = (Keyword (codes "identify_system") ∷ []) ∷ []
 forms (command.Show name) = (Keyword (codes "show") ∷ Parameter name ∷ []) ∷ []
 forms (command.TimelineHistory n) = (Keyword (codes "timeline_history") ∷ Number 1 n ∷ []) ∷ []
-forms (command.CreateSlot name temporary reserve) = map (λ behind. create_physical name temporary ++ behind) (reserve_forms reserve)
+forms (command.CreateSlot name temporary reserve) = map (λ past. create_physical name temporary ++ past) (reserve_forms reserve)
 forms (command.DropSlot name wait) = (Keyword (codes "drop_replication_slot") ∷ Slot name ∷ wait_part wait) ∷ []
 forms (command.ReadSlot name) = (Keyword (codes "read_replication_slot") ∷ Slot name ∷ []) ∷ []
 forms (command.StartReplication slot at timeline) = map (λ front. front ++ Position at ∷ timeline_part timeline) (start_forms slot)

@@ -8,7 +8,7 @@ use Rattle.repl_cmd.specs.declared.command.Command.TheVariants as command
 use Rattle.repl_token.specs.Token.{quoted}
 use Rattle.repl_names.specs.Setting.{setting_word}
 
--- a word that may stand behind a command
+-- a word that may stand after a command
 abbrev pub word_if : Bool → List ℕ → List ℕ
 word_if true word = word
 word_if false word = []

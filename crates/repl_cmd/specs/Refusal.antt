@@ -11,7 +11,7 @@ use Rattle.repl_cmd.specs.declared.token.Kind.TheVariants as kind
 use Rattle.repl_cmd.specs.Token.{Lexeme, Reads}
 use Rattle.repl_cmd.specs.Command.{Keyword, Position, OneOf, IsSaid, IsKeyword, IsNaming, IsJudged, create_words, start_words, start_forms, alter_words}
 
--- ---- what is wanted behind tokens
+-- ---- what is wanted after tokens
 
 -- `PHYSICAL`, in whose place `LOGICAL` may stand for PostgreSQL
 abbrev pub WantsPhysical : List Lexeme → Type 0
@@ -46,14 +46,14 @@ WantsNames before = OneOf (alter_words ∷ []) before
 
 -- ---- the cause of each refusal
 
--- behind these tokens, this one names what is left out
+-- after these tokens, this one names what is left out
 abbrev pub IsLeftOut : List Lexeme → Lexeme → Unsupported → Type 0
 IsLeftOut before t unsupported.Logical = WantsPhysical before × IsKeyword (codes "logical") t
 IsLeftOut before t unsupported.BaseBackup = (before ≡ []) × IsKeyword (codes "base_backup") t
 IsLeftOut before t unsupported.UploadManifest = (before ≡ []) × IsKeyword (codes "upload_manifest") t
 IsLeftOut before t unsupported.AlterSlot = (before ≡ []) × IsKeyword (codes "alter_replication_slot") t
 
--- behind these tokens, this one has a fault of its own
+-- after these tokens, this one has a fault of its own
 abbrev pub IsSpecial : List Lexeme → Lexeme → CmdFault → Type 0
 IsSpecial before t (fault.Syntax place) = ⊥
 IsSpecial before t (fault.Unsupported what) = IsLeftOut before t what
@@ -65,15 +65,15 @@ IsSpecial before t (fault.BadNames found) = WantsNames before × (t.kind ≡ kin
     × (found ≢ names_fault.Memory)
 IsSpecial before t fault.Memory = ⊥
 
--- behind these tokens, this one has this fault, which is of the syntax where it has no other
+-- after these tokens, this one has this fault, which is of the syntax where it has no other
 abbrev pub IsFaultOf : List Lexeme → Lexeme → CmdFault → Type 0
 IsFaultOf before t (fault.Syntax place) = (place ≡ t.place) × ¬ ((f : CmdFault) × IsSpecial before t f)
 IsFaultOf before t f = IsSpecial before t f
 
--- behind these tokens, the ones that are left, or the end at this place, have this fault
+-- after these tokens, the ones that are left, or the end at this place, have this fault
 abbrev pub IsFaultAt : List Lexeme → List Lexeme → ℕ → CmdFault → Type 0
 IsFaultAt before [] end f = f ≡ fault.Syntax end
-IsFaultAt before (t ∷ behind) end f = IsFaultOf before t f
+IsFaultAt before (t ∷ past) end f = IsFaultOf before t f
 
 -- the text leaves the grammar at the token with some index, by this fault
 pub record Leaves (text : List ℕ) (f : CmdFault) : Type 0 where

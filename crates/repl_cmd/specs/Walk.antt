@@ -17,7 +17,7 @@ use Rattle.repl_cmd.specs.declared.token.Kind.TheVariants as kind
 use Rattle.repl_cmd.specs.Token.{Lexeme}
 use Rattle.repl_cmd.specs.Command.{IsKeyword, IsNaming, IsJudged, IsSlot, IsParameter, IsPosition, IsNumber, IsFlag, IsSetting, IsBody, IsList}
 
--- the state behind a first word, in small letters
+-- the state after a first word, in small letters
 abbrev pub first_state : List ℕ → Option State
 first_state word =
     if bytes_eq word (codes "identify_system") then Some (state.Done command.IdentifySystem)
@@ -92,7 +92,7 @@ Moves state.Promote t s = (n : ℕ) × IsNumber 1 n t × (s ≡ state.Done (comm
 Moves (state.Done c) t s = ⊥
 Moves (state.Ended c) t s = ⊥
 
--- a semicolon may stand behind a command, but not behind another
+-- a semicolon may stand after a command, but not after another
 abbrev pub Closes : State → Lexeme → State → Type 0
 Closes (state.Ended c) t s = ⊥
 Closes from t s = (t.kind ≡ kind.Semicolon) × ((c : Command) × (finish from ≡ Some c) × (s ≡ state.Ended c))

@@ -13,7 +13,7 @@ use crate::name::SlotName;
 use crate::state::State;
 use crate::token::{Kind, Token};
 
-/// Behind `CREATE_REPLICATION_SLOT`: the slot's name.
+/// After `CREATE_REPLICATION_SLOT`: the slot's name.
 pub(crate) fn created_name(token: Token) -> Result<State, CmdFault>
     requires { token.kind ≢ Kind.Semicolon }
     ensures ok { IfOk result (λ state. Steps State.Create token state) }
@@ -22,7 +22,7 @@ pub(crate) fn created_name(token: Token) -> Result<State, CmdFault>
     Ok(State::CreateNamed(token.wanted_slot()?))
 }
 
-/// Behind the name: `TEMPORARY`, or `PHYSICAL`.
+/// After the name: `TEMPORARY`, or `PHYSICAL`.
 pub(crate) fn temporary_or_physical(name: SlotName, token: &Token) -> Result<State, CmdFault>
     requires { token.now.kind ≢ Kind.Semicolon }
     ensures ok { IfOk result (λ state. Steps (State.CreateNamed name) token.now state) }
@@ -34,8 +34,8 @@ pub(crate) fn temporary_or_physical(name: SlotName, token: &Token) -> Result<Sta
     physical(name, false, token)
 }
 
-/// Behind `TEMPORARY`: `PHYSICAL`.
-pub(crate) fn physical_behind_temporary(name: SlotName, token: &Token) -> Result<State, CmdFault>
+/// After `TEMPORARY`: `PHYSICAL`.
+pub(crate) fn physical_past_temporary(name: SlotName, token: &Token) -> Result<State, CmdFault>
     requires { token.now.kind ≢ Kind.Semicolon }
     ensures ok { IfOk result (λ state. Steps (State.CreateTemporary name) token.now state) }
     ensures err { IfErr result (λ fault. IsStop (State.CreateTemporary name) token.now fault) }
@@ -58,7 +58,7 @@ fn physical(name: SlotName, temporary: bool, token: &Token) -> Result<State, Cmd
     })
 }
 
-/// Behind `PHYSICAL`: `RESERVE_WAL`, or an opening parenthesis.
+/// After `PHYSICAL`: `RESERVE_WAL`, or an opening parenthesis.
 pub(crate) fn reserve_or_opening(
     name: SlotName,
     temporary: bool,
@@ -94,7 +94,7 @@ pub(crate) fn reserve_option(
     }
 }
 
-/// Behind `RESERVE_WAL` in parentheses: its value, or the closing parenthesis.
+/// After `RESERVE_WAL` in parentheses: its value, or the closing parenthesis.
 pub(crate) fn flag_or_closing(
     name: SlotName,
     temporary: bool,
@@ -117,7 +117,7 @@ pub(crate) fn flag_or_closing(
     }
 }
 
-/// Behind the value: the closing parenthesis.
+/// After the value: the closing parenthesis.
 pub(crate) fn closing(
     name: SlotName,
     temporary: bool,

@@ -1,4 +1,4 @@
-//! The rows of the other commands that go on behind their first word, token by token.
+//! The rows of the other commands that go on after their first word, token by token.
 ghost use Rattle.std.specs.Prelude.{◌≡◌, ◌≢◌, ◌⊎◌, IfOk, IfErr, Some, None};
 ghost use Rattle.repl_cmd.specs.declared.state.State.TheVariants as State;
 ghost use Rattle.repl_cmd.specs.declared.token.Kind.TheVariants as Kind;
@@ -13,7 +13,7 @@ use crate::token::{Kind, Token};
 use repl_lsn::Tli;
 use std::alloc::Global;
 
-/// Behind `SHOW`: the parameter's name.
+/// After `SHOW`: the parameter's name.
 pub(crate) fn shown_parameter(token: Token) -> Result<State, CmdFault>
     requires { token.kind ≢ Kind.Semicolon }
     ensures ok { IfOk result (λ state. Steps State.Show token state) }
@@ -26,7 +26,7 @@ pub(crate) fn shown_parameter(token: Token) -> Result<State, CmdFault>
     }
 }
 
-/// Behind `TIMELINE_HISTORY`: the timeline.
+/// After `TIMELINE_HISTORY`: the timeline.
 pub(crate) fn history_timeline(token: &Token) -> Result<State, CmdFault>
     requires { token.now.kind ≢ Kind.Semicolon }
     ensures ok { IfOk result (λ state. Steps State.History token.now state) }
@@ -36,7 +36,7 @@ pub(crate) fn history_timeline(token: &Token) -> Result<State, CmdFault>
     Ok(State::Done(Command::TimelineHistory(Tli(number))))
 }
 
-/// Behind `DROP_REPLICATION_SLOT`: the slot's name.
+/// After `DROP_REPLICATION_SLOT`: the slot's name.
 pub(crate) fn dropped_name(token: Token) -> Result<State, CmdFault>
     requires { token.kind ≢ Kind.Semicolon }
     ensures ok { IfOk result (λ state. Steps State.DropSlot token state) }
@@ -45,7 +45,7 @@ pub(crate) fn dropped_name(token: Token) -> Result<State, CmdFault>
     Ok(State::Dropped(token.wanted_slot()?))
 }
 
-/// Behind the name: `WAIT`.
+/// After the name: `WAIT`.
 pub(crate) fn wait_word(name: SlotName, token: &Token) -> Result<State, CmdFault>
     requires { token.now.kind ≢ Kind.Semicolon }
     ensures ok { IfOk result (λ state. Steps (State.Dropped name) token.now state) }
@@ -58,7 +58,7 @@ pub(crate) fn wait_word(name: SlotName, token: &Token) -> Result<State, CmdFault
     }
 }
 
-/// Behind `READ_REPLICATION_SLOT`: the slot's name.
+/// After `READ_REPLICATION_SLOT`: the slot's name.
 pub(crate) fn read_name(token: Token) -> Result<State, CmdFault>
     requires { token.kind ≢ Kind.Semicolon }
     ensures ok { IfOk result (λ state. Steps State.ReadSlot token state) }
@@ -67,7 +67,7 @@ pub(crate) fn read_name(token: Token) -> Result<State, CmdFault>
     Ok(State::Done(Command::ReadSlot(token.wanted_slot()?)))
 }
 
-/// Behind `APPEND`: the transaction's number.
+/// After `APPEND`: the transaction's number.
 pub(crate) fn transaction(token: &Token) -> Result<State, CmdFault>
     requires { token.now.kind ≢ Kind.Semicolon }
     ensures ok { IfOk result (λ state. Steps State.Append token.now state) }
@@ -76,7 +76,7 @@ pub(crate) fn transaction(token: &Token) -> Result<State, CmdFault>
     Ok(State::AppendBody(token.wanted_number(0)?))
 }
 
-/// Behind the number: the record's bytes. Takes memory.
+/// After the number: the record's bytes. Takes memory.
 pub(crate) fn record_body(alloc: Global, xid: u32, token: &Token) -> Result<State, CmdFault>
     requires { token.now.kind ≢ Kind.Semicolon }
     ensures ok { IfOk result (λ state. Steps (State.AppendBody xid) token.now state) }
@@ -88,7 +88,7 @@ pub(crate) fn record_body(alloc: Global, xid: u32, token: &Token) -> Result<Stat
     }
 }
 
-/// Behind `PROMOTE`: the timeline.
+/// After `PROMOTE`: the timeline.
 pub(crate) fn promoted_timeline(token: &Token) -> Result<State, CmdFault>
     requires { token.now.kind ≢ Kind.Semicolon }
     ensures ok { IfOk result (λ state. Steps State.Promote token.now state) }

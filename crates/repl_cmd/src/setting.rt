@@ -13,7 +13,7 @@ use crate::token::{Kind, Token};
 use repl_names::{NamesFault, parse_names};
 use std::alloc::Global;
 
-/// Behind `SET`: `synchronous_commit`.
+/// After `SET`: `synchronous_commit`.
 pub(crate) fn set_parameter(token: &Token) -> Result<State, CmdFault>
     requires { token.now.kind ≢ Kind.Semicolon }
     ensures ok { IfOk result (λ state. Steps State.Set token.now state) }
@@ -26,7 +26,7 @@ pub(crate) fn set_parameter(token: &Token) -> Result<State, CmdFault>
     }
 }
 
-/// Behind `synchronous_commit`: `=` or `TO`.
+/// After `synchronous_commit`: `=` or `TO`.
 pub(crate) fn set_sign(token: &Token) -> Result<State, CmdFault>
     requires { token.now.kind ≢ Kind.Semicolon }
     ensures ok { IfOk result (λ state. Steps State.SetCommit token.now state) }
@@ -39,7 +39,7 @@ pub(crate) fn set_sign(token: &Token) -> Result<State, CmdFault>
     }
 }
 
-/// Behind the sign: the value.
+/// After the sign: the value.
 pub(crate) fn set_value(token: &Token) -> Result<State, CmdFault>
     requires { token.now.kind ≢ Kind.Semicolon }
     ensures ok { IfOk result (λ state. Steps State.SetValue token.now state) }
@@ -51,7 +51,7 @@ pub(crate) fn set_value(token: &Token) -> Result<State, CmdFault>
     }
 }
 
-/// Behind `ALTER`: `SYSTEM`.
+/// After `ALTER`: `SYSTEM`.
 pub(crate) fn system_word(token: &Token) -> Result<State, CmdFault>
     requires { token.now.kind ≢ Kind.Semicolon }
     ensures ok { IfOk result (λ state. Steps State.Alter token.now state) }
@@ -64,7 +64,7 @@ pub(crate) fn system_word(token: &Token) -> Result<State, CmdFault>
     }
 }
 
-/// Behind `SYSTEM`: `SET`.
+/// After `SYSTEM`: `SET`.
 pub(crate) fn set_word(token: &Token) -> Result<State, CmdFault>
     requires { token.now.kind ≢ Kind.Semicolon }
     ensures ok { IfOk result (λ state. Steps State.AlterSystem token.now state) }
@@ -77,7 +77,7 @@ pub(crate) fn set_word(token: &Token) -> Result<State, CmdFault>
     }
 }
 
-/// Behind `SET`: `synchronous_standby_names`.
+/// After `SET`: `synchronous_standby_names`.
 pub(crate) fn altered_parameter(token: &Token) -> Result<State, CmdFault>
     requires { token.now.kind ≢ Kind.Semicolon }
     ensures ok { IfOk result (λ state. Steps State.AlterSet token.now state) }
@@ -90,7 +90,7 @@ pub(crate) fn altered_parameter(token: &Token) -> Result<State, CmdFault>
     }
 }
 
-/// Behind `synchronous_standby_names`: `=`, and no `TO`.
+/// After `synchronous_standby_names`: `=`, and no `TO`.
 pub(crate) fn altered_sign(token: &Token) -> Result<State, CmdFault>
     requires { token.now.kind ≢ Kind.Semicolon }
     ensures ok { IfOk result (λ state. Steps State.AlterNames token.now state) }
@@ -103,7 +103,7 @@ pub(crate) fn altered_sign(token: &Token) -> Result<State, CmdFault>
     }
 }
 
-/// Behind the sign: the standby list. Takes memory.
+/// After the sign: the standby list. Takes memory.
 pub(crate) fn altered_names(alloc: Global, token: &Token) -> Result<State, CmdFault>
     requires { token.now.kind ≢ Kind.Semicolon }
     ensures ok { IfOk result (λ state. Steps State.AlterText token.now state) }

@@ -7,85 +7,85 @@ use repl_lsn::Lsn;
 pub(crate) enum State {
     /// No token is read.
     Start,
-    /// Behind `SHOW`.
+    /// After `SHOW`.
     Show,
-    /// Behind `TIMELINE_HISTORY`.
+    /// After `TIMELINE_HISTORY`.
     History,
-    /// Behind `CREATE_REPLICATION_SLOT`.
+    /// After `CREATE_REPLICATION_SLOT`.
     Create,
-    /// Behind the name after it.
+    /// After the name that follows it.
     CreateNamed(SlotName),
-    /// Behind `TEMPORARY`.
+    /// After `TEMPORARY`.
     CreateTemporary(SlotName),
-    /// Behind `PHYSICAL`.
+    /// After `PHYSICAL`.
     Created {
         name: SlotName,
         temporary: bool,
     },
-    /// Behind the opening parenthesis.
+    /// After the opening parenthesis.
     CreateOpened {
         name: SlotName,
         temporary: bool,
     },
-    /// Behind `RESERVE_WAL` in parentheses.
+    /// After `RESERVE_WAL` in parentheses.
     CreateOption {
         name: SlotName,
         temporary: bool,
     },
-    /// Behind its value.
+    /// After its value.
     CreateValued {
         name: SlotName,
         temporary: bool,
         reserve: bool,
     },
-    /// Behind `DROP_REPLICATION_SLOT`.
+    /// After `DROP_REPLICATION_SLOT`.
     DropSlot,
-    /// Behind the name after it.
+    /// After the name that follows it.
     Dropped(SlotName),
-    /// Behind `READ_REPLICATION_SLOT`.
+    /// After `READ_REPLICATION_SLOT`.
     ReadSlot,
-    /// Behind `START_REPLICATION`.
+    /// After `START_REPLICATION`.
     Stream,
-    /// Behind `SLOT`.
+    /// After `SLOT`.
     StreamSlot,
-    /// Behind the slot's name.
+    /// After the slot's name.
     StreamNamed(SlotName),
-    /// Behind `PHYSICAL`.
+    /// After `PHYSICAL`.
     StreamPhysical(Option<SlotName>),
-    /// Behind the position.
+    /// Past the position.
     Streamed {
         slot: Option<SlotName>,
         at: Lsn,
     },
-    /// Behind `TIMELINE`.
+    /// After `TIMELINE`.
     StreamTimeline {
         slot: Option<SlotName>,
         at: Lsn,
     },
-    /// Behind `APPEND`.
+    /// After `APPEND`.
     Append,
-    /// Behind the number after it.
+    /// After the number that follows it.
     AppendBody(u32),
-    /// Behind `SET`.
+    /// After `SET`.
     Set,
-    /// Behind `synchronous_commit`.
+    /// After `synchronous_commit`.
     SetCommit,
-    /// Behind `=` or `TO`.
+    /// After `=` or `TO`.
     SetValue,
-    /// Behind `ALTER`.
+    /// After `ALTER`.
     Alter,
-    /// Behind `SYSTEM`.
+    /// After `SYSTEM`.
     AlterSystem,
-    /// Behind `SET`.
+    /// After `SET`.
     AlterSet,
-    /// Behind `synchronous_standby_names`.
+    /// After `synchronous_standby_names`.
     AlterNames,
-    /// Behind `=`.
+    /// After `=`.
     AlterText,
-    /// Behind `PROMOTE`.
+    /// After `PROMOTE`.
     Promote,
-    /// Behind a command with which nothing goes on but a semicolon.
+    /// After a command with which nothing goes on but a semicolon.
     Done(Command),
-    /// Behind the semicolon.
+    /// After the semicolon.
     Ended(Command),
 }

@@ -15,7 +15,7 @@ use crate::{create, operand, setting, stream};
 use std::alloc::Global;
 
 impl State {
-    /// The state behind the token, or why no command goes on with it. Takes memory for a standby list or a body.
+    /// The state after the token, or why no command goes on with it. Takes memory for a standby list or a body.
     pub(crate) fn next(self, alloc: Global, token: Token) -> Result<State, CmdFault>
         ensures ok { IfOk result (λ state. Steps self token state) }
         ensures err { IfErr result (λ fault. (fault ≡ CmdFault.Memory) ⊎ IsStop self token fault) }
@@ -29,7 +29,7 @@ impl State {
             State::History => operand::history_timeline(&token),
             State::Create => create::created_name(token),
             State::CreateNamed(name) => create::temporary_or_physical(name, &token),
-            State::CreateTemporary(name) => create::physical_behind_temporary(name, &token),
+            State::CreateTemporary(name) => create::physical_past_temporary(name, &token),
             State::Created { name, temporary } => {
                 create::reserve_or_opening(name, temporary, &token)
             }
@@ -69,7 +69,7 @@ impl State {
         }
     }
 
-    /// The state behind a semicolon, which may stand behind a command, but not behind another.
+    /// The state after a semicolon, which may stand after a command, but not after another.
     fn close(self, token: &Token) -> Result<State, CmdFault>
         requires { token.now.kind ≡ Kind.Semicolon }
         ensures ok { IfOk result (λ state. Steps self token.now state) }
@@ -115,7 +115,7 @@ impl State {
     }
 }
 
-/// The state behind the first token.
+/// The state after the first token.
 fn begin(token: &Token) -> Result<State, CmdFault>
     requires { token.now.kind ≢ Kind.Semicolon }
     ensures ok { IfOk result (λ state. Steps State.Start token.now state) }
@@ -145,7 +145,7 @@ fn left_out(token: &Token) -> CmdFault
     }
 }
 
-/// The state behind a first word.
+/// The state after a first word.
 fn first_state(token: &Token) -> Option<State>
     ensures { result ≡ first_state (map to_ascii_lowercase token.now.text) }
 {

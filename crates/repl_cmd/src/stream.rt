@@ -13,7 +13,7 @@ use crate::state::State;
 use crate::token::{Kind, Token};
 use repl_lsn::{Lsn, Tli};
 
-/// Behind `START_REPLICATION`: `SLOT`, `PHYSICAL`, or the position.
+/// After `START_REPLICATION`: `SLOT`, `PHYSICAL`, or the position.
 pub(crate) fn slot_or_position(token: &Token) -> Result<State, CmdFault>
     requires { token.now.kind ≢ Kind.Semicolon }
     ensures ok { IfOk result (λ state. Steps State.Stream token.now state) }
@@ -28,7 +28,7 @@ pub(crate) fn slot_or_position(token: &Token) -> Result<State, CmdFault>
     position_or_logical(None, token)
 }
 
-/// Behind `SLOT`: its name.
+/// After `SLOT`: its name.
 pub(crate) fn streamed_slot(token: Token) -> Result<State, CmdFault>
     requires { token.kind ≢ Kind.Semicolon }
     ensures ok { IfOk result (λ state. Steps State.StreamSlot token state) }
@@ -37,7 +37,7 @@ pub(crate) fn streamed_slot(token: Token) -> Result<State, CmdFault>
     Ok(State::StreamNamed(token.wanted_slot()?))
 }
 
-/// Behind the slot's name: `PHYSICAL`, or the position.
+/// After the slot's name: `PHYSICAL`, or the position.
 pub(crate) fn physical_or_position(name: SlotName, token: &Token) -> Result<State, CmdFault>
     requires { token.now.kind ≢ Kind.Semicolon }
     ensures ok { IfOk result (λ state. Steps (State.StreamNamed name) token.now state) }
@@ -49,7 +49,7 @@ pub(crate) fn physical_or_position(name: SlotName, token: &Token) -> Result<Stat
     position_or_logical(Some(name), token)
 }
 
-/// Behind `PHYSICAL`: the position.
+/// After `PHYSICAL`: the position.
 pub(crate) fn position(slot: Option<SlotName>, token: &Token) -> Result<State, CmdFault>
     requires { token.now.kind ≢ Kind.Semicolon }
     ensures ok { IfOk result (λ state. Steps (State.StreamPhysical slot) token.now state) }
@@ -69,7 +69,7 @@ fn position_or_logical(slot: Option<SlotName>, token: &Token) -> Result<State, C
     streamed(slot, token)
 }
 
-/// The position, behind which a command may end.
+/// The position, after which a command may end.
 fn streamed(slot: Option<SlotName>, token: &Token) -> Result<State, CmdFault>
     ensures ok { IfOk result (λ state. (at : ℕ) × IsPosition at token.now × (state ≡ State.Streamed slot at)) }
     ensures err { IfErr result (λ fault. IsNoPosition token.now fault) }
@@ -78,7 +78,7 @@ fn streamed(slot: Option<SlotName>, token: &Token) -> Result<State, CmdFault>
     Ok(State::Streamed { slot, at })
 }
 
-/// Behind the position: `TIMELINE`.
+/// Past the position: `TIMELINE`.
 pub(crate) fn timeline_word(
     slot: Option<SlotName>,
     at: Lsn,
@@ -95,7 +95,7 @@ pub(crate) fn timeline_word(
     }
 }
 
-/// Behind `TIMELINE`: its number.
+/// After `TIMELINE`: its number.
 pub(crate) fn timeline(slot: Option<SlotName>, at: Lsn, token: &Token) -> Result<State, CmdFault>
     requires { token.now.kind ≢ Kind.Semicolon }
     ensures ok { IfOk result (λ state. Steps (State.StreamTimeline slot at) token.now state) }

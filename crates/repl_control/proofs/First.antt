@@ -45,7 +45,7 @@ first_one P (x ∷ xs) (y ∷ ys) a b more others e xs_right a_wrong ys_right b_
     first_one P xs ys a b more others (tail_is x y (xs ++ a ∷ more) (ys ++ b ∷ others) e) (All-tail P x xs xs_right) a_wrong
     (All-tail P y ys ys_right) b_wrong
 
--- what holds of each of a list holds of the one behind some
+-- what holds of each of a list holds of the one after some
 among : (P : Field → Type 0) (xs : List Field) (a : Field) (more : List Field) → All P (xs ++ a ∷ more) → P a
 among P [] a more right = All-head P a more right
 among P (x ∷ xs) a more right = among P xs a more (All-tail P x (xs ++ a ∷ more) right)
@@ -54,13 +54,13 @@ among P (x ∷ xs) a more right = among P xs a more (All-tail P x (xs ++ a ∷ m
 
 pub one_place : (size : ℕ) (numbers : Fields) (p q : ℕ) → IsFirstWrong size numbers p → IsFirstWrong size numbers q → p ≡ q
 one_place size numbers p q first other =
-    let same = first_one (IsRight size numbers) first.before other.before first.field other.field first.behind other.behind
+    let same = first_one (IsRight size numbers) first.before other.before first.field other.field first.past other.past
     (sym first.parts ∙ other.parts) first.right first.wrong other.right other.wrong in
     first.begins ∙ ap place_of same ∙ sym other.begins
 
 pub none_wrong : (size : ℕ) (numbers : Fields) (p : ℕ) → All (IsRight size numbers) layout → ¬ IsFirstWrong size numbers p
 none_wrong size numbers p right first =
-    first.wrong (among (IsRight size numbers) first.before first.field first.behind
+    first.wrong (among (IsRight size numbers) first.before first.field first.past
     (subst (All (IsRight size numbers)) first.parts right))
 
 -- ---- each of the fields as the first that is wrong
@@ -72,7 +72,7 @@ pub wrong_mark : (size place : ℕ) (n : Fields) → ¬ IsRight size n mark → 
 wrong_mark size place n wrong at = record {
   before = [];
   field = mark;
-  behind = version ∷ role ∷ zero ∷ timeline ∷ padding ∷ flushed ∷ whole ∷ floor ∷ prev ∷ [];
+  past = version ∷ role ∷ zero ∷ timeline ∷ padding ∷ flushed ∷ whole ∷ floor ∷ prev ∷ [];
   parts = refl;
   right = All-nil (IsRight size n);
   wrong = wrong;
@@ -83,7 +83,7 @@ pub wrong_version : (size place : ℕ) (n : Fields) → IsRight size n mark → 
 wrong_version size place n m wrong at = record {
   before = mark ∷ [];
   field = version;
-  behind = role ∷ zero ∷ timeline ∷ padding ∷ flushed ∷ whole ∷ floor ∷ prev ∷ [];
+  past = role ∷ zero ∷ timeline ∷ padding ∷ flushed ∷ whole ∷ floor ∷ prev ∷ [];
   parts = refl;
   right = all_of size n (mark ∷ []) (m, tt);
   wrong = wrong;
@@ -95,7 +95,7 @@ pub wrong_role : (size place : ℕ) (n : Fields) → IsRight size n mark → IsR
 wrong_role size place n m v wrong at = record {
   before = mark ∷ version ∷ [];
   field = role;
-  behind = zero ∷ timeline ∷ padding ∷ flushed ∷ whole ∷ floor ∷ prev ∷ [];
+  past = zero ∷ timeline ∷ padding ∷ flushed ∷ whole ∷ floor ∷ prev ∷ [];
   parts = refl;
   right = all_of size n (mark ∷ version ∷ []) (m, (v, tt));
   wrong = wrong;
@@ -107,7 +107,7 @@ pub wrong_zero : (size place : ℕ) (n : Fields) → IsRight size n mark → IsR
 wrong_zero size place n m v r wrong at = record {
   before = mark ∷ version ∷ role ∷ [];
   field = zero;
-  behind = timeline ∷ padding ∷ flushed ∷ whole ∷ floor ∷ prev ∷ [];
+  past = timeline ∷ padding ∷ flushed ∷ whole ∷ floor ∷ prev ∷ [];
   parts = refl;
   right = all_of size n (mark ∷ version ∷ role ∷ []) (m, (v, (r, tt)));
   wrong = wrong;
@@ -119,7 +119,7 @@ pub wrong_timeline : (size place : ℕ) (n : Fields) → IsRight size n mark →
 wrong_timeline size place n m v r z wrong at = record {
   before = mark ∷ version ∷ role ∷ zero ∷ [];
   field = timeline;
-  behind = padding ∷ flushed ∷ whole ∷ floor ∷ prev ∷ [];
+  past = padding ∷ flushed ∷ whole ∷ floor ∷ prev ∷ [];
   parts = refl;
   right = all_of size n (mark ∷ version ∷ role ∷ zero ∷ []) (m, (v, (r, (z, tt))));
   wrong = wrong;
@@ -131,7 +131,7 @@ pub wrong_padding : (size place : ℕ) (n : Fields) → IsRight size n mark → 
 wrong_padding size place n m v r z t wrong at = record {
   before = mark ∷ version ∷ role ∷ zero ∷ timeline ∷ [];
   field = padding;
-  behind = flushed ∷ whole ∷ floor ∷ prev ∷ [];
+  past = flushed ∷ whole ∷ floor ∷ prev ∷ [];
   parts = refl;
   right = all_of size n (mark ∷ version ∷ role ∷ zero ∷ timeline ∷ []) (m, (v, (r, (z, (t, tt)))));
   wrong = wrong;
@@ -157,7 +157,7 @@ pub wrong_flushed : (size place : ℕ) (c : Control) → 0 < c.tli → ¬ IsRigh
 wrong_flushed size place c t wrong at = record {
   before = mark ∷ version ∷ role ∷ zero ∷ timeline ∷ padding ∷ [];
   field = flushed;
-  behind = whole ∷ floor ∷ prev ∷ [];
+  past = whole ∷ floor ∷ prev ∷ [];
   parts = refl;
   right = all_of size (fields_of c) (mark ∷ version ∷ role ∷ zero ∷ timeline ∷ padding ∷ [])
       (refl, (refl, (role_right c.role, (refl, (t, (refl, tt))))));
@@ -170,7 +170,7 @@ pub wrong_whole : (size place : ℕ) (c : Control) → 0 < c.tli → IsRight siz
 wrong_whole size place c t f wrong at = record {
   before = mark ∷ version ∷ role ∷ zero ∷ timeline ∷ padding ∷ flushed ∷ [];
   field = whole;
-  behind = floor ∷ prev ∷ [];
+  past = floor ∷ prev ∷ [];
   parts = refl;
   right = all_of size (fields_of c) (mark ∷ version ∷ role ∷ zero ∷ timeline ∷ padding ∷ flushed ∷ [])
       (refl, (refl, (role_right c.role, (refl, (t, (refl, (f, tt)))))));
@@ -183,7 +183,7 @@ pub wrong_floor : (size place : ℕ) (c : Control) → 0 < c.tli → IsRight siz
 wrong_floor size place c t f w wrong at = record {
   before = mark ∷ version ∷ role ∷ zero ∷ timeline ∷ padding ∷ flushed ∷ whole ∷ [];
   field = floor;
-  behind = prev ∷ [];
+  past = prev ∷ [];
   parts = refl;
   right = all_of size (fields_of c) (mark ∷ version ∷ role ∷ zero ∷ timeline ∷ padding ∷ flushed ∷ whole ∷ [])
       (refl, (refl, (role_right c.role, (refl, (t, (refl, (f, (w, tt))))))));
@@ -196,7 +196,7 @@ pub wrong_prev : (size place : ℕ) (c : Control) → 0 < c.tli → IsRight size
 wrong_prev size place c t f w l wrong at = record {
   before = mark ∷ version ∷ role ∷ zero ∷ timeline ∷ padding ∷ flushed ∷ whole ∷ floor ∷ [];
   field = prev;
-  behind = [];
+  past = [];
   parts = refl;
   right = all_of size (fields_of c) (mark ∷ version ∷ role ∷ zero ∷ timeline ∷ padding ∷ flushed ∷ whole ∷ floor ∷ [])
       (refl, (refl, (role_right c.role, (refl, (t, (refl, (f, (w, (l, tt)))))))));

@@ -78,8 +78,8 @@ field_decided size n prev = below n.prev n.whole
 record Split (P : Field → Type 0) (fields : List Field) : Type 0 where
   pub before : List Field
   pub field : Field
-  pub behind : List Field
-  pub parts : fields ≡ before ++ field ∷ behind
+  pub past : List Field
+  pub parts : fields ≡ before ++ field ∷ past
   pub right : All P before
   pub wrong : ¬ P field
 
@@ -87,7 +87,7 @@ split_on : (P : Field → Type 0) (f : Field) (fields : List Field) → P f → 
 split_on P f fields right s = record {
   before = f ∷ s.before;
   field = s.field;
-  behind = s.behind;
+  past = s.past;
   parts = ap (λ rest. f ∷ rest) s.parts;
   right = All-cons P f s.before right s.right;
   wrong = s.wrong;
@@ -97,7 +97,7 @@ split_here : (P : Field → Type 0) (f : Field) (fields : List Field) → ¬ P f
 split_here P f fields wrong = record {
   before = [];
   field = f;
-  behind = fields;
+  past = fields;
   parts = refl;
   right = All-nil P;
   wrong = wrong;
@@ -117,7 +117,7 @@ first_wrong : (size : ℕ) (n : Fields) (s : Split (IsRight size n) layout) → 
 first_wrong size n s = record {
   before = s.before;
   field = s.field;
-  behind = s.behind;
+  past = s.past;
   parts = s.parts;
   right = s.right;
   wrong = s.wrong;

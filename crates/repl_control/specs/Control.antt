@@ -24,7 +24,7 @@ IsFlushed size flushed = (size ≤ flushed) × (flushed ≤ 2 ^ 63)
 abbrev pub IsWhole : ℕ → ℕ → ℕ → Type 0
 IsWhole size flushed whole = (whole % 8 ≡ 0) × (size ≤ whole) × (whole ≤ flushed)
 
--- where the bytes begin that are kept: with a segment, and not behind the one in which whole records end
+-- where the bytes begin that are kept: with a segment, and not after the one in which whole records end
 abbrev pub IsFloor : ℕ → ℕ → ℕ → Type 0
 IsFloor size whole floor = (floor % size ≡ 0) × (size ≤ floor) × (floor ≤ segment_start size whole)
 
@@ -172,8 +172,8 @@ IsRight size numbers prev = IsPrev numbers.whole numbers.prev
 pub record IsFirstWrong (size : ℕ) (numbers : Fields) (place : ℕ) : Type 0 where
   pub before : List Field
   pub field : Field
-  pub behind : List Field
-  pub parts : layout ≡ before ++ field ∷ behind
+  pub past : List Field
+  pub parts : layout ≡ before ++ field ∷ past
   pub right : All (IsRight size numbers) before
   pub wrong : ¬ IsRight size numbers field
   pub begins : place ≡ place_of field

@@ -37,8 +37,8 @@ long_is n bytes place fits enough is =
     let value : n ≡ big_from 0 8 rest = is ∙ big_from-take 0 8 (length bytes - place) rest (omega arith) in
     let front : int64 n ≡ take 8 rest = ap int64 value ∙ long_front rest (AreBytes-drop place bytes fits)
     (omega (arith, length-drop place bytes)) in
-    let behind : drop 8 rest ≡ drop (place + 8) bytes = drop-drop 8 place bytes in
-    sym (take-append-drop 8 rest) ∙ ap (λ (t : List ℕ). t ++ drop 8 rest) (sym front) ∙ ap (λ (t : List ℕ). int64 n ++ t) behind
+    let past : drop 8 rest ≡ drop (place + 8) bytes = drop-drop 8 place bytes in
+    sym (take-append-drop 8 rest) ∙ ap (λ (t : List ℕ). t ++ drop 8 rest) (sym front) ∙ ap (λ (t : List ℕ). int64 n ++ t) past
 
 -- ---- what a spelling tells
 

@@ -48,7 +48,7 @@ pub fn decode_reply(payload: &[u8]) -> Result<Reply, CopyFault>
     }
 }
 
-/// A piece of the log, whose bytes are those behind the numbers.
+/// A piece of the log, whose bytes are those after the numbers.
 fn wal(mut payload: Bytes) -> Result<Stream, CopyFault>
     requires { IsOfKind 119 payload }
     ensures read { IfOk result (λ value. IsStream value × (payload ≡ stream_spelling value)) }

@@ -97,7 +97,7 @@ fn put_reply(out: &mut Vec<u8>, value: &Reply) -> Result<(), AllocError>
     }
 }
 
-/// Appends a kind and the number behind it.
+/// Appends a kind and the number after it.
 fn put_head(out: &mut Vec<u8>, kind: u8, number: u64) -> Result<(), AllocError>
     ensures ok { OnOk result (out.new.items ≡ out.old.items ++ kind ∷ int64 number) }
     ensures err { OnErr result (Extends out.old.items out.new.items) }

@@ -45,7 +45,7 @@ pub enum Stream {
 /// What a standby sends while it is streamed to. Clocks are microseconds since 2000-01-01, midnight UTC.
 #[derive(Clone, Copy, Debug, PartialEq, Eq)]
 pub enum Reply {
-    /// Its positions, each that of the byte behind the last: a standby status update, `r`.
+    /// Its positions, each that of the byte after the last: a standby status update, `r`.
     Status {
         written: Lsn,
         flushed: Lsn,

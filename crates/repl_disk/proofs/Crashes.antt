@@ -8,7 +8,7 @@ use Rattle.repl_disk.specs.Memory.{certain}
 use Rattle.repl_disk.specs.Stored.{Stored, settled, reverted, is_kept, unwritten_all}
 use Rattle.repl_disk.proofs.Folders.{certain_found, certain_is}
 use Rattle.repl_disk.proofs.Names.{name_same}
-use Rattle.repl_disk.proofs.Places.{none_behind}
+use Rattle.repl_disk.proofs.Places.{none_past}
 
 -- ---- all is kept
 
@@ -28,13 +28,13 @@ settled_folder files = fun_ext (λ name. settled_reads files name)
 pub settled_tied : (files : List Stored) → folder_of (map settled files) ≡ certain_folder (map settled files)
 settled_tied files = fun_ext (λ name. sym (settled_certain files name))
 
-settled_behind : (before : List ℕ) (files : List Stored) → StandsBefore before files → StandsBefore before (map settled files)
-settled_behind before [] stands = tt
-settled_behind before (file ∷ files) stands = (stands.0, settled_behind before files stands.1)
+settled_past : (before : List ℕ) (files : List Stored) → StandsBefore before files → StandsBefore before (map settled files)
+settled_past before [] stands = tt
+settled_past before (file ∷ files) stands = (stands.0, settled_past before files stands.1)
 
 pub settled_ordered : (files : List Stored) → AreOrdered files → AreOrdered (map settled files)
 settled_ordered [] ordered = tt
-settled_ordered (file ∷ files) ordered = (settled_behind file.name files ordered.0, settled_ordered files ordered.1)
+settled_ordered (file ∷ files) ordered = (settled_past file.name files ordered.0, settled_ordered files ordered.1)
 
 -- ---- what was not synced is lost
 
@@ -59,7 +59,7 @@ reverted_reads (file ∷ files) name ordered = shown file.made ∙ each file.mad
     each : (made same : Bool) → (same ≡ true → name ≡ file.name) → folder_of (left files) name ≡ certain_folder files name
         → lookup made same ≡ cond same (cond made None (Some (unwritten_all file.undos file.bytes))) (certain_folder files name)
     each true true is rest = rest ∙ certain_is files name ∙ ap certain_found
-        (none_behind name files (subst (λ (n : List ℕ). StandsBefore n files) (sym (is refl)) ordered.0))
+        (none_past name files (subst (λ (n : List ℕ). StandsBefore n files) (sym (is refl)) ordered.0))
     each true false is rest = rest
     each false same is rest = ap (λ (x : Option (List ℕ)). cond same (Some (unwritten_all file.undos file.bytes)) x) rest
 
@@ -74,9 +74,9 @@ reverted_certain (file ∷ files) name = ap
 pub reverted_tied : (files : List Stored) → folder_of (map reverted files) ≡ certain_folder (map reverted files)
 reverted_tied files = fun_ext (λ name. sym (reverted_certain files name))
 
-reverted_behind : (before : List ℕ) (files : List Stored) → StandsBefore before files → StandsBefore before (left files)
-reverted_behind before [] stands = tt
-reverted_behind before (file ∷ files) stands = each file.made (reverted_behind before files stands.1)
+reverted_past : (before : List ℕ) (files : List Stored) → StandsBefore before files → StandsBefore before (left files)
+reverted_past before [] stands = tt
+reverted_past before (file ∷ files) stands = each file.made (reverted_past before files stands.1)
   where
     each : (made : Bool) → StandsBefore before (left files)
         → StandsBefore before (map reverted (cond (not made) (file ∷ filter is_kept files) (filter is_kept files)))
@@ -90,7 +90,7 @@ reverted_ordered (file ∷ files) ordered = each file.made (reverted_ordered fil
     each : (made : Bool) → AreOrdered (left files)
         → AreOrdered (map reverted (cond (not made) (file ∷ filter is_kept files) (filter is_kept files)))
     each true rest = rest
-    each false rest = (reverted_behind file.name files ordered.0, rest)
+    each false rest = (reverted_past file.name files ordered.0, rest)
 
 -- ---- the invariant of what is left
 

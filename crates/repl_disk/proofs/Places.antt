@@ -21,7 +21,7 @@ IsAt [] name place = ⊥
 IsAt (file ∷ files) name zero = file.name ≡ name
 IsAt (file ∷ files) name (suc place) = IsBefore file.name name × IsAt files name place
 
--- the files before this place stand before the name, and the next one behind it
+-- the files before this place stand before the name, and the next one after it
 abbrev pub WouldStand : List Stored → List ℕ → ℕ → Type 0
 WouldStand [] name zero = Unit {0}
 WouldStand [] name (suc place) = ⊥
@@ -85,10 +85,10 @@ found_at (file ∷ files) name zero d here = found_first file files name (sym he
 found_at (file ∷ files) name (suc place) d there = found_later file files name (λ same. before_differs file.name name there.0 (sym same))
     ∙ found_at files name place d there.1
 
-pub none_behind : (name : List ℕ) (files : List Stored) → StandsBefore name files → found files name ≡ None
-none_behind name [] stands = refl
-none_behind name (file ∷ files) stands = found_later file files name (before_differs name file.name stands.0)
-    ∙ none_behind name files stands.1
+pub none_past : (name : List ℕ) (files : List Stored) → StandsBefore name files → found files name ≡ None
+none_past name [] stands = refl
+none_past name (file ∷ files) stands = found_later file files name (before_differs name file.name stands.0)
+    ∙ none_past name files stands.1
 
 pub earlier_stands : (a b : List ℕ) (files : List Stored) → IsBefore a b → StandsBefore b files → StandsBefore a files
 earlier_stands a b [] before stands = tt
@@ -97,7 +97,7 @@ earlier_stands a b (file ∷ files) before stands = (before-before a b file.name
 pub found_none : (files : List Stored) (name : List ℕ) (place : ℕ) → AreOrdered files → WouldStand files name place
     → found files name ≡ None
 found_none [] name place ordered stands = refl
-found_none (file ∷ files) name zero ordered stands = none_behind name (file ∷ files)
+found_none (file ∷ files) name zero ordered stands = none_past name (file ∷ files)
     (stands, earlier_stands name file.name files stands ordered.0)
 found_none (file ∷ files) name (suc place) ordered stands = found_later file files name
     (λ same. before_differs file.name name stands.0 (sym same)) ∙ found_none files name place ordered.1 stands.1
@@ -108,10 +108,10 @@ found_none (file ∷ files) name (suc place) ordered stands = found_later file f
 abbrev pub Alters : List Stored → List Stored → List ℕ → Option Stored → Type 0
 Alters old new name file = (other : List ℕ) → found new other ≡ cond (bytes_eq other name) file (found old other)
 
--- a change behind a file of another name
-behind : (first : Stored) (old new : List Stored) (name : List ℕ) (file : Option Stored) → (first.name ≡ name → ⊥)
+-- a change after a file of another name
+past : (first : Stored) (old new : List Stored) (name : List ℕ) (file : Option Stored) → (first.name ≡ name → ⊥)
     → Alters old new name file → Alters (first ∷ old) (first ∷ new) name file
-behind first old new name file differ alters other =
+past first old new name file differ alters other =
     ap (λ (x : Option Stored). cond (bytes_eq other first.name) (Some first) x) (alters other) ∙ swapped (bytes_eq other first.name)
     (bytes_eq other name) (name_same other first.name) (name_same other name)
   where
@@ -140,7 +140,7 @@ pub set_alters : (files : List Stored) (name : List ℕ) (place : ℕ) (file : S
     → Alters files (set files place file) name (Some file)
 set_alters [] name place file none named = absurd none
 set_alters (first ∷ files) name zero file here named = over_first first files name file here named
-set_alters (first ∷ files) name (suc place) file there named = behind first files (set files place file) name (Some file)
+set_alters (first ∷ files) name (suc place) file there named = past first files (set files place file) name (Some file)
     (before_differs first.name name there.0) (set_alters files name place file there.1 named)
 
 pub insert_alters : (files : List Stored) (name : List ℕ) (place : ℕ) (file : Stored) → WouldStand files name place → file.name ≡ name
@@ -148,7 +148,7 @@ pub insert_alters : (files : List Stored) (name : List ℕ) (place : ℕ) (file 
 insert_alters [] name zero file stands named = first_alters [] name file named
 insert_alters [] name (suc place) file none named = absurd none
 insert_alters (first ∷ files) name zero file stands named = first_alters (first ∷ files) name file named
-insert_alters (first ∷ files) name (suc place) file there named = behind first files (insert files place file) name (Some file)
+insert_alters (first ∷ files) name (suc place) file there named = past first files (insert files place file) name (Some file)
     (before_differs first.name name there.0) (insert_alters files name place file there.1 named)
 
 first_removed : (first : Stored) (files : List Stored) (name : List ℕ) → first.name ≡ name → StandsBefore first.name files
@@ -157,25 +157,25 @@ first_removed first files name is stands other = gone (bytes_eq other name) (nam
     (λ (n : List ℕ). cond (bytes_eq other name) None (cond (bytes_eq other n) (Some first) (found files other))) (sym is)
   where
     gone : (p : Bool) → (p ≡ true → other ≡ name) → found files other ≡ cond p None (cond p (Some first) (found files other))
-    gone true same = none_behind other files (subst (λ (n : List ℕ). StandsBefore n files) (is ∙ sym (same refl)) stands)
+    gone true same = none_past other files (subst (λ (n : List ℕ). StandsBefore n files) (is ∙ sym (same refl)) stands)
     gone false same = refl
 
 pub remove_alters : (files : List Stored) (name : List ℕ) (place : ℕ) → AreOrdered files → IsAt files name place
     → Alters files (remove files place) name None
 remove_alters [] name place ordered none = absurd none
 remove_alters (first ∷ files) name zero ordered here = first_removed first files name here ordered.0
-remove_alters (first ∷ files) name (suc place) ordered there = behind first files (remove files place) name None
+remove_alters (first ∷ files) name (suc place) ordered there = past first files (remove files place) name None
     (before_differs first.name name there.0) (remove_alters files name place ordered.1 there.1)
 
 -- ---- the order stays
 
-set_behind : (before : List ℕ) (files : List Stored) (name : List ℕ) (place : ℕ) (file : Stored) → IsAt files name place → file.name ≡ name
+set_past : (before : List ℕ) (files : List Stored) (name : List ℕ) (place : ℕ) (file : Stored) → IsAt files name place → file.name ≡ name
     → StandsBefore before files → StandsBefore before (set files place file)
-set_behind before [] name place file none named stands = absurd none
-set_behind before (first ∷ files) name zero file here named stands =
+set_past before [] name place file none named stands = absurd none
+set_past before (first ∷ files) name zero file here named stands =
     (subst (λ (n : List ℕ). IsBefore before n) (here ∙ sym named) stands.0, stands.1)
-set_behind before (first ∷ files) name (suc place) file there named stands =
-    (stands.0, set_behind before files name place file there.1 named stands.1)
+set_past before (first ∷ files) name (suc place) file there named stands =
+    (stands.0, set_past before files name place file there.1 named stands.1)
 
 pub set_ordered : (files : List Stored) (name : List ℕ) (place : ℕ) (file : Stored) → IsAt files name place → file.name ≡ name
     → AreOrdered files → AreOrdered (set files place file)
@@ -183,14 +183,14 @@ set_ordered [] name place file none named ordered = absurd none
 set_ordered (first ∷ files) name zero file here named ordered =
     (subst (λ (n : List ℕ). StandsBefore n files) (here ∙ sym named) ordered.0, ordered.1)
 set_ordered (first ∷ files) name (suc place) file there named ordered =
-    (set_behind first.name files name place file there.1 named ordered.0, set_ordered files name place file there.1 named ordered.1)
+    (set_past first.name files name place file there.1 named ordered.0, set_ordered files name place file there.1 named ordered.1)
 
-insert_behind : (before : List ℕ) (files : List Stored) (place : ℕ) (file : Stored) → place ≤ length files → IsBefore before file.name
+insert_past : (before : List ℕ) (files : List Stored) (place : ℕ) (file : Stored) → place ≤ length files → IsBefore before file.name
     → StandsBefore before files → StandsBefore before (insert files place file)
-insert_behind before files zero file within stands_file stands = (stands_file, stands)
-insert_behind before [] (suc place) file within stands_file stands = absurd (omega arith)
-insert_behind before (first ∷ files) (suc place) file within stands_file stands =
-    (stands.0, insert_behind before files place file (omega arith) stands_file stands.1)
+insert_past before files zero file within stands_file stands = (stands_file, stands)
+insert_past before [] (suc place) file within stands_file stands = absurd (omega arith)
+insert_past before (first ∷ files) (suc place) file within stands_file stands =
+    (stands.0, insert_past before files place file (omega arith) stands_file stands.1)
 
 pub insert_ordered : (files : List Stored) (name : List ℕ) (place : ℕ) (file : Stored) → WouldStand files name place → file.name ≡ name
     → AreOrdered files → AreOrdered (insert files place file)
@@ -202,23 +202,23 @@ insert_ordered (first ∷ files) name zero file stands named ordered =
     earlier : IsBefore file.name first.name
     earlier = subst (λ (n : List ℕ). IsBefore n first.name) (sym named) stands
 insert_ordered (first ∷ files) name (suc place) file there named ordered = (
-  insert_behind first.name files place file (stands_within files name place there.1)
+  insert_past first.name files place file (stands_within files name place there.1)
       (subst (λ (n : List ℕ). IsBefore first.name n)
       (sym named) there.0) ordered.0,
   insert_ordered files name place file there.1 named ordered.1,
 )
 
-remove_behind : (before : List ℕ) (files : List Stored) (place : ℕ) → StandsBefore before files → StandsBefore before (remove files place)
-remove_behind before [] zero stands = tt
-remove_behind before [] (suc place) stands = tt
-remove_behind before (first ∷ files) zero stands = stands.1
-remove_behind before (first ∷ files) (suc place) stands = (stands.0, remove_behind before files place stands.1)
+remove_past : (before : List ℕ) (files : List Stored) (place : ℕ) → StandsBefore before files → StandsBefore before (remove files place)
+remove_past before [] zero stands = tt
+remove_past before [] (suc place) stands = tt
+remove_past before (first ∷ files) zero stands = stands.1
+remove_past before (first ∷ files) (suc place) stands = (stands.0, remove_past before files place stands.1)
 
 pub remove_ordered : (files : List Stored) (place : ℕ) → AreOrdered files → AreOrdered (remove files place)
 remove_ordered [] zero ordered = tt
 remove_ordered [] (suc place) ordered = tt
 remove_ordered (first ∷ files) zero ordered = ordered.1
-remove_ordered (first ∷ files) (suc place) ordered = (remove_behind first.name files place ordered.0, remove_ordered files place ordered.1)
+remove_ordered (first ∷ files) (suc place) ordered = (remove_past first.name files place ordered.0, remove_ordered files place ordered.1)
 
 -- ---- both
 

@@ -1,5 +1,5 @@
 -- What a crash may leave (PostgreSQL 17 manual, section "Reliability"). A write that is not synced may leave anything in its
--- range and behind the file's old end, and no other byte is touched. A file that a write made may be gone, name and all,
+-- range and past the file's old end, and no other byte is touched. A file that a write made may be gone, name and all,
 -- until it is synced. A rename or a remove happens as a whole, and for good once it is done. A call that failed may have
 -- happened or not.
 use Rattle.std.specs.Prelude.{◌≡◌, ◌≢◌, ℕ, ◌+◌, ◌<◌, ◌≤◌, ◌⊎◌, max, List, length, get_or, Option, Some, None}

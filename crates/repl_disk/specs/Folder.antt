@@ -32,7 +32,7 @@ written folder name at bytes = put folder name (Some (overwritten (content (fold
 
 -- ---- what is read
 
--- from this place on the file has so many bytes for the room, and its end or the room's stands behind them
+-- from this place on the file has so many bytes for the room, and its end or the room's stands after them
 pub record ReadsAt (file : Option (List ℕ)) (at count : ℕ) (before after : List ℕ) : Type 0 where
   pub bytes : List ℕ
   pub there : file ≡ Some bytes

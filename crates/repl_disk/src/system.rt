@@ -14,7 +14,7 @@ const OWN_FILE: u32 = 0o600;
 #[derive(Drop)]
 pub(crate) struct Folder<R: Files<File = File> + AllocGlobal + Clone + Drop> {
     rt: R,
-    /// The folder's path, with a slash behind it.
+    /// The folder's path, with a slash after it.
     path: String,
     written: Option<Opened>,
     written_before: Option<Opened>,
@@ -47,7 +47,7 @@ fn close(opened: &mut Option<Opened>, name: &str) {
 
 impl<R: Files<File = File> + AllocGlobal + Clone + Drop> Folder<R> {
     /// The files of this folder. All that is read there is certain then, whoever wrote it: each file is synced, and the
-    /// folder behind them.
+    /// folder after them.
     pub(crate) fn open(rt: R, folder: &str) -> io::Result<Folder<R>> {
         let path = format!(in rt.alloc(); "{folder}/")?;
         let mut folder = Folder {

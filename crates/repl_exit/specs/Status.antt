@@ -13,7 +13,7 @@ use Rattle.repl_exit.specs.declared.damage.DamageReason.TheVariants as damage
 use Rattle.repl_exit.specs.declared.status.Status.{Status}
 use Rattle.repl_exit.specs.declared.status.Status.TheVariants as status
 
--- ---- reasons: a name, and its values, each behind a space
+-- ---- reasons: a name, and its values, each after a space
 
 -- a name and one number
 abbrev pub one_number : List ℕ → ℕ → List ℕ

@@ -23,7 +23,7 @@ pub enum DamageReason {
     Bad(WalkReason),
 }
 
-/// The reason's name, and its values behind it.
+/// The reason's name, and its values after it.
 impl fmt::Display for DamageReason {
     ghost use Rattle.std.specs.Prelude.{Some};
     ghost use Rattle.repl_exit.specs.Status.{damage_words};

@@ -56,7 +56,7 @@ pub fn status_number(status: &Status) -> u8
     }
 }
 
-/// The line that says so: the status's name, its values, each behind a space, and a line feed. Takes memory for it.
+/// The line that says so: the status's name, its values, each after a space, and a line feed. Takes memory for it.
 pub fn status_line(alloc: Global, status: &Status) -> Result<Vec<u8>, AllocError>
     ensures { IfOk result (λ line. line.items ≡ line_of status.now) }
 {

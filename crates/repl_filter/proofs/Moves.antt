@@ -5,8 +5,8 @@ use Rattle.std.proofs.lemmas.List.{take_at, take_all, take-append-le, append-nil
 use Rattle.repl_effects.specs.Told.{Told, IfTold, Lost}
 
 -- what is told, with these bytes in front
-abbrev behind : List ℕ → Told → Told
-behind bytes told = option_map (λ (rest : List ℕ). bytes ++ rest) told
+abbrev past : List ℕ → Told → Told
+past bytes told = option_map (λ (rest : List ℕ). bytes ++ rest) told
 
 -- nothing is lost so far
 pub Lost-none : (now : Told) → Lost now now []
@@ -16,8 +16,8 @@ Lost-none (Some bytes) = refl
 -- first these bytes are lost, and then others
 pub Lost-then : (before middle now : Told) (first second : List ℕ) → Lost before middle first → Lost middle now second
     → Lost before now (first ++ second)
-Lost-then before middle None first second a b = a ∙ ap (behind first) b
-Lost-then before middle (Some rest) first second a b = a ∙ ap (behind first) b
+Lost-then before middle None first second a b = a ∙ ap (past first) b
+Lost-then before middle (Some rest) first second a b = a ∙ ap (past first) b
     ∙ ap (λ (bytes : List ℕ). Some bytes) (sym (append_assoc first second rest))
 
 -- the bytes are as many as may be read of what was left
@@ -36,7 +36,7 @@ Lost-all before (Some rest) bytes limit few none lost =
     subst (λ (b : Told). IfTold b (λ left. bytes ≡ take limit left)) (sym lost)
     (sym (take_all limit (bytes ++ rest) (omega (arith, ap length same)) ∙ same))
 
--- the front of a room was read, and stands behind the bytes so far
+-- the front of a room was read, and stands after the bytes so far
 pub Lost-more : (before middle now : Told) (bytes after room rest : List ℕ) (count : ℕ) → Lost before middle bytes
     → Lost middle now (take count room) → count ≤ length room → after ≡ bytes ++ take count (room ++ rest) → Lost before now after
 Lost-more before middle now bytes after room rest count so_far one fits added =
@@ -48,7 +48,7 @@ Lost-more before middle now bytes after room rest count so_far one fits added =
 pub Lost-still : (before middle now : Told) (bytes after : List ℕ) → Lost before middle bytes → now ≡ middle → after ≡ bytes
     → Lost before now after
 Lost-still before middle now bytes after so_far still same =
-    subst (λ (s : List ℕ). Lost before now s) (sym same) (so_far ∙ ap (behind bytes) (sym still))
+    subst (λ (s : List ℕ). Lost before now s) (sym same) (so_far ∙ ap (past bytes) (sym still))
 
 -- what is said of a vector is said of the same vector
 pub items_of_same : (v w : Vec ℕ Global) (bytes : List ℕ) → v ≡ w → w.items ≡ bytes → v.items ≡ bytes

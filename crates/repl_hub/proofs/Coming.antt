@@ -11,7 +11,7 @@ use Rattle.repl_hub.specs.declared.reply.ConnectFault.TheVariants as connect
 use Rattle.repl_hub.specs.declared.reply.WaitFault.{WaitFault}
 use Rattle.repl_hub.specs.declared.reply.WaitFault.TheVariants as wait
 use Rattle.repl_hub.proofs.Fates.{OfBegun}
-use Rattle.repl_hub.proofs.Logs.{Rises, Switches, behind_refusal, rises_broken, rises_same}
+use Rattle.repl_hub.proofs.Logs.{Rises, Switches, past_refusal, rises_broken, rises_same}
 use Rattle.repl_names.specs.declared.quorum.Mode.{Mode}
 use Rattle.repl_node.specs.State.{NodeState, with_log, with_slots}
 use Rattle.repl_node.specs.Steps.{OfLog, OfSlots, Saves}
@@ -133,7 +133,7 @@ module _ (h : HubView) (event : HubEvent) where
       let n = h.node.log in
       let log = is.1.0 in
       let rises : Rises n log =
-      behind_refusal Refuses Passes Done Partly n log (Rises n) (rises_same n) (rises_broken n) (partly log) e is.1.1 in
+      past_refusal Refuses Passes Done Partly n log (Rises n) (rises_same n) (rises_broken n) (partly log) e is.1.1 in
       of_rising (with_log h.node log) m rises
       (is.2.2 ∙ ap (λ (node : NodeState). with_both h node is.2.0) is.1.2 ∙ ap (with_both h (with_log h.node log)) is.2.1)
 

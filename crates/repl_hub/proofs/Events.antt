@@ -9,7 +9,7 @@ use Rattle.repl_hub.specs.declared.event.HubEvent.{HubEvent}
 use Rattle.repl_hub.specs.declared.event.HubEvent.TheVariants as event
 use Rattle.repl_hub.specs.declared.reply.HubReply.{HubReply}
 use Rattle.repl_hub.proofs.Coming.{Comes, of_connect, of_demote, of_disconnect, of_log, of_rising, of_saves, of_slots, of_slotted, of_stop, of_streaming, of_switch, of_sync, of_wait, stays}
-use Rattle.repl_hub.proofs.Logs.{Rises, append_rises, behind, demote_rises, flush_rises, follow_partly_rises, follow_switches, promote_partly_rises, promote_switches, receive_rises, rises_broken, rises_only, rises_same, trim_partly_rises, trim_rises}
+use Rattle.repl_hub.proofs.Logs.{Rises, append_rises, past, demote_rises, flush_rises, follow_partly_rises, follow_switches, promote_partly_rises, promote_switches, receive_rises, rises_broken, rises_only, rises_same, trim_partly_rises, trim_rises}
 use Rattle.repl_node.specs.Keeping.{IsTrimmedNode}
 use Rattle.repl_node.specs.State.{NodeState}
 use Rattle.repl_slots.specs.Slot.{acquired, confirmed, made, released, without}
@@ -29,7 +29,7 @@ rising : {A : Type 0} (Refuses : NodeFault → Type 0) (Passes : Type 0) (Done :
     (result : Result A NodeFault) → (Partly m → Rises n m) → ((a : A) → Done a m → Rises n m)
     → Step Refuses Passes Done Partly n result m → Rises n m
 rising Refuses Passes Done Partly n m result partly done step =
-    behind Refuses Passes Done Partly n m (Rises n) (rises_same n) (rises_broken n) partly result done step
+    past Refuses Passes Done Partly n m (Rises n) (rises_same n) (rises_broken n) partly result done step
 
 -- a call that only reads
 reading : {A : Type 0} (Refuses : NodeFault → Type 0) (Passes : Type 0) (Answers : A → Type 0) (n m : LogState) (result : Result A NodeFault)

@@ -111,7 +111,7 @@ module _ (P : Fate → Type 0) (others : HoldsOfOthers P) where
       → (mid : State) × Changes old event reply mid × Releases mid new → OfBegun P event → OfEach P old.tickets → OfEach P new.tickets
   done_each old event reply new h begun all = releases_each h.0 new h.2 (changes_each old event reply h.0 h.1 begun all)
 
-  -- what holds of each ticket, and of a wait that begins, holds of each behind a step
+  -- what holds of each ticket, and of a wait that begins, holds of each after a step
   pub step_each : (old new : State) (event : Event) (reply : Reply) → SyncStep old event reply new → OfBegun P event → OfEach P old.tickets
       → OfEach P new.tickets
   step_each old new event (Refused fault) h begun all = subst (λ (s : State). OfEach P s.tickets) (sym h.1) all
@@ -119,6 +119,6 @@ module _ (P : Fate → Type 0) (others : HoldsOfOthers P) where
   step_each old new event (Given n) h begun all = done_each old event (Given n) new h begun all
   step_each old new event (Looked answer) h begun all = done_each old event (Looked answer) new h begun all
 
-  -- and behind a cancel of all waits it holds of each anyhow
+  -- and after a cancel of all waits it holds of each anyhow
   pub cancelled_all : (old new : State) → SyncStep old CancelAll Done new → OfEach P new.tickets
   cancelled_all old new h = releases_each h.0 new h.2 (subst (λ (s : State). OfEach P s.tickets) (sym h.1) (cancels_each old.tickets))

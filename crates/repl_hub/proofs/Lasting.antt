@@ -70,14 +70,14 @@ switching h event m is all =
 ending : (h m : HubView) → Ending h m → AreCertain m
 ending h m is = cancelled_all (IsCertain m.node.log) (others_are m.node.log) h.sync m.sync is.step
 
-certain_behind : (h : HubView) (event : HubEvent) (m : HubView) → Comes h event m → AreCertain h → AreCertain m
-certain_behind h event m (lasts is) all = lasting h m is all
-certain_behind h event m (tells is) all = telling h m is all
-certain_behind h event m (switches is) all = switching h event m is all
-certain_behind h event m (ends is) all = ending h m is
+certain_past : (h : HubView) (event : HubEvent) (m : HubView) → Comes h event m → AreCertain h → AreCertain m
+certain_past h event m (lasts is) all = lasting h m is all
+certain_past h event m (tells is) all = telling h m is all
+certain_past h event m (switches is) all = switching h event m is all
+certain_past h event m (ends is) all = ending h m is
 
 pub are_certain : (h m : HubView) (event : HubEvent) (reply : HubReply) → HubStep h event reply m → AreCertain h → AreCertain m
-are_certain h m event reply step all = certain_behind h event m (comes h event reply m step) all
+are_certain h m event reply step all = certain_past h event m (comes h event reply m step) all
 
 -- ---- a release
 
@@ -95,17 +95,17 @@ module _ (h m : HubView) (ticket end : ℕ) (mode : Mode) (proof : Certificate) 
   by_step event answer step rises =
       was (step_releases ticket end mode proof h.sync m.sync event answer step waits got) (omega (arith, was_certain.1, rises))
 
-  released_behind : (event : HubEvent) → Comes h event m → WasFlushed h m ticket end mode proof
-  released_behind event (lasts is) =
+  released_past : (event : HubEvent) → Comes h event m → WasFlushed h m ticket end mode proof
+  released_past event (lasts is) =
       absurd (not_twice ticket end mode proof h.sync waits
       (subst (λ (s : State). fate_of s.tickets ticket ≡ Some (Released proof)) is.same got))
-  released_behind event (tells is) =
+  released_past event (tells is) =
       by_step is.event is.answer is.step (subst (λ (k : LogState). flushed_end h.node.log ≤ flushed_end k) (sym is.log) (omega arith))
-  released_behind event (switches is) = absurd (two_roles (role_of h.node.log) is.log.standby was_certain.0)
-  released_behind event (ends is) = by_step sync.CancelAll sync.Done is.step is.rises
+  released_past event (switches is) = absurd (two_roles (role_of h.node.log) is.log.standby was_certain.0)
+  released_past event (ends is) = by_step sync.CancelAll sync.Done is.step is.rises
 
 pub was_flushed : (h m : HubView) (event : HubEvent) (reply : HubReply) → IsState h.sync → HubStep h event reply m → AreCertain h
     → (ticket end : ℕ) (mode : Mode) (proof : Certificate) → fate_of h.sync.tickets ticket ≡ Some (Waiting end mode)
     → fate_of m.sync.tickets ticket ≡ Some (Released proof) → WasFlushed h m ticket end mode proof
 was_flushed h m event reply state step all ticket end mode proof waits got =
-    released_behind h m ticket end mode proof all waits got event (comes h event reply m step)
+    released_past h m ticket end mode proof all waits got event (comes h event reply m step)

@@ -16,19 +16,19 @@ use Rattle.repl_wal.specs.declared.fault.NodeFault.TheVariants as fault
 
 -- ---- how a call ends
 
--- What holds of the log, of the broken one, and of what a call leaves for want of memory, holds behind each that is refused; and where
--- it holds of what the call makes, behind each.
+-- What holds of the log, of the broken one, and of what a call leaves for want of memory, holds after each that is refused; and where
+-- it holds of what the call makes, after each.
 module _ {A : Type 0} (Refuses : NodeFault → Type 0) (Passes : Type 0) (Done : A → LogState → Type 0) (Partly : LogState → Type 0)
     (n m : LogState) (R : LogState → Type 0) (same : R n) (broke : R (breaking n)) (partly : Partly m → R m) where
-  pub behind_refusal : (e : NodeFault) → Step {A = A} Refuses Passes Done Partly n (Err e) m → R m
-  behind_refusal fault.Broken step = subst R (sym step.1) same
-  behind_refusal fault.DiskFault step = subst R (sym step.2) broke
-  behind_refusal fault.Memory step = partly step.1
-  behind_refusal e step = subst R (sym step.2) same
+  pub past_refusal : (e : NodeFault) → Step {A = A} Refuses Passes Done Partly n (Err e) m → R m
+  past_refusal fault.Broken step = subst R (sym step.1) same
+  past_refusal fault.DiskFault step = subst R (sym step.2) broke
+  past_refusal fault.Memory step = partly step.1
+  past_refusal e step = subst R (sym step.2) same
 
-  pub behind : (result : Result A NodeFault) → ((a : A) → Done a m → R m) → Step Refuses Passes Done Partly n result m → R m
-  behind (Ok a) done step = done a step.2
-  behind (Err e) done step = behind_refusal e step
+  pub past : (result : Result A NodeFault) → ((a : A) → Done a m → R m) → Step Refuses Passes Done Partly n result m → R m
+  past (Ok a) done step = done a step.2
+  past (Err e) done step = past_refusal e step
 
 -- ---- most calls
 
@@ -91,7 +91,7 @@ promote_partly_rises n at_least m (inr (tli, switch, last, can, inl is)) =
 promote_partly_rises n at_least m (inr (tli, switch, last, can, inr is)) =
     rises_to n (heard_log (flushed_first n switch last) tli) m is (record { role = refl; end = omega arith })
 
--- a standby's log goes on from where it has whole records, or behind that
+-- a standby's log goes on from where it has whole records, or after that
 pub record Switches (n m : LogState) : Type 0 where
   pub standby : role_of n ≡ Standby
   pub whole : whole_end n ≤ flushed_end m
@@ -101,7 +101,7 @@ follow_switches n child m can is =
     let at : last_switch child.parents ≡ whole_end n = can.at_whole in
     subst (Switches n) (sym is) (record { standby = can.standby; whole = omega (arith, at) })
 
--- records that are counted from the whole end end behind it
+-- records that are counted from the whole end end after it
 pub whole_rises : (n : LogState) (end last : ℕ) → EndsLast n end last → whole_end n ≤ end
 whole_rises n end last greatest = from_le (ident_of n) (timeline_of n) (whole_end n) (last_start n) (tail_of n) end last greatest.is_end
 

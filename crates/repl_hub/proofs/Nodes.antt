@@ -55,17 +55,17 @@ over_any disk held n remembers = record {
 pub remembered : {D : Type 0} (disk : DiskState) (held : HeldNode D) (n : NodeState) → HoldsNode disk held n → Remembers held n
 remembered disk held n holds = record { log = holds.log.remembers; slots = holds.slots; sound = holds.sound }
 
--- behind a call of the node the hub is kept, with the sessions that it had
-pub kept_behind : {A D : Type 0} (result : Result A NodeFault) (old new : DiskState) (before : HeldHub D) (after : HeldNode D)
+-- after a call of the node the hub is kept, with the sessions that it had
+pub kept_past : {A D : Type 0} (result : Result A NodeFault) (old new : DiskState) (before : HeldHub D) (after : HeldNode D)
     (kept : IsKept before) (Next : NodeState → Type 0) (left : Left) → NodeComes result old new after (untold kept.node) Next left
     → IsKept (held_with before after before.sync)
-kept_behind result old new before after kept Next left comes = record {
+kept_past result old new before after kept Next left comes = record {
   node = comes.goes.next;
   remembers = remembered new after comes.goes.next comes.goes.holds;
   links = kept.links;
 }
 
--- and behind a call on its slots
+-- and after a call on its slots
 pub kept_listed : {D : Type 0} (old new : DiskState) (before : HeldHub D) (after : HeldNode D)
     (kept : IsKept before) (Next : NodeState → Type 0) (left : Left) → NodeGoes old new after (untold kept.node) Next left
     → IsKept (held_with before after before.sync)

@@ -1,4 +1,4 @@
--- Which numbers sessions have behind a step.
+-- Which numbers sessions have after a step.
 use Rattle.std.proofs.Common.{◌≡◌, ℕ, Bool, true, false, if◌then◌else◌, List, [], ◌∷◌, ◌++◌, map, max, Result, Ok, Err, refl, ap, ◌∙◌}
 use Rattle.repl_sync.specs.State.{Session, State, changed, connected, is_numbered, reports, starts, stops, tells}
 use Rattle.repl_sync.specs.Sync as sync
@@ -31,7 +31,7 @@ mapped_numbers change leaves [] = refl
 mapped_numbers change leaves (s ∷ ss) =
     ap (λ k. k ∷ numbers (map change ss)) (leaves s) ∙ ap (λ rest. s.number ∷ rest) (mapped_numbers change leaves ss)
 
--- behind a new timeline, and where waits are cancelled
+-- after a new timeline, and where waits are cancelled
 pub of_timeline : (old new : State) → SyncStep old sync.NewTimeline sync.Done new → numbers new.sessions ≡ numbers old.sessions
 of_timeline old new step =
     ap numbers (step.2.sessions ∙ ap (λ (s : State). s.sessions) step.1) ∙ mapped_numbers stops (λ s. refl) old.sessions
@@ -39,7 +39,7 @@ of_timeline old new step =
 pub of_cancels : (old new : State) → SyncStep old sync.CancelAll sync.Done new → numbers new.sessions ≡ numbers old.sessions
 of_cancels old new step = ap numbers (step.2.sessions ∙ ap (λ (s : State). s.sessions) step.1)
 
--- behind a step that is refused, or changes one session
+-- after a step that is refused, or changes one session
 of_change : (n : ℕ) (change : Session → Session) → Leaves change → (old mid new : State)
     → mid ≡ record old { sessions = changed n change old.sessions } → new.sessions ≡ mid.sessions
     → numbers new.sessions ≡ numbers old.sessions

@@ -1,6 +1,6 @@
 -- A quiet event moves nothing that others wait for.
 use Rattle.std.proofs.Common.{◌≡◌, ◌≢◌, true, false, List, filter, Result, refl, ap, ◌∙◌}
-use Rattle.repl_hub.proofs.Logs.{behind}
+use Rattle.repl_hub.proofs.Logs.{past}
 use Rattle.repl_hub.proofs.Settling.{gives_quietly, looks_quietly, tells_quietly}
 use Rattle.repl_hub.specs.Log.{IsLogRead, OfNode, ReadsLog, TellsHistory}
 use Rattle.repl_hub.specs.Quiet.{awaited, is_quiet, is_waiting}
@@ -33,7 +33,7 @@ same_told : {A : Type 0} (Refuses : NodeFault → Type 0) (Passes : Type 0) (Ans
     → Step Refuses Passes (λ a k. Answers a × (k ≡ n)) (Only n) n result m → TellsTheSame n m
 same_told {A} Refuses Passes Answers n m result step =
     let Done : A → LogState → Type 0 = λ a k. Answers a × (k ≡ n) in
-    behind Refuses Passes Done (Only n) n m (TellsTheSame n) refl refl (λ is. ap told_by is) result (λ a done. ap told_by done.1) step
+    past Refuses Passes Done (Only n) n m (TellsTheSame n) refl refl (λ is. ap told_by is) result (λ a done. ap told_by done.1) step
 
 of_reading : (h m : HubView) (Next : LogState → Type 0) → ((log : LogState) → Next log → TellsTheSame h.node.log log)
     → OfNode h (OfLog h.node Next) m → awaited m ≡ awaited h

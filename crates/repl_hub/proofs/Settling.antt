@@ -1,4 +1,4 @@
--- Where no wait is due behind a change, the tickets stay as it left them: so it is behind questions and what standbys tell of their
+-- Where no wait is due after a change, the tickets stay as it left them: so it is after questions and what standbys tell of their
 -- transactions.
 use Rattle.std.proofs.Common.{◌≡◌, ℕ, zero, suc, ◌<◌, Bool, true, false, cond, not, ◌==◌, if◌then◌else◌, List, [], ◌∷◌, ◌++◌, map, filter, All, AllPairs, Some, Result, Ok, Err, refl, sym, ap, subst, ◌∙◌, append-nil, arith}
 use Rattle.std.specs.List.{AllZip}

@@ -189,7 +189,7 @@ module _ (t end : ℕ) (mode : Mode) (proof : Certificate) where
       → fate_of old.tickets t ≡ Some (Waiting end mode) → Gets new → IsOf end mode proof
   done_by old event reply new h waits got = released_by h.0 new (changes_it t end mode old event reply h.0 h.1 waits) h.2 got
 
-  -- a ticket that waited and is released behind a step has a certificate of its wait
+  -- a ticket that waited and is released after a step has a certificate of its wait
   pub step_releases : (old new : State) (event : Event) (reply : Reply) → SyncStep old event reply new
       → fate_of old.tickets t ≡ Some (Waiting end mode) → Gets new → IsOf end mode proof
   step_releases old new event (Refused fault) h waits got = absurd (not_twice old waits (subst Gets h.1 got))

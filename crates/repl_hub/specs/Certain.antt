@@ -1,4 +1,4 @@
--- What holds of a hub behind every event.
+-- What holds of a hub after every event.
 use Rattle.std.specs.Prelude.{◌≡◌, ℕ, ◌≤◌, ◌⊎◌, All}
 use Rattle.repl_control.specs.declared.control.Role.TheVariants.{Primary}
 use Rattle.repl_hub.specs.State.{HubView}

@@ -83,7 +83,7 @@ IsRead h tli at most result m = OfNode h (OfLog h.node (ReadsLog h.node.log tli 
 abbrev pub IsHistory : HubView → ℕ → Result (List ℕ) NodeFault → HubView → Type 0
 IsHistory h tli result m = OfNode h (OfLog h.node (TellsHistory h.node.log tli result)) m
 
--- behind another timeline no session streams, and no report counts
+-- after another timeline no session streams, and no report counts
 abbrev pub IsFollow : HubView → Path → Result (Unit {0}) NodeFault → HubView → Type 0
 IsFollow h child result m = OfBoth h (Follows h.node.log child result) result sync.NewTimeline m
 

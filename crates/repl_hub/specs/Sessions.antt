@@ -32,7 +32,7 @@ pub record HasRoom (h : HubView) (replication : Bool) : Type 0 where
   pub below : count_kind replication h.links < limit_of replication
   pub left : h.last < LAST_SESSION
 
--- The session has the number behind the last one.
+-- The session has the number after the last one.
 pub record IsConnected (h : HubView) (name : List ℕ) (replication : Bool) (number : ℕ) (m : HubView) : Type 0 where
   pub room : HasRoom h replication
   pub next : number ≡ h.last + 1
@@ -68,7 +68,7 @@ IsStreaming h session tli result m = ((tli ≡ own_timeline h.node.log) × OfSyn
 abbrev pub IsStopStreaming : HubView → ℕ → Result (Unit {0}) SyncFault → HubView → Type 0
 IsStopStreaming h session result m = OfSync h (sync.StopStreaming session) (done result) m
 
--- no position counts behind the flushed end
+-- no position counts past the flushed end
 abbrev pub IsReport : HubView → ℕ → ℕ → ℕ → ℕ → Result (Unit {0}) SyncFault → HubView → Type 0
 IsReport h session written flushed applied result m = let end = flushed_end h.node.log in
     OfSync h (sync.Report session (min written end) (min flushed end) (min applied end)) (done result) m

@@ -30,7 +30,7 @@ IsSlotAcquire h session name result m = CanUse h.node.slots name session result
 abbrev pub IsSlotRelease : HubView → ℕ → HubView → Type 0
 IsSlotRelease h session m = m ≡ slotted h (map (released session) h.node.slots)
 
--- no position counts behind the flushed end
+-- no position counts past the flushed end
 abbrev pub IsSlotConfirm : HubView → ℕ → ℕ → HubView → Type 0
 IsSlotConfirm h session at m = m ≡ slotted h (map (confirmed session (min at (flushed_end h.node.log))) h.node.slots)
 

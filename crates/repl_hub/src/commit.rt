@@ -46,7 +46,7 @@ pub enum CommitFault {
     #[error("disk fault")]
     DiskFault,
     /// The record is flushed here, up to this end, and nobody waits for standbys any more.
-    #[error("cancelled behind {end}")]
+    #[error("cancelled past {end}")]
     Cancelled { end: Lsn },
     #[error("out of memory")]
     Memory,

@@ -1,4 +1,4 @@
-//! What holds behind every event, in whatever order events come.
+//! What holds after every event, in whatever order events come.
 ghost use Rattle.std.specs.Prelude.{◌≡◌, ℕ, true, Some};
 ghost use Rattle.repl_hub.specs.Certain.{AreCertain, FallsOnlyBySwitch, WasFlushed};
 ghost use Rattle.repl_hub.specs.Quiet.{awaited, is_quiet};

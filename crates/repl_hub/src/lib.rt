@@ -3,7 +3,7 @@
 //!
 //! `HubState` takes one `HubEvent` at a time and gives a `HubReply`. `specs/Step.antt` says event by event what becomes of a hub
 //! (`HubStep`), on plain data: the node's own steps (`repl_node`), those of sessions and tickets (`repl_sync`), and what ties both.
-//! No report counts behind the flushed end, a new timeline forgets reports, nobody waits on a standby, and a commit waits only
+//! No report counts past the flushed end, a new timeline forgets reports, nobody waits on a standby, and a commit waits only
 //! where it is flushed. `Hub` is what sessions stand on: whatever makes events in one order, be it a hub of one's own (`SoloHub`)
 //! or one that threads share. `specs/Commit.antt` says which events a commit is, and `commit_on` shows a caller. Questions are
 //! quiet events, for which nobody else is woken (`HubEvent::is_quiet`).

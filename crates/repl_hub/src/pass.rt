@@ -22,7 +22,7 @@ pub trait Hub {
     /// What was seen through the pass.
     ghost known: { Self.Pass → Passed };
 
-    /// Makes an event, behind all that the pass has seen, and replies as a step of a hub does.
+    /// Makes an event, after all that the pass has seen, and replies as a step of a hub does.
     fn act<R: Wait>(&self, rt: &R, pass: &mut Self::Pass, event: HubEvent) -> HubReply
         requires { of self.now pass.old }
         ensures of { of self.now pass.new }

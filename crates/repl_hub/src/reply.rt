@@ -58,7 +58,7 @@ pub enum WaitFault {
     /// The ticket is not one that may wait.
     #[error("the ticket is unknown")]
     Unknown,
-    /// The commit's end lies behind the flushed end, so that it is not certain here.
+    /// The commit's end lies past the flushed end, so that it is not certain here.
     #[error("flushed up to {flushed}")]
     NotFlushed { flushed: Lsn },
 }

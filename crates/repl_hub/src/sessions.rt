@@ -28,7 +28,7 @@ impl<D: Disk> HubState<D> {
         }
     }
 
-    /// A session begins, and gets the number behind the last one. Takes memory for its name, and for the certificates in which
+    /// A session begins, and gets the number after the last one. Takes memory for its name, and for the certificates in which
     /// it may stand.
     pub(crate) fn connect(&mut self, name: &Text, replication: bool) -> Result<u64, ConnectFault>
         ensures steps { (h : HubView) → Holds (D.state self.old.node.wal.store.disk) self.old h →

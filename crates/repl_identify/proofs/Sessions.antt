@@ -24,29 +24,29 @@ use Rattle.repl_wire.proofs.Streams.{read_then, read_more, read_one, spelling_so
 pub walked_none : (r : Reading) (a : Stage) → asks a ≤ r.place → Walked r a r a
 walked_none r a few = record { messages = []; read = (refl, refl); place = refl; lead = refl; few = few }
 
-pub walked_more : (old r new : Reading) (from a b : Stage) (m : Message) (behind : List ℕ) → Walked old from r a
-    → old.place + length old.rest < 2 ^ 64 → Belongs r.phase m → r.rest ≡ spelling m ++ behind
-    → new ≡ record { phase = after r.phase m; place = capped (r.place + length (spelling m)); rest = behind } → Goes a m b
+pub walked_more : (old r new : Reading) (from a b : Stage) (m : Message) (past : List ℕ) → Walked old from r a
+    → old.place + length old.rest < 2 ^ 64 → Belongs r.phase m → r.rest ≡ spelling m ++ past
+    → new ≡ record { phase = after r.phase m; place = capped (r.place + length (spelling m)); rest = past } → Goes a m b
     → Walked old from new b
-walked_more old r new from a b m behind w fits belongs parts next goes =
-    let used : length r.rest ≡ length (spelling m) + length behind = ap length parts ∙ length-append (spelling m) behind in
+walked_more old r new from a b m past w fits belongs parts next goes =
+    let used : length r.rest ≡ length (spelling m) + length past = ap length parts ∙ length-append (spelling m) past in
     let place : capped (r.place + length (spelling m)) ≡ r.place + length (spelling m) = omega (arith, used, w.place, fits) in
     let few = goes_few a b m goes in
     let some = spelling_some m in
     rw next (record {
       messages = w.messages ++ m ∷ [];
-      read = read_then old.phase r.phase (after r.phase m) old.rest r.rest behind w.messages (m ∷ []) w.read
-          (read_one r.phase r.rest behind m belongs parts);
+      read = read_then old.phase r.phase (after r.phase m) old.rest r.rest past w.messages (m ∷ []) w.read
+          (read_one r.phase r.rest past m belongs parts);
       place = omega (arith, place, used, w.place);
       lead = lead_then from a b w.messages (m ∷ []) w.lead (lead_one a b m goes);
       few = omega (arith, place, few, some, w.few);
     })
 
 -- where a message is left, there are fewer than 2^64 - 1
-pub counted_less : (old r : Reading) (from a : Stage) (m : Message) (behind : List ℕ) → Walked old from r a
-    → old.place + length old.rest < 2 ^ 64 → r.rest ≡ spelling m ++ behind → asks a < 2 ^ 64 - 1
-counted_less old r from a m behind w fits parts =
-    omega (arith, w.few, w.place, fits, ap length parts, length-append (spelling m) behind, spelling_some m)
+pub counted_less : (old r : Reading) (from a : Stage) (m : Message) (past : List ℕ) → Walked old from r a
+    → old.place + length old.rest < 2 ^ 64 → r.rest ≡ spelling m ++ past → asks a < 2 ^ 64 - 1
+counted_less old r from a m past w fits parts =
+    omega (arith, w.few, w.place, fits, ap length parts, length-append (spelling m) past, spelling_some m)
 
 -- ---- where it stops
 
@@ -59,15 +59,15 @@ stuck_refused old r from a place f w at wrong = record {
   walked = w;
   at = at;
   some = refused_some r.phase r.rest f wrong;
-  halts = λ more m behind next belongs parts goes. stuck_wrong r.phase r.rest more f wrong m behind belongs parts;
+  halts = λ more m past next belongs parts goes. stuck_wrong r.phase r.rest more f wrong m past belongs parts;
 }
 
 -- the next message leads nowhere
-pub stuck_message : (old r : Reading) (from a : Stage) (place : ℕ) (m : Message) (behind : List ℕ) → Walked old from r a → place ≡ r.place
-    → Belongs r.phase m → r.rest ≡ spelling m ++ behind
+pub stuck_message : (old r : Reading) (from a : Stage) (place : ℕ) (m : Message) (past : List ℕ) → Walked old from r a → place ≡ r.place
+    → Belongs r.phase m → r.rest ≡ spelling m ++ past
     → ((next : Stage) → Goes a m next → ⊥) → Stuck old from place
-stuck_message old r from a place m behind w at belongs parts none =
-    let used : length r.rest ≡ length (spelling m) + length behind = ap length parts ∙ length-append (spelling m) behind in
+stuck_message old r from a place m past w at belongs parts none =
+    let used : length r.rest ≡ length (spelling m) + length past = ap length parts ∙ length-append (spelling m) past in
     let some = spelling_some m in
     record {
       new = r;
@@ -76,15 +76,15 @@ stuck_message old r from a place m behind w at belongs parts none =
       at = at;
       some = λ empty. omega (arith, used, some, ap length empty);
       halts = λ more n other next belongs_n parts_n goes.
-          let longer : r.rest ++ more ≡ spelling m ++ (behind ++ more) = ap (λ (x : List ℕ). x ++ more) parts
-          ∙ append_assoc (spelling m) behind more in
-          let one = front_one r.phase m n (r.rest ++ more) (behind ++ more) other belongs belongs_n longer parts_n in
+          let longer : r.rest ++ more ≡ spelling m ++ (past ++ more) = ap (λ (x : List ℕ). x ++ more) parts
+          ∙ append_assoc (spelling m) past more in
+          let one = front_one r.phase m n (r.rest ++ more) (past ++ more) other belongs belongs_n longer parts_n in
           none next (subst (λ (x : Message). Goes a x next) (sym one.0) goes);
     }
 
 -- ---- the input so far
 
--- the messages of what was fed so far, of which the reader has what is not whole, and the stage behind them
+-- the messages of what was fed so far, of which the reader has what is not whole, and the stage after them
 pub record SoFar (input left : List ℕ) (r : Reading) (a : Stage) : Type 0 where
   pub done : List ℕ
   pub messages : List Message
@@ -168,10 +168,10 @@ refused_from input place ms q rest a read at lead halts unended = record {
   read = read;
   at = at;
   goes_on = stage_begins ms a lead;
-  stops = λ m text behind parts spells begins.
+  stops = λ m text past parts spells begins.
       let goes = begins_goes ms m a lead begins in
-      let whole : rest ≡ spelling m ++ behind = parts ∙ ap (λ (x : List ℕ). x ++ behind) spells.spelled in
-      halts m behind goes.0 spells.belongs whole goes.1;
+      let whole : rest ≡ spelling m ++ past = parts ∙ ap (λ (x : List ℕ). x ++ past) spells.spelled in
+      halts m past goes.0 spells.belongs whole goes.1;
   unended = λ empty some. let o = session_over ms a lead some in unended empty o.0 o.1;
 }
 
@@ -209,7 +209,7 @@ pub refused_end : (input left : List ℕ) (r : Reading) (a : Stage) (place : ℕ
 refused_end input left r a place f none at unended =
     let all = done_all input left r a f none in
     refused_from input place f.messages r.phase r.rest a (rw all at f.read) (omega (arith, at, f.place, ap length all)) f.lead
-    (λ m behind next belongs parts goes. stuck_short r.phase r.rest f.waits m behind belongs parts) unended
+    (λ m past next belongs parts goes. stuck_short r.phase r.rest f.waits m past belongs parts) unended
 
 -- ---- one answer
 

@@ -20,7 +20,7 @@ begins_one ms ns m more longer b =
 pub not_further : (input : List ℕ) (place : ℕ) (r : IsNoSessionAt input place) (ns : List Message) → Further r.last r.rest r.messages ns
     → Begins AreSomeSession ns → ⊥
 not_further input place r ns f b =
-    r.stops f.message (spelling f.message) f.behind f.parts (record { belongs = f.belongs; spelled = refl })
+    r.stops f.message (spelling f.message) f.past f.parts (record { belongs = f.belongs; spelled = refl })
     (begins_one r.messages ns f.message f.more f.longer b)
 
 session_begins : (ms : List Message) → AreSomeSession ms → Begins AreSomeSession ms

@@ -85,6 +85,6 @@ pub record IsNoSessionAt (input : List ℕ) (place : ℕ) : Type 0 where
   pub read : AreRead phase.Startup input messages last rest
   pub at : place + length rest ≡ length input
   pub goes_on : Begins AreSomeSession messages
-  pub stops : (m : Message) (text behind : List ℕ) → rest ≡ text ++ behind → Spells last m text
+  pub stops : (m : Message) (text past : List ℕ) → rest ≡ text ++ past → Spells last m text
       → ¬ Begins AreSomeSession (messages ++ m ∷ [])
   pub unended : rest ≡ [] → ¬ AreSomeSession messages

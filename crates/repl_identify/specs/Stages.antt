@@ -45,7 +45,7 @@ Lead from (m ∷ ms) to = (next : Stage) × Goes from m next × Lead next ms to
 
 -- no message at the front of the bytes leads on
 abbrev pub Halts : Phase → List ℕ → Stage → Type 0
-Halts p bytes from = (m : Message) (behind : List ℕ) (next : Stage) → Belongs p m → bytes ≡ spelling m ++ behind → ¬ Goes from m next
+Halts p bytes from = (m : Message) (past : List ℕ) (next : Stage) → Belongs p m → bytes ≡ spelling m ++ past → ¬ Goes from m next
 
 -- a reader gave messages, which lead from a stage to a later one
 pub record Walked (old : Reading) (from : Stage) (new : Reading) (to : Stage) : Type 0 where

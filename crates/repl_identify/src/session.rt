@@ -29,7 +29,7 @@ pub(crate) fn read_session(alloc: Global, input: &[u8]) -> Result<Session, Refus
     }
 }
 
-/// The stage behind the messages that the reader has whole, which it gives.
+/// The stage after the messages that the reader has whole, which it gives.
 fn walk(alloc: Global, reader: &mut FrameReader, from: Stage) -> Result<Stage, Refused>
     requires fits { reader.old.place + length reader.old.rest ≤ u64.MAX }
     requires few { asks from ≤ reader.old.place }
@@ -49,7 +49,7 @@ fn walk(alloc: Global, reader: &mut FrameReader, from: Stage) -> Result<Stage, R
     }
 }
 
-/// The stage behind a message whose first byte is at this place.
+/// The stage after a message whose first byte is at this place.
 fn advance(alloc: Global, from: Stage, message: Message, place: u64) -> Result<Stage, Refused>
     requires { asks from < usize.MAX }
     ensures leads { IfOk result (λ to. Goes from message to) }

@@ -21,7 +21,7 @@ pub(crate) struct Session {
 /// How far a session has come.
 #[derive(Clone, Copy)]
 pub(crate) enum Stage {
-    /// A startup packet comes, behind so many requests for encryption.
+    /// A startup packet comes, after so many requests for encryption.
     Starting(usize),
     /// Questions come, or the end.
     Asking(Session),
@@ -30,7 +30,7 @@ pub(crate) enum Stage {
 }
 
 impl Stage {
-    /// The stage behind this message, or `None` where no session goes on with it.
+    /// The stage after this message, or `None` where no session goes on with it.
     pub(crate) fn after(self, alloc: Global, message: &Message) -> Result<Option<Stage>, AllocError>
         requires { asks self < usize.MAX }
         ensures { IfOk result (λ found. MatchOption found ((next : Stage) → ¬ Goes self message.now next) (λ next. Goes self message.now next)) }
@@ -43,7 +43,7 @@ impl Stage {
     }
 }
 
-/// The stage behind a packet that follows so many requests.
+/// The stage after a packet that follows so many requests.
 fn after_packet(requests: usize, message: &Message) -> Option<Stage>
     requires { requests < usize.MAX }
     ensures { MatchOption result ((next : Stage) → ¬ Goes (Stage.Starting requests) message.now next) (λ next. Goes (Stage.Starting requests) message.now next) }
@@ -62,7 +62,7 @@ fn after_packet(requests: usize, message: &Message) -> Option<Stage>
     }
 }
 
-/// The stage behind a message of the started session.
+/// The stage after a message of the started session.
 fn after_message(
     alloc: Global,
     session: Session,

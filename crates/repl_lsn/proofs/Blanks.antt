@@ -1,4 +1,4 @@
--- Blanks before a word, the word, and what is behind it.
+-- Blanks before a word, the word, and what is after it.
 use Rattle.std.proofs.Common.{◌≡◌, ℕ, true, false, not, List, [], ◌∷◌, ◌++◌, take, drop, sym, ap, take-append-drop}
 use Rattle.std.proofs.lemmas.Bool.{not-false}
 use Rattle.std.proofs.lemmas.List.Elements.{All-weaker}
@@ -7,7 +7,7 @@ use Rattle.repl_lsn.specs.Line.{is_blank, AreBlank, BeginsInk}
 use Rattle.repl_lsn.specs.History.{IsApart}
 use Rattle.repl_lsn.proofs.Runs.{Stops, run_passes, run_stops, run_is}
 
--- what is behind the blanks with which the bytes begin
+-- what is after the blanks with which the bytes begin
 abbrev pub inked : List ℕ → List ℕ
 inked bytes = drop (prefix_len is_blank bytes) bytes
 
@@ -18,8 +18,8 @@ blanks_of bytes = take (prefix_len is_blank bytes) bytes
 abbrev pub word_of : List ℕ → List ℕ
 word_of bytes = take (position_or_len is_blank bytes) bytes
 
-abbrev pub behind_word : List ℕ → List ℕ
-behind_word bytes = drop (position_or_len is_blank bytes) bytes
+abbrev pub past_word : List ℕ → List ℕ
+past_word bytes = drop (position_or_len is_blank bytes) bytes
 
 stops_from_ink : (bytes : List ℕ) → BeginsInk bytes → Stops is_blank bytes
 stops_from_ink [] h = tt
@@ -50,14 +50,14 @@ pub inked_is : (bytes lead rest : List ℕ) → bytes ≡ lead ++ rest → AreBl
     × (rest ≡ inked bytes)
 inked_is bytes lead rest e blank ink = run_is is_blank bytes lead rest e blank (stops_from_ink rest ink)
 
-pub word_apart : (bytes : List ℕ) → IsApart (behind_word bytes)
-word_apart bytes = apart_from_stops (behind_word bytes) (run_stops (λ c. not (is_blank c)) bytes)
+pub word_apart : (bytes : List ℕ) → IsApart (past_word bytes)
+word_apart bytes = apart_from_stops (past_word bytes) (run_stops (λ c. not (is_blank c)) bytes)
 
-pub word_parts : (bytes : List ℕ) → bytes ≡ word_of bytes ++ behind_word bytes
+pub word_parts : (bytes : List ℕ) → bytes ≡ word_of bytes ++ past_word bytes
 word_parts bytes = sym (take-append-drop (position_or_len is_blank bytes) bytes)
 
-pub word_is : (bytes word behind : List ℕ) → bytes ≡ word ++ behind → All (λ c. is_blank c ≡ false) word → IsApart behind
-    → (word ≡ word_of bytes) × (behind ≡ behind_word bytes)
-word_is bytes word behind e ink apart =
-    run_is (λ c. not (is_blank c)) bytes word behind e (All-weaker (λ c. is_blank c ≡ false) (λ c. not (is_blank c) ≡ true) (λ c h.
-    ap not h) word ink) (stops_from_apart behind apart)
+pub word_is : (bytes word past : List ℕ) → bytes ≡ word ++ past → All (λ c. is_blank c ≡ false) word → IsApart past
+    → (word ≡ word_of bytes) × (past ≡ past_word bytes)
+word_is bytes word past e ink apart =
+    run_is (λ c. not (is_blank c)) bytes word past e (All-weaker (λ c. is_blank c ≡ false) (λ c. not (is_blank c) ≡ true) (λ c h.
+    ap not h) word ink) (stops_from_apart past apart)

@@ -58,16 +58,16 @@ front_names size text tli seg h n = record {
   named = ap (take 24) n.named ∙ take_at (segment_name size tli seg) (codes ".partial") 24 (segment_long size text tli seg h n);
 }
 
-pub behind_is : (size : ℕ) (text : List ℕ) (tli seg : ℕ) → IsSegSize size → NamesPartial size text tli seg → drop 24 text ≡ codes ".partial"
-behind_is size text tli seg h n =
+pub past_is : (size : ℕ) (text : List ℕ) (tli seg : ℕ) → IsSegSize size → NamesPartial size text tli seg → drop 24 text ≡ codes ".partial"
+past_is size text tli seg h n =
     ap (drop 24) n.named ∙ drop_at (segment_name size tli seg) (codes ".partial") 24 (segment_long size text tli seg h n)
 
 pub partial_read : (size : ℕ) (text : List ℕ) (tli seg : ℕ) → Names size (take 24 text) tli seg → drop 24 text ≡ codes ".partial"
     → NamesPartial size text tli seg
-partial_read size text tli seg n behind = record {
+partial_read size text tli seg n past = record {
   timeline = n.timeline;
   fits = n.fits;
-  named = sym (take-append-drop 24 text) ∙ ap (λ x. x ++ drop 24 text) n.named ∙ ap (λ x. segment_name size tli seg ++ x) behind;
+  named = sym (take-append-drop 24 text) ∙ ap (λ x. x ++ drop 24 text) n.named ∙ ap (λ x. segment_name size tli seg ++ x) past;
 }
 
 -- ---- the forms of names
@@ -91,9 +91,9 @@ name_has_form size (history tli) h is =
 -- ---- names that have none of the forms
 
 -- the first byte is a digit
-digit_first : (count : ℕ) (behind name : List ℕ) → 0 < count → HasDigitsAnd count behind name → IsDigit (get_or name 0 0)
-digit_first count behind name some h =
-    subst IsDigit (sym (ap (λ x. get_or x 0 0) h.parts ∙ get_or_append_left h.digits behind 0 0 (omega (arith, h.long))))
+digit_first : (count : ℕ) (past name : List ℕ) → 0 < count → HasDigitsAnd count past name → IsDigit (get_or name 0 0)
+digit_first count past name some h =
+    subst IsDigit (sym (ap (λ x. get_or x 0 0) h.parts ∙ get_or_append_left h.digits past 0 0 (omega (arith, h.long))))
     (All-get_or IsDigit h.digits 0 0 (omega (arith, h.long)) h.are)
 
 pub begins_with_digit : (name : List ℕ) → HasForm name → IsDigit (get_or name 0 0)
@@ -113,11 +113,11 @@ last [] = 0
 last (c ∷ []) = c
 last (c ∷ d ∷ cs) = last (d ∷ cs)
 
-last_append : (front : List ℕ) (c : ℕ) (behind : List ℕ) → last (front ++ c ∷ behind) ≡ last (c ∷ behind)
+last_append : (front : List ℕ) (c : ℕ) (past : List ℕ) → last (front ++ c ∷ past) ≡ last (c ∷ past)
 unfolding last
-last_append [] c behind = refl
-last_append (x ∷ []) c behind = refl
-last_append (x ∷ y ∷ front) c behind = last_append (y ∷ front) c behind
+last_append [] c past = refl
+last_append (x ∷ []) c past = refl
+last_append (x ∷ y ∷ front) c past = last_append (y ∷ front) c past
 
 last_digit : (digits : List ℕ) → 0 < length digits → AreDigits digits → last digits < 97
 unfolding last
@@ -153,20 +153,20 @@ front_of text = ⊎_elim
     (λ l. let e : min (length text) 24 ≡ 24 = omega arith in ap (λ n. take n text) e)
     (cases_lt (length text) 24)
 
-pub behind_of : (text : List ℕ) → drop (min (length text) 24) text ≡ drop 24 text
-behind_of text = ⊎_elim
+pub past_of : (text : List ℕ) → drop (min (length text) 24) text ≡ drop 24 text
+past_of text = ⊎_elim
     (λ l. let e : min (length text) 24 ≡ length text = omega arith in ap (λ n. drop n text) e ∙ drop_all (length text) text (omega arith)
     ∙ sym (drop_all 24 text (omega arith)))
     (λ l. let e : min (length text) 24 ≡ 24 = omega arith in ap (λ n. drop n text) e)
     (cases_lt (length text) 24)
 
--- what a test of the bytes behind them says
+-- what a test of the bytes after them says
 clash : (p q : Bool) → p ≡ not q → p ≡ true → q ≡ true → ⊥
 clash p q e t s = let no : true ≡ false = sym t ∙ e ∙ ap not s in absurd cc
 
-pub behind_tested : (bytes suffix : List ℕ) (differs : Bool) → differs ≡ not (pointwise ◌==◌ bytes suffix) → (differs ≡ true
+pub past_tested : (bytes suffix : List ℕ) (differs : Bool) → differs ≡ not (pointwise ◌==◌ bytes suffix) → (differs ≡ true
     → bytes ≡ suffix → ⊥) × (differs ≡ false → bytes ≡ suffix)
-behind_tested bytes suffix differs e =
+past_tested bytes suffix differs e =
     let test = bytes_eq-Decides bytes suffix in (
       λ t same. clash differs (pointwise ◌==◌ bytes suffix) e t (test.1 same),
       λ f. test.0 (not-false (pointwise ◌==◌ bytes suffix) (sym e ∙ f)),

@@ -16,8 +16,8 @@ use Rattle.repl_lsn.proofs.Names.{part_is, numbers_of, one_segment}
 pub front_is : (text : List ℕ) (tli : ℕ) → NamesHistory text tli → take 8 text ≡ eight tli
 front_is text tli n = ap (take 8) n.named ∙ take_at (eight tli) (codes ".history") 8 (length_eight tli n.timeline.1)
 
-pub behind_is : (text : List ℕ) (tli : ℕ) → NamesHistory text tli → drop 8 text ≡ codes ".history"
-behind_is text tli n = ap (drop 8) n.named ∙ drop_at (eight tli) (codes ".history") 8 (length_eight tli n.timeline.1)
+pub past_is : (text : List ℕ) (tli : ℕ) → NamesHistory text tli → drop 8 text ≡ codes ".history"
+past_is text tli n = ap (drop 8) n.named ∙ drop_at (eight tli) (codes ".history") 8 (length_eight tli n.timeline.1)
 
 pub long_name : (text : List ℕ) (tli : ℕ) → NamesHistory text tli → length text ≡ 16
 long_name text tli n = ap length n.named ∙ omega (arith, length-append (eight tli) (codes ".history"), length_eight tli n.timeline.1)
@@ -44,7 +44,7 @@ lacks_none text tli place n h =
     (All-drop IsDigit place (take (place + 1) text) before) in
     ⊎_elim (λ lacking. lacking here) (λ e. omega (arith, long, h.few, e)) h.none
 
--- what the test of the bytes behind the digits says
+-- what the test of the bytes after the digits says
 clash : (p q : Bool) → p ≡ not q → p ≡ true → q ≡ true → ⊥
 clash p q e t s = let no : true ≡ false = sym t ∙ e ∙ ap not s in absurd cc
 
@@ -54,18 +54,18 @@ pub suffix_tested : (text : List ℕ) (differs : Bool) → differs ≡ not (poin
 suffix_tested text differs e =
     let bytes : List ℕ = take (length text - 8) (drop 8 text) in
     let test = bytes_eq-Decides bytes (codes ".history") in (
-      λ t behind. clash differs (pointwise ◌==◌ bytes (codes ".history")) e t (test.1 (take_rest text 8 ∙ behind)),
+      λ t past. clash differs (pointwise ◌==◌ bytes (codes ".history")) e t (test.1 (take_rest text 8 ∙ past)),
       λ f. sym (take_rest text 8) ∙ test.0 (not-false (pointwise ◌==◌ bytes (codes ".history")) (sym e ∙ f)),
     )
 
--- digits and what stands behind them are a name
+-- digits and what stands after them are a name
 pub name_read : (text : List ℕ) (number : ℕ) → IsNumberAt text 0 number → 0 < number → drop 8 text ≡ codes ".history"
     → NamesHistory text number
-name_read text number h some behind =
+name_read text number h some past =
     let long : length (take 8 text) ≡ 8 = length-take-le 8 text (omega (arith, h.within)) in
     record {
       timeline = (some, let small = eight_fits (take 8 text) long h.digits in omega (arith, h.value, small));
-      named = sym (take-append-drop 8 text) ∙ ap (λ x. x ++ drop 8 text) (part_is text 0 number h) ∙ ap (λ x. eight number ++ x) behind;
+      named = sym (take-append-drop 8 text) ∙ ap (λ x. x ++ drop 8 text) (part_is text 0 number h) ∙ ap (λ x. eight number ++ x) past;
     }
 
 -- ---- files

@@ -6,15 +6,15 @@ use Rattle.std.proofs.lemmas.List.{map-append, get_or_at}
 use Rattle.std.proofs.Math.Seq.{take-append_seam}
 use Rattle.repl_lsn.specs.declared.history.Part.{Part}
 use Rattle.repl_lsn.specs.History.{Path, IsPath, InOrder, last_switch}
-use Rattle.repl_lsn.specs.Path.{Holds, IsBelow, IsOn, EndsAt, IsChild, IsUpTo, IsNext, StandsBehind, step, steps, holder, timeline_at, first_of}
+use Rattle.repl_lsn.specs.Path.{Holds, IsBelow, IsOn, EndsAt, IsChild, IsUpTo, IsNext, StandsPast, step, steps, holder, timeline_at, first_of}
 use Rattle.repl_lsn.proofs.Timelines.{one_on}
 use Rattle.repl_lsn.proofs.Relations.{on_child}
 
 holder_here : (own : ℕ) (p : Part) (ps : List Part) (at : ℕ) → at < p.switch → holder own (p ∷ ps) at ≡ p.tli
 holder_here own p ps at h = grind (arith, nat_tests)
 
-holder_behind : (own : ℕ) (p : Part) (ps : List Part) (at : ℕ) → p.switch ≤ at → holder own (p ∷ ps) at ≡ holder own ps at
-holder_behind own p ps at h = grind (arith, nat_tests)
+holder_past : (own : ℕ) (p : Part) (ps : List Part) (at : ℕ) → p.switch ≤ at → holder own (p ∷ ps) at ≡ holder own ps at
+holder_past own p ps at h = grind (arith, nat_tests)
 
 -- ---- it holds the position
 
@@ -26,7 +26,7 @@ held own origin (p ∷ ps) at h =
     (λ (l : at < p.switch). (origin, Some p.switch, inl (holder_here own p ps at l, refl, refl), h, l))
     (λ (l : p.switch ≤ at).
     let r = held own p.switch ps at l in
-    (r.0, r.1, inr (subst (λ n. Holds p.switch ps own n r.0 r.1) (sym (holder_behind own p ps at l)) r.2), r.3, r.4))
+    (r.0, r.1, inr (subst (λ n. Holds p.switch ps own n r.0 r.1) (sym (holder_past own p ps at l)) r.2), r.3, r.4))
     (cases_lt at p.switch)
 
 pub holder_on : (path : Path) (at : ℕ) → IsOn path (timeline_at path at) at
@@ -45,9 +45,9 @@ first_below_last own p (q ∷ ps) order = omega (arith, order.1, first_below_las
 
 pub own_holder : (own : ℕ) (ps : List Part) (at : ℕ) → InOrder own ps → last_switch ps ≤ at → holder own ps at ≡ own
 own_holder own [] at order h = refl
-own_holder own (p ∷ []) at order h = holder_behind own p [] at h
+own_holder own (p ∷ []) at order h = holder_past own p [] at h
 own_holder own (p ∷ q ∷ ps) at order h =
-    holder_behind own p (q ∷ ps) at (omega (arith, order.1, first_below_last own q ps order.2)) ∙ own_holder own (q ∷ ps) at order.2 h
+    holder_past own p (q ∷ ps) at (omega (arith, order.1, first_below_last own q ps order.2)) ∙ own_holder own (q ∷ ps) at order.2 h
 
 -- ---- a child agrees
 
@@ -97,16 +97,16 @@ next_starts path tli next h =
 
 -- ---- a timeline that was left, by how many stand before it
 
-stands_before : (path : Path) (tli place : ℕ) (h : StandsBehind path tli place) → take place path.parents ≡ h.0
+stands_before : (path : Path) (tli place : ℕ) (h : StandsPast path tli place) → take place path.parents ≡ h.0
 stands_before path tli place h =
     ap (take place) h.3 ∙ ap (λ n. take n (h.0 ++ h.1 ∷ h.2)) (sym h.5) ∙ take-append_seam h.0 (h.1 ∷ h.2)
 
-pub stands_in_order : (path : Path) (tli place : ℕ) → IsPath path → StandsBehind path tli place → InOrder tli (take place path.parents)
+pub stands_in_order : (path : Path) (tli place : ℕ) → IsPath path → StandsPast path tli place → InOrder tli (take place path.parents)
 stands_in_order path tli place order h =
     let up = order_up_to path.own h.0 h.1 h.2 (subst (InOrder path.own) h.3 order) in
     subst (InOrder tli) (sym (stands_before path tli place h)) (subst (λ n. InOrder n h.0) h.4 up)
 
-pub stands_up_to : (path history : Path) (tli place : ℕ) → StandsBehind path tli place → history.own ≡ tli
+pub stands_up_to : (path history : Path) (tli place : ℕ) → StandsPast path tli place → history.own ≡ tli
     → history.parents ≡ take place path.parents → IsUpTo path tli history
 stands_up_to path history tli place h own parents =
     let before : history.parents ≡ h.0 = parents ∙ stands_before path tli place h in
@@ -122,7 +122,7 @@ next_at path tli place x p before (q ∷ after) parts number size more at =
     let is : x ≡ q = at ∙ ap (λ ps. get_or ps (place + 1) x) cut ∙ get_or_at (before ++ p ∷ []) q after x (place + 1) front in
     (before, p, q ∷ after, parts, number, ap (λ (r : Part). r.tli) is)
 
-pub stands_next : (path : Path) (tli place : ℕ) (x : Part) → StandsBehind path tli place → place + 1 < length path.parents
+pub stands_next : (path : Path) (tli place : ℕ) (x : Part) → StandsPast path tli place → place + 1 < length path.parents
     → x ≡ get_or path.parents (place + 1) x → IsNext path tli x.tli
 stands_next path tli place x h more at = next_at path tli place x h.1 h.0 h.2 h.3 h.4 h.5 more at
 
@@ -132,5 +132,5 @@ own_next path tli place p before [] parts number size last = (before, p, [], par
 own_next path tli place p before (q ∷ after) parts number size last =
     absurd (omega (arith, ap length parts, length-append before (p ∷ q ∷ after)))
 
-pub stands_last : (path : Path) (tli place : ℕ) → StandsBehind path tli place → length path.parents ≤ place + 1 → IsNext path tli path.own
+pub stands_last : (path : Path) (tli place : ℕ) → StandsPast path tli place → length path.parents ≤ place + 1 → IsNext path tli path.own
 stands_last path tli place h last = own_next path tli place h.1 h.0 h.2 h.3 h.4 h.5 last

@@ -30,9 +30,9 @@ ends_tail c [] h = tt
 ends_tail c (d ∷ cs) h = h
 
 -- bytes that end with no blank are not all blank
-not_blank : (c : ℕ) (cs behind : List ℕ) → EndsInk (c ∷ cs) → AreBlank ((c ∷ cs) ++ behind) → ⊥
-not_blank c [] behind h blank = both_ways (is_blank c) h (All-head (λ b. is_blank b ≡ true) c behind blank)
-not_blank c (d ∷ cs) behind h blank = not_blank d cs behind h (All-tail (λ b. is_blank b ≡ true) c ((d ∷ cs) ++ behind) blank)
+not_blank : (c : ℕ) (cs past : List ℕ) → EndsInk (c ∷ cs) → AreBlank ((c ∷ cs) ++ past) → ⊥
+not_blank c [] past h blank = both_ways (is_blank c) h (All-head (λ b. is_blank b ≡ true) c past blank)
+not_blank c (d ∷ cs) past h blank = not_blank d cs past h (All-tail (λ b. is_blank b ≡ true) c ((d ∷ cs) ++ past) blank)
 
 one_tail : (a b c d : List ℕ) → EndsInk a → EndsInk b → AreBlank c → AreBlank d → a ++ c ≡ b ++ d → a ≡ b
 one_tail [] [] c d h k p q e = refl
@@ -49,9 +49,9 @@ begins_take zero bytes h = tt
 begins_take (suc n) [] h = tt
 begins_take (suc n) (c ∷ cs) h = h
 
-blank_behind : (a b : List ℕ) → AreBlank (a ++ b) → AreBlank b
-blank_behind [] b h = h
-blank_behind (c ∷ a) b h = blank_behind a b (All-tail (λ x. is_blank x ≡ true) c (a ++ b) h)
+blank_past : (a b : List ℕ) → AreBlank (a ++ b) → AreBlank b
+blank_past [] b h = h
+blank_past (c ∷ a) b h = blank_past a b (All-tail (λ x. is_blank x ≡ true) c (a ++ b) h)
 
 all_blank : (bytes : List ℕ) → IsReason bytes [] → AreBlank bytes
 all_blank bytes p = subst AreBlank (sym (p.parts ∙ append_assoc p.front [] p.back)) (All-append (λ c. is_blank c ≡ true) p.front p.back
@@ -59,7 +59,7 @@ all_blank bytes p = subst AreBlank (sym (p.parts ∙ append_assoc p.front [] p.b
 
 not_all_blank : (bytes : List ℕ) (c : ℕ) (cs : List ℕ) → AreBlank bytes → IsReason bytes (c ∷ cs) → ⊥
 not_all_blank bytes c cs blank p =
-    not_blank c cs p.back (p.line).ends (blank_behind p.front ((c ∷ cs) ++ p.back) (subst AreBlank (p.parts
+    not_blank c cs p.back (p.line).ends (blank_past p.front ((c ∷ cs) ++ p.back) (subst AreBlank (p.parts
     ∙ append_assoc p.front (c ∷ cs) p.back) blank))
 
 -- what is left of the blanks of one text is one

@@ -12,7 +12,7 @@ use Rattle.repl_lsn.specs.Line.{is_blank, AreBlank, BeginsInk}
 use Rattle.repl_lsn.specs.Position.{Spells}
 use Rattle.repl_lsn.specs.History.{IsApart, HasNumber, HasSwitch}
 use Rattle.repl_lsn.proofs.Splits.{one_position}
-use Rattle.repl_lsn.proofs.Blanks.{inked, blanks_of, word_of, behind_word, blanks_blank, inked_parts, inked_is, word_apart, word_parts, word_is}
+use Rattle.repl_lsn.proofs.Blanks.{inked, blanks_of, word_of, past_word, blanks_blank, inked_parts, inked_is, word_apart, word_parts, word_is}
 
 -- digits are no blanks
 
@@ -42,22 +42,22 @@ position_some : (text : List ℕ) (position : ℕ) → Spells text position → 
 position_some text position p = omega (arith, ap length p.parts, length-append p.high (47 ∷ p.low), p.high_is.some)
 
 -- a word without blanks begins with none
-begins_word : (word behind : List ℕ) → All (λ c. is_blank c ≡ false) word → 0 < length word → BeginsInk (word ++ behind)
-begins_word [] behind inks some = absurd (omega arith)
-begins_word (c ∷ cs) behind inks some = All-head (λ c. is_blank c ≡ false) c cs inks
+begins_word : (word past : List ℕ) → All (λ c. is_blank c ≡ false) word → 0 < length word → BeginsInk (word ++ past)
+begins_word [] past inks some = absurd (omega arith)
+begins_word (c ∷ cs) past inks some = All-head (λ c. is_blank c ≡ false) c cs inks
 
--- a word behind blanks is the one that is cut there
-pub word_behind : (bytes lead word behind : List ℕ) → bytes ≡ (lead ++ word) ++ behind → AreBlank lead → All (λ c. is_blank c ≡ false) word
-    → 0 < length word → IsApart behind
-    → (word ≡ word_of (inked bytes)) × (behind ≡ behind_word (inked bytes))
-word_behind bytes lead word behind e blank inks some apart =
-    let rest = inked_is bytes lead (word ++ behind) (e ∙ append_assoc lead word behind) blank (begins_word word behind inks some) in
-    word_is (inked bytes) word behind (sym rest.1) inks apart
+-- a word after blanks is the one that is cut there
+pub word_past : (bytes lead word past : List ℕ) → bytes ≡ (lead ++ word) ++ past → AreBlank lead → All (λ c. is_blank c ≡ false) word
+    → 0 < length word → IsApart past
+    → (word ≡ word_of (inked bytes)) × (past ≡ past_word (inked bytes))
+word_past bytes lead word past e blank inks some apart =
+    let rest = inked_is bytes lead (word ++ past) (e ∙ append_assoc lead word past) blank (begins_word word past inks some) in
+    word_is (inked bytes) word past (sym rest.1) inks apart
 
-pub cut_parts : (bytes : List ℕ) → bytes ≡ (blanks_of bytes ++ word_of (inked bytes)) ++ behind_word (inked bytes)
+pub cut_parts : (bytes : List ℕ) → bytes ≡ (blanks_of bytes ++ word_of (inked bytes)) ++ past_word (inked bytes)
 cut_parts bytes =
     inked_parts bytes ∙ ap (λ rest. blanks_of bytes ++ rest) (word_parts (inked bytes))
-    ∙ sym (append_assoc (blanks_of bytes) (word_of (inked bytes)) (behind_word (inked bytes)))
+    ∙ sym (append_assoc (blanks_of bytes) (word_of (inked bytes)) (past_word (inked bytes)))
 
 -- numbers
 
@@ -67,7 +67,7 @@ pub record IsNumber (word : List ℕ) (n : ℕ) : Type 0 where
   pub value : n ≡ digits_value 10 word
   pub in_range : (0 < n) × (n < 2 ^ 32)
 
-pub has_number : (line : List ℕ) (n : ℕ) → IsNumber (word_of (inked line)) n → HasNumber line n (behind_word (inked line))
+pub has_number : (line : List ℕ) (n : ℕ) → IsNumber (word_of (inked line)) n → HasNumber line n (past_word (inked line))
 has_number line n h = record {
   lead = blanks_of line;
   number = word_of (inked line);
@@ -80,11 +80,11 @@ has_number line n h = record {
   apart = word_apart (inked line);
 }
 
-pub number_is : (line : List ℕ) (n : ℕ) (behind : List ℕ) → HasNumber line n behind → IsNumber (word_of (inked line)) n
-    × (behind ≡ behind_word (inked line))
-number_is line n behind h =
+pub number_is : (line : List ℕ) (n : ℕ) (past : List ℕ) → HasNumber line n past → IsNumber (word_of (inked line)) n
+    × (past ≡ past_word (inked line))
+number_is line n past h =
     let inks = All-weaker (λ c. is_ascii_digit c ≡ true) (λ c. is_blank c ≡ false) digit_inks h.number h.digits in
-    let w = word_behind line h.lead h.number behind h.parts h.blank inks h.some h.apart in
+    let w = word_past line h.lead h.number past h.parts h.blank inks h.some h.apart in
     (subst (λ word. IsNumber word n) w.0 (record { digits = h.digits; some = h.some; value = h.value; in_range = h.in_range }), w.1)
 
 pub one_number : (line : List ℕ) (m n : ℕ) (a b : List ℕ) → HasNumber line m a → HasNumber line n b → (m ≡ n) × (a ≡ b)
@@ -102,7 +102,7 @@ gap_some (c ∷ cs) apart some =
     omega (arith, length-take-le (prefix_len is_blank (c ∷ cs)) (c ∷ cs) (prefix_len-le-length is_blank (c ∷ cs)), more)
 
 pub has_switch : (bytes : List ℕ) (switch : ℕ) → IsApart bytes → Spells (word_of (inked bytes)) switch
-    → HasSwitch bytes switch (behind_word (inked bytes))
+    → HasSwitch bytes switch (past_word (inked bytes))
 has_switch bytes switch apart h = record {
   gap = blanks_of bytes;
   position = word_of (inked bytes);
@@ -113,10 +113,10 @@ has_switch bytes switch apart h = record {
   apart = word_apart (inked bytes);
 }
 
-pub switch_is : (bytes : List ℕ) (switch : ℕ) (behind : List ℕ) → HasSwitch bytes switch behind → Spells (word_of (inked bytes)) switch
-    × (behind ≡ behind_word (inked bytes))
-switch_is bytes switch behind h =
-    let w = word_behind bytes h.gap h.position behind h.parts h.blank (position_inks h.position switch h.spelled)
+pub switch_is : (bytes : List ℕ) (switch : ℕ) (past : List ℕ) → HasSwitch bytes switch past → Spells (word_of (inked bytes)) switch
+    × (past ≡ past_word (inked bytes))
+switch_is bytes switch past h =
+    let w = word_past bytes h.gap h.position past h.parts h.blank (position_inks h.position switch h.spelled)
     (position_some h.position switch h.spelled) h.apart in
     (subst (λ word. Spells word switch) w.0 h.spelled, w.1)
 

@@ -121,17 +121,17 @@ are_lines (c ∷ cs) = ⊎_elim
 
 -- ---- the first of them
 
-pub record Splits (text line behind : List ℕ) : Type 0 where
-  pub first : lines_of text ≡ line ∷ lines_of behind
-  pub shorter : length behind < length text
+pub record Splits (text line past : List ℕ) : Type 0 where
+  pub first : lines_of text ≡ line ∷ lines_of past
+  pub shorter : length past < length text
 
-pub split_first : (text line behind : List ℕ) → 0 < length text → IsSingle line → (text ≡ line ++ 10 ∷ behind)
-    ⊎ ((text ≡ line) × (behind ≡ [])) → Splits text line behind
-split_first text line behind some one parts = ⊎_elim
+pub split_first : (text line past : List ℕ) → 0 < length text → IsSingle line → (text ≡ line ++ 10 ∷ past)
+    ⊎ ((text ≡ line) × (past ≡ [])) → Splits text line past
+split_first text line past some one parts = ⊎_elim
     (λ e.
     record {
-      first = ap lines_of e ∙ line_then line behind one;
-      shorter = omega (arith, ap length e, length-append line (10 ∷ behind));
+      first = ap lines_of e ∙ line_then line past one;
+      shorter = omega (arith, ap length e, length-append line (10 ∷ past));
     })
     (λ e.
     record {

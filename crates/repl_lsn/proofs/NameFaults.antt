@@ -62,9 +62,9 @@ fault_of_low size text timeline high low t some i l large = inr (inr (inl (
   omega (arith, l.value),
 )))
 
-pub fault_behind : (size : ℕ) (text : List ℕ) (timeline high low : ℕ) → IsNumberAt text 0 timeline → 0 < timeline → IsNumberAt text 8 high
+pub fault_past : (size : ℕ) (text : List ℕ) (timeline high low : ℕ) → IsNumberAt text 0 timeline → 0 < timeline → IsNumberAt text 8 high
     → IsNumberAt text 16 low → low < in_four_gib size → 24 < length text → IsNameFault size text 24
-fault_behind size text timeline high low t some i l below more =
+fault_past size text timeline high low t some i l below more =
     inr (inr (inr (refl, more, three_numbers text timeline high low t i l, omega (arith, t.value), omega (arith, l.value))))
 
 -- a name lacks no digit

@@ -62,4 +62,4 @@ pub in_order_item : (own : ℕ) (parts : List Part) (i : ℕ) (p : Part) → i <
 in_order_item own parts i p l e some h =
     let rest : drop i parts ≡ p ∷ drop (i + 1) parts = drop_more parts i p l ∙ ap (λ q. q ∷ drop (i + 1) parts) (sym e) in
     in_order_at own (take i parts) p (drop (i + 1) parts) some (subst (InOrder own) (sym (take-append-drop i parts)
-    ∙ ap (λ behind. take i parts ++ behind) rest) h)
+    ∙ ap (λ past. take i parts ++ past) rest) h)

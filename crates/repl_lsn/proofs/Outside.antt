@@ -38,13 +38,13 @@ use Rattle.repl_lsn.proofs.Reading.{Reads}
 abbrev pub Known : List ℕ → ℕ → ℕ → List Part → Option ℕ → Type 0
 Known text least most parts outside = MatchOption outside (AreBetween least most parts) (λ at. LiesOutside text least most at)
 
-pub outside_here : (own least most : ℕ) (text rest : List ℕ) (place : ℕ) (parts : List Part) (line behind : List ℕ) (p : Part)
-    → Reads own text rest place parts → Splits rest line behind → AreBetween least most parts → SaysPart line p → ¬ IsBetween least most p
+pub outside_here : (own least most : ℕ) (text rest : List ℕ) (place : ℕ) (parts : List Part) (line past : List ℕ) (p : Part)
+    → Reads own text rest place parts → Splits rest line past → AreBetween least most parts → SaysPart line p → ¬ IsBetween least most p
     → LiesOutside text least most (place + 1)
-outside_here own least most text rest place parts line behind p r cut between says outside = record {
+outside_here own least most text rest place parts line past p r cut between says outside = record {
   before = r.before;
   line = line;
-  after = lines_of behind;
+  after = lines_of past;
   parts = parts;
   part = p;
   are = subst (AreLines text) (r.lines ∙ ap (λ lines. r.before ++ lines) cut.first) (are_lines text);
@@ -55,25 +55,25 @@ outside_here own least most text rest place parts line behind p r cut between sa
   place = ap (λ n. n + 1) r.count;
 }
 
-pub known_more : (own least most : ℕ) (text rest : List ℕ) (place : ℕ) (parts : List Part) (line behind : List ℕ) (p : Part)
-    (before after : Option ℕ) → Reads own text rest place parts → Splits rest line behind → Known text least most parts before
+pub known_more : (own least most : ℕ) (text rest : List ℕ) (place : ℕ) (parts : List Part) (line past : List ℕ) (p : Part)
+    (before after : Option ℕ) → Reads own text rest place parts → Splits rest line past → Known text least most parts before
     → SaysPart line p
     → MatchOption after ((before ≡ None) × (least ≤ p.switch) × (p.switch ≤ most)) (λ at. (before ≡ Some at)
     ⊎ ((before ≡ None) × (at ≡ place + 1) × ¬ ((least ≤ p.switch) × (p.switch ≤ most))))
     → Known text least most (parts ++ p ∷ []) after
-known_more own least most text rest place parts line behind p before None r cut known says h =
+known_more own least most text rest place parts line past p before None r cut known says h =
     let between : AreBetween least most parts = subst (Known text least most parts) h.0 known in
     All-append (IsBetween least most) parts (p ∷ []) between (All-cons (IsBetween least most) p [] (h.1, h.2)
     (All-nil (IsBetween least most)))
-known_more own least most text rest place parts line behind p before (Some at) r cut known says (inl e) =
+known_more own least most text rest place parts line past p before (Some at) r cut known says (inl e) =
     subst (Known text least most parts) e known
-known_more own least most text rest place parts line behind p before (Some at) r cut known says (inr h) =
+known_more own least most text rest place parts line past p before (Some at) r cut known says (inr h) =
     let between : AreBetween least most parts = subst (Known text least most parts) h.0 known in
-    subst (LiesOutside text least most) (sym h.1) (outside_here own least most text rest place parts line behind p r cut between says h.2)
+    subst (LiesOutside text least most) (sym h.1) (outside_here own least most text rest place parts line past p r cut between says h.2)
 
 -- ---- one such line
 
--- what the lines behind the first say lies within too
+-- what the lines after the first say lies within too
 rest_within : (least most : ℕ) (line : List ℕ) (lines : List (List ℕ)) (parts : List Part) → SayParts (line ∷ lines) parts
     → AreBetween least most parts → (others : List Part) × SayParts lines others × AreBetween least most others
 rest_within least most line lines parts (inl h) between = (parts, h.1, between)
@@ -94,7 +94,7 @@ same_head a b more rest e = cc
 same_tail : {A : Type 0} (a b : A) (more rest : List A) → a ∷ more ≡ b ∷ rest → more ≡ rest
 same_tail a b more rest e = cc
 
--- lines that say parts within, and behind them one that says a part outside
+-- lines that say parts within, and after them one that says a part outside
 record Leads (least most : ℕ) (before : List (List ℕ)) (line : List ℕ) : Type 0 where
   parts : List Part
   part : Part
@@ -142,9 +142,9 @@ pub none_outside : (text : List ℕ) (path : Path) (least most at : ℕ) → Say
 none_outside text path least most at r between o =
     let lines = lines_are text r.says.lines r.says.are ∙ sym (lines_are text (o.before ++ o.line ∷ o.after) o.are) in
     let s = say_split o.before (o.line ∷ o.after) path.parents (subst (λ x. SayParts x path.parents) lines r.says.say) in
-    not_first least most o.line o.after s.1 o.part s.4 (behind_within least most s.0 s.1 (subst (AreBetween least most) s.2 between)) o.says
+    not_first least most o.line o.after s.1 o.part s.4 (past_within least most s.0 s.1 (subst (AreBetween least most) s.2 between)) o.says
     o.outside
   where
-    behind_within : (least most : ℕ) (a b : List Part) → AreBetween least most (a ++ b) → AreBetween least most b
-    behind_within least most [] b h = h
-    behind_within least most (p ∷ a) b h = behind_within least most a b (All-tail (IsBetween least most) p (a ++ b) h)
+    past_within : (least most : ℕ) (a b : List Part) → AreBetween least most (a ++ b) → AreBetween least most b
+    past_within least most [] b h = h
+    past_within least most (p ∷ a) b h = past_within least most a b (All-tail (IsBetween least most) p (a ++ b) h)

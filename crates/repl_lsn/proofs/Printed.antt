@@ -65,7 +65,7 @@ line_says p h =
     let small : p.tli < 2 ^ 64 = omega (arith, h.number.1) in
     let numeral = decimal_is_IsNumeral p.tli small in
     record {
-      behind = (9 ∷ position_text p.switch) ++ (9 ∷ p.reason);
+      past = (9 ∷ position_text p.switch) ++ (9 ∷ p.reason);
       rest = 9 ∷ p.reason;
       number =
           record {

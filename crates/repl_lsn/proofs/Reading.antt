@@ -21,29 +21,29 @@ pub record Reads (own : ℕ) (text rest : List ℕ) (place : ℕ) (parts : List 
 pub reads_none : (own : ℕ) (text : List ℕ) → Reads own text text 0 []
 reads_none own text = record { before = []; lines = refl; count = refl; room = omega arith; say = refl; in_order = tt }
 
-before_more : (text rest line behind : List ℕ) (before : List (List ℕ)) → lines_of text ≡ before ++ lines_of rest
-    → lines_of rest ≡ line ∷ lines_of behind → lines_of text ≡ (before ++ line ∷ []) ++ lines_of behind
-before_more text rest line behind before e first = e ∙ ap (λ lines. before ++ lines) first
-    ∙ sym (append_assoc before (line ∷ []) (lines_of behind))
+before_more : (text rest line past : List ℕ) (before : List (List ℕ)) → lines_of text ≡ before ++ lines_of rest
+    → lines_of rest ≡ line ∷ lines_of past → lines_of text ≡ (before ++ line ∷ []) ++ lines_of past
+before_more text rest line past before e first = e ∙ ap (λ lines. before ++ lines) first
+    ∙ sym (append_assoc before (line ∷ []) (lines_of past))
 
-pub reads_ignored : (own : ℕ) (text rest : List ℕ) (place : ℕ) (parts : List Part) (line behind : List ℕ) → Reads own text rest place parts
-    → Splits rest line behind
-    → IsIgnored line → Reads own text behind (place + 1) parts
-reads_ignored own text rest place parts line behind r cut ignored = record {
+pub reads_ignored : (own : ℕ) (text rest : List ℕ) (place : ℕ) (parts : List Part) (line past : List ℕ) → Reads own text rest place parts
+    → Splits rest line past
+    → IsIgnored line → Reads own text past (place + 1) parts
+reads_ignored own text rest place parts line past r cut ignored = record {
   before = r.before ++ line ∷ [];
-  lines = before_more text rest line behind r.before r.lines cut.first;
+  lines = before_more text rest line past r.before r.lines cut.first;
   count = omega (arith, r.count, length-append r.before (line ∷ []));
   room = omega (arith, r.room, cut.shorter);
   say = say_ignored r.before line parts r.say ignored;
   in_order = r.in_order;
 }
 
-pub reads_part : (own : ℕ) (text rest : List ℕ) (place : ℕ) (parts : List Part) (line behind : List ℕ) (p : Part)
-    → Reads own text rest place parts → Splits rest line behind
-    → SaysPart line p → InOrder own (parts ++ p ∷ []) → Reads own text behind (place + 1) (parts ++ p ∷ [])
-reads_part own text rest place parts line behind p r cut says in_order = record {
+pub reads_part : (own : ℕ) (text rest : List ℕ) (place : ℕ) (parts : List Part) (line past : List ℕ) (p : Part)
+    → Reads own text rest place parts → Splits rest line past
+    → SaysPart line p → InOrder own (parts ++ p ∷ []) → Reads own text past (place + 1) (parts ++ p ∷ [])
+reads_part own text rest place parts line past p r cut says in_order = record {
   before = r.before ++ line ∷ [];
-  lines = before_more text rest line behind r.before r.lines cut.first;
+  lines = before_more text rest line past r.before r.lines cut.first;
   count = omega (arith, r.count, length-append r.before (line ∷ []));
   room = omega (arith, r.room, cut.shorter);
   say = say_part r.before line parts p r.say says;
@@ -62,13 +62,13 @@ reads_all own text place parts short r = record {
   is_path = r.in_order;
 }
 
-pub reads_wrong : (own : ℕ) (text rest : List ℕ) (place : ℕ) (parts : List Part) (line behind : List ℕ) (f : HistoryFault)
-    → length text ≤ HISTORY_LIMIT → Reads own text rest place parts → Splits rest line behind
+pub reads_wrong : (own : ℕ) (text rest : List ℕ) (place : ℕ) (parts : List Part) (line past : List ℕ) (f : HistoryFault)
+    → length text ≤ HISTORY_LIMIT → Reads own text rest place parts → Splits rest line past
     → IsLineFault own parts line (place + 1) f → BreaksAt own text f
-reads_wrong own text rest place parts line behind f short r cut wrong = record {
+reads_wrong own text rest place parts line past f short r cut wrong = record {
   before = r.before;
   line = line;
-  after = lines_of behind;
+  after = lines_of past;
   parts = parts;
   short = short;
   are = subst (AreLines text) (r.lines ∙ ap (λ lines. r.before ++ lines) cut.first) (are_lines text);

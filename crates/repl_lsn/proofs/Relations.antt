@@ -91,12 +91,12 @@ held_by_child (p ∷ ps) (q ∷ qs) more own other origin switch at tli start en
     let number : q.tli ≡ p.tli = ap (λ (x : Step). x.tli) s in
     let left : q.switch ≡ p.switch = ap (λ (x : Step). x.switch) s in
     (end, inl (here.0 ∙ sym number, here.1, here.2 ∙ ap Some (sym left)), below)
-held_by_child (p ∷ ps) (q ∷ qs) more own other origin switch at tli start end e h (inr behind) below =
+held_by_child (p ∷ ps) (q ∷ qs) more own other origin switch at tli start end e h (inr past) below =
     let s : step q ≡ step p = cc in
     let left : p.switch ≡ q.switch = ap (λ (x : Step). x.switch) (sym s) in
     let rest : map step qs ≡ map step ps ++ record { tli = own; switch = switch } ∷ more = cc in
     let r = held_by_child ps qs more own other q.switch switch at tli start end rest h (subst (λ n. Holds n ps own tli start end) left
-    behind) below in
+    past) below in
     (r.0, inr r.1, r.2)
 
 pub on_child : (a b : Path) (switch at tli : ℕ) → IsChild a b switch → at < switch → IsOn a tli at → IsOn b tli at
@@ -124,9 +124,9 @@ child_shares_all a b n switch differ child =
     ⊎_elim
     (λ (h : n < length (steps a)).
     let head = drop_head (steps a) n h in
-    let behind : drop n (steps b) ≡ head.0 ∷ (head.1 ++ last ∷ child.0) = ap (drop n) child.1
+    let past : drop n (steps b) ≡ head.0 ∷ (head.1 ++ last ∷ child.0) = ap (drop n) child.1
     ∙ drop-append-le n (steps a) (last ∷ child.0) (omega arith) ∙ ap (λ xs. xs ++ last ∷ child.0) head.2 in
-    absurd (differ.differ head.0 head.1 (head.1 ++ last ∷ child.0) head.2 behind))
+    absurd (differ.differ head.0 head.1 (head.1 ++ last ∷ child.0) head.2 past))
     (λ (h : length (steps a) ≤ n). omega (arith, differ.within.0))
     (cases_lt n (length (steps a)))
 
@@ -184,9 +184,9 @@ differ_here a b n x y h k at-x at-y apart same =
           apart (sym left ∙ right);
     }
 
-pub differ_behind : (a b : Path) (n : ℕ) → n ≤ length a.parents → n ≤ length b.parents → (length a.parents ≤ n) ⊎ (length b.parents ≤ n)
+pub differ_past : (a b : Path) (n : ℕ) → n ≤ length a.parents → n ≤ length b.parents → (length a.parents ≤ n) ⊎ (length b.parents ≤ n)
     → take n (steps a) ≡ take n (steps b) → DifferAt a b n
-differ_behind a b n h k ended same =
+differ_past a b n h k ended same =
     let long-a : length (steps a) ≡ length a.parents = length-map a.parents step in
     let long-b : length (steps b) ≡ length b.parents = length-map b.parents step in
     record {

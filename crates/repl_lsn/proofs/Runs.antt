@@ -1,4 +1,4 @@
--- Fronts whose bytes pass a test and behind which one does not: a list is cut so in one way.
+-- Fronts whose bytes pass a test and after which one does not: a list is cut so in one way.
 use Rattle.std.proofs.Common.{◌≡◌, ℕ, ◌<◌, Bool, true, false, List, [], ◌∷◌, ◌++◌, length, get_or, take, drop, refl, sym, ap, subst, ◌∙◌, ⊎_elim, take-append-drop, arith}
 use Rattle.std.proofs.lemmas.Bool.{both_ways, cases_lt}
 use Rattle.std.proofs.lemmas.List.{drop_more, drop_all, get_or-take, length-take-le}
@@ -44,9 +44,9 @@ pub run_stops : (test : ℕ → Bool) (text : List ℕ) → Stops test (drop (pr
 run_stops test text = stops_at test text (prefix_len test text) (prefix_len_stops test text 0)
 
 -- such a front is the longest one
-pub run_is : (test : ℕ → Bool) (text front behind : List ℕ) → text ≡ front ++ behind → AllPass test front → Stops test behind
-    → (front ≡ take (prefix_len test text) text) × (behind ≡ drop (prefix_len test text) text)
-run_is test text front behind e passes stops =
-    one_cut test front (take (prefix_len test text) text) behind (drop (prefix_len test text) text) passes (run_passes test text) stops
+pub run_is : (test : ℕ → Bool) (text front past : List ℕ) → text ≡ front ++ past → AllPass test front → Stops test past
+    → (front ≡ take (prefix_len test text) text) × (past ≡ drop (prefix_len test text) text)
+run_is test text front past e passes stops =
+    one_cut test front (take (prefix_len test text) text) past (drop (prefix_len test text) text) passes (run_passes test text) stops
     (run_stops test text)
     (sym e ∙ sym (take-append-drop (prefix_len test text) text))

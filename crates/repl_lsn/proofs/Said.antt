@@ -24,7 +24,7 @@ ignored_from_none line e =
     inl (subst AreBlank (sym (inked_parts line ∙ ap (λ rest. blanks_of line ++ rest) e ∙ append-nil (blanks_of line))) (blanks_blank line))
 
 pub ignored_from_hash : (line rest : List ℕ) → inked line ≡ 35 ∷ rest → IsIgnored line
-ignored_from_hash line rest e = inr (blanks_of line, rest, blanks_blank line, inked_parts line ∙ ap (λ behind. blanks_of line ++ behind) e)
+ignored_from_hash line rest e = inr (blanks_of line, rest, blanks_blank line, inked_parts line ∙ ap (λ past. blanks_of line ++ past) e)
 
 no_number : (n : ℕ) → IsNumber [] n → ⊥
 no_number n h = let some = h.some in omega arith
@@ -38,9 +38,9 @@ hash_number rest n h =
     ∙ h.digits 0 0 h.some in
     false≢true digit
 
-pub ignored_no_number : (line : List ℕ) (n : ℕ) (behind : List ℕ) → IsIgnored line → HasNumber line n behind → ⊥
-ignored_no_number line n behind ignored h =
-    let is = (number_is line n behind h).0 in
+pub ignored_no_number : (line : List ℕ) (n : ℕ) (past : List ℕ) → IsIgnored line → HasNumber line n past → ⊥
+ignored_no_number line n past ignored h =
+    let is = (number_is line n past h).0 in
     ⊎_elim
     (λ e. no_number n (subst (λ bytes. IsNumber (word_of bytes) n) e is))
     (λ e. hash_number e.0 n (subst (λ bytes. IsNumber (word_of bytes) n) e.1 is))
@@ -61,26 +61,26 @@ part_of tli switch reason = record { tli = tli; switch = switch; reason = reason
 
 pub one_part : (line : List ℕ) (p q : Part) → SaysPart line p → SaysPart line q → p ≡ q
 one_part line p q a b =
-    let n = one_number line p.tli q.tli a.behind b.behind a.number b.number in
-    let s = one_switch b.behind p.switch q.switch a.rest b.rest (subst (λ bytes. HasSwitch bytes p.switch a.rest) n.1 a.switch) b.switch in
+    let n = one_number line p.tli q.tli a.past b.past a.number b.number in
+    let s = one_switch b.past p.switch q.switch a.rest b.rest (subst (λ bytes. HasSwitch bytes p.switch a.rest) n.1 a.switch) b.switch in
     let r = one_reason b.rest p.reason q.reason (subst (λ bytes. IsReason bytes p.reason) s.1 a.reason) b.reason in
     ap (λ t. part_of t p.switch p.reason) n.0 ∙ ap (λ t. part_of q.tli t p.reason) s.0 ∙ ap (part_of q.tli q.switch) r
 
--- a line without the switch point that is wanted behind its number says no part
-pub no_part : (line : List ℕ) (n : ℕ) (behind : List ℕ) → HasNumber line n behind
-    → ((switch : ℕ) (rest : List ℕ) → ¬ HasSwitch behind switch rest) → (p : Part) → ¬ SaysPart line p
-no_part line n behind has none p s =
-    let same = (one_number line p.tli n s.behind behind s.number has).1 in
+-- a line without the switch point that is wanted after its number says no part
+pub no_part : (line : List ℕ) (n : ℕ) (past : List ℕ) → HasNumber line n past
+    → ((switch : ℕ) (rest : List ℕ) → ¬ HasSwitch past switch rest) → (p : Part) → ¬ SaysPart line p
+no_part line n past has none p s =
+    let same = (one_number line p.tli n s.past past s.number has).1 in
     none p.switch s.rest (subst (λ bytes. HasSwitch bytes p.switch s.rest) same s.switch)
 
--- no line feed is behind either
+-- no line feed is after either
 
 all_right : (P : ℕ → Type 0) (a b : List ℕ) → All P (a ++ b) → All P b
 all_right P [] b h = h
 all_right P (c ∷ a) b h = all_right P a b (All-tail P c (a ++ b) h)
 
-pub single_behind : (line : List ℕ) (n : ℕ) (behind : List ℕ) → HasNumber line n behind → All (λ c. c ≢ 10) line → All (λ c. c ≢ 10) behind
-single_behind line n behind h one = all_right (λ c. c ≢ 10) (h.lead ++ h.number) behind (subst (All (λ c. c ≢ 10)) h.parts one)
+pub single_past : (line : List ℕ) (n : ℕ) (past : List ℕ) → HasNumber line n past → All (λ c. c ≢ 10) line → All (λ c. c ≢ 10) past
+single_past line n past h one = all_right (λ c. c ≢ 10) (h.lead ++ h.number) past (subst (All (λ c. c ≢ 10)) h.parts one)
 
 pub single_rest : (bytes : List ℕ) (switch : ℕ) (rest : List ℕ) → HasSwitch bytes switch rest → All (λ c. c ≢ 10) bytes
     → All (λ c. c ≢ 10) rest

@@ -7,7 +7,7 @@ use Rattle.repl_lsn.specs.History.{IsIgnored, SaysPart, SayParts, IsLineFault, l
 use Rattle.repl_lsn.proofs.Said.{ignored_no_number, one_part}
 
 pub ignored_no_part : (line : List ℕ) (p : Part) → IsIgnored line → SaysPart line p → ⊥
-ignored_no_part line p ignored s = ignored_no_number line p.tli s.behind ignored s.number
+ignored_no_part line p ignored s = ignored_no_number line p.tli s.past ignored s.number
 
 pub one_saying : (lines : List (List ℕ)) (a b : List Part) → SayParts lines a → SayParts lines b → a ≡ b
 one_saying [] a b p q = p ∙ sym q
@@ -62,7 +62,7 @@ other_order m n a b = omega arith
 pub fault_not_said : (own : ℕ) (before : List Part) (line : List ℕ) (at : ℕ) (f : HistoryFault) (p : Part)
     → IsLineFault own before line at f → SaysPart line p → last_number before < p.tli → p.tli < own → last_switch before ≤ p.switch → ⊥
 fault_not_said own before line at (fault.TooLong have) p h says rises below falls = h
-fault_not_said own before line at (fault.NotNumber place) p h says rises below falls = h.2 p.tli says.behind says.number
+fault_not_said own before line at (fault.NotNumber place) p h says rises below falls = h.2 p.tli says.past says.number
 fault_not_said own before line at (fault.NotSwitch place) p h says rises below falls = h.2 p says
 fault_not_said own before line at (fault.NotIncreasing place) p h says rises below falls =
     let same = ap (λ q. q.tli) (one_part line h.1.0 p h.1.1 says) in

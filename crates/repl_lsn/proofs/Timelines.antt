@@ -4,41 +4,41 @@ use Rattle.std.proofs.lemmas.Bool.{cases_eq}
 use Rattle.std.proofs.lemmas.List.{drop_more, take-append-drop, get_or_at, length-take-le}
 use Rattle.repl_lsn.specs.declared.history.Part.{Part}
 use Rattle.repl_lsn.specs.History.{Path, IsPath, InOrder, last_switch}
-use Rattle.repl_lsn.specs.Path.{Holds, IsBelow, IsOn, EndsAt, StandsBehind}
+use Rattle.repl_lsn.specs.Path.{Holds, IsBelow, IsOn, EndsAt, StandsPast}
 
 -- ---- numbers and switch points in order
 
-pub order_behind : (own : ℕ) (p : Part) (ps : List Part) → InOrder own (p ∷ ps) → InOrder own ps
-order_behind own p [] order = tt
-order_behind own p (q ∷ ps) order = order.2
+pub order_past : (own : ℕ) (p : Part) (ps : List Part) → InOrder own (p ∷ ps) → InOrder own ps
+order_past own p [] order = tt
+order_past own p (q ∷ ps) order = order.2
 
--- a timeline behind a parent has a greater number, and starts where the parent ends or later
-pub number_behind : (p : Part) (ps : List Part) (own origin tli start : ℕ) (end : Option ℕ) → InOrder own (p ∷ ps)
+-- a timeline after a parent has a greater number, and starts where the parent ends or later
+pub number_past : (p : Part) (ps : List Part) (own origin tli start : ℕ) (end : Option ℕ) → InOrder own (p ∷ ps)
     → Holds origin ps own tli start end → p.tli < tli
-number_behind p [] own origin tli start end order holds = omega (arith, order, holds.0)
-number_behind p (q ∷ ps) own origin tli start end order (inl here) = omega (arith, order.0, here.0)
-number_behind p (q ∷ ps) own origin tli start end order (inr behind) =
-    omega (arith, order.0, number_behind q ps own q.switch tli start end order.2 behind)
+number_past p [] own origin tli start end order holds = omega (arith, order, holds.0)
+number_past p (q ∷ ps) own origin tli start end order (inl here) = omega (arith, order.0, here.0)
+number_past p (q ∷ ps) own origin tli start end order (inr past) =
+    omega (arith, order.0, number_past q ps own q.switch tli start end order.2 past)
 
-pub start_behind : (p : Part) (ps : List Part) (own tli start : ℕ) (end : Option ℕ) → InOrder own (p ∷ ps)
+pub start_past : (p : Part) (ps : List Part) (own tli start : ℕ) (end : Option ℕ) → InOrder own (p ∷ ps)
     → Holds p.switch ps own tli start end → p.switch ≤ start
-start_behind p [] own tli start end order holds = omega (arith, holds.1)
-start_behind p (q ∷ ps) own tli start end order (inl here) = omega (arith, here.1)
-start_behind p (q ∷ ps) own tli start end order (inr behind) =
-    omega (arith, order.1, start_behind q ps own tli start end order.2 behind)
+start_past p [] own tli start end order holds = omega (arith, holds.1)
+start_past p (q ∷ ps) own tli start end order (inl here) = omega (arith, here.1)
+start_past p (q ∷ ps) own tli start end order (inr past) =
+    omega (arith, order.1, start_past q ps own tli start end order.2 past)
 
--- so has a parent behind it
-pub parent_behind : (p : Part) (before : List Part) (q : Part) (after : List Part) (own : ℕ) → InOrder own (p ∷ (before ++ q ∷ after))
+-- so has a parent after it
+pub parent_past : (p : Part) (before : List Part) (q : Part) (after : List Part) (own : ℕ) → InOrder own (p ∷ (before ++ q ∷ after))
     → p.tli < q.tli
-parent_behind p [] q after own order = order.0
-parent_behind p (r ∷ before) q after own order = omega (arith, order.0, parent_behind r before q after own order.2)
+parent_past p [] q after own order = order.0
+parent_past p (r ∷ before) q after own order = omega (arith, order.0, parent_past r before q after own order.2)
 
--- the own timeline may be left behind all parents
+-- the own timeline may be left after all parents
 pub order_push : (own tli : ℕ) (ps : List Part) (p : Part) → InOrder own ps → p.tli ≡ own → own < tli → last_switch ps ≤ p.switch
     → InOrder tli (ps ++ p ∷ [])
-order_push own tli [] p order number above behind = omega arith
-order_push own tli (q ∷ []) p order number above behind = (omega (arith, order), behind, omega arith)
-order_push own tli (q ∷ r ∷ ps) p order number above behind = (order.0, order.1, order_push own tli (r ∷ ps) p order.2 number above behind)
+order_push own tli [] p order number above past = omega arith
+order_push own tli (q ∷ []) p order number above past = (omega (arith, order), past, omega arith)
+order_push own tli (q ∷ r ∷ ps) p order number above past = (order.0, order.1, order_push own tli (r ∷ ps) p order.2 number above past)
 
 -- ---- one timeline holds a position
 
@@ -51,11 +51,11 @@ one_holder : (ps : List Part) (own origin at a b start-a start-b : ℕ) (end-a e
 one_holder [] own origin at a b start-a start-b end-a end-b order p from-a below-a q from-b below-b = cc
 one_holder (x ∷ ps) own origin at a b start-a start-b end-a end-b order (inl p) from-a below-a (inl q) from-b below-b = cc
 one_holder (x ∷ ps) own origin at a b start-a start-b end-a end-b order (inl p) from-a below-a (inr q) from-b below-b =
-    absurd (omega (arith, below_end at x.switch end-a p.2 below-a, start_behind x ps own b start-b end-b order q))
+    absurd (omega (arith, below_end at x.switch end-a p.2 below-a, start_past x ps own b start-b end-b order q))
 one_holder (x ∷ ps) own origin at a b start-a start-b end-a end-b order (inr p) from-a below-a (inl q) from-b below-b =
-    absurd (omega (arith, below_end at x.switch end-b q.2 below-b, start_behind x ps own a start-a end-a order p))
+    absurd (omega (arith, below_end at x.switch end-b q.2 below-b, start_past x ps own a start-a end-a order p))
 one_holder (x ∷ ps) own origin at a b start-a start-b end-a end-b order (inr p) from-a below-a (inr q) from-b below-b =
-    one_holder ps own x.switch at a b start-a start-b end-a end-b (order_behind own x ps order) p from-a below-a q from-b below-b
+    one_holder ps own x.switch at a b start-a start-b end-a end-b (order_past own x ps order) p from-a below-a q from-b below-b
 
 pub one_on : (path : Path) (at a b : ℕ) → IsPath path → IsOn path a at → IsOn path b at → a ≡ b
 one_on path at a b order p q =
@@ -66,12 +66,12 @@ one_on path at a b order p q =
 before_switch : (before : List Part) (p : Part) (after : List Part) (own origin at start : ℕ) (end : Option ℕ)
     → InOrder own (before ++ p ∷ after) → Holds origin (before ++ p ∷ after) own p.tli start end → IsBelow at end → at < p.switch
 before_switch [] p after own origin at start end order (inl here) below = below_end at p.switch end here.2 below
-before_switch [] p after own origin at start end order (inr behind) below =
-    absurd (omega (arith, number_behind p after own p.switch p.tli start end order behind))
+before_switch [] p after own origin at start end order (inr past) below =
+    absurd (omega (arith, number_past p after own p.switch p.tli start end order past))
 before_switch (q ∷ before) p after own origin at start end order (inl here) below =
-    absurd (omega (arith, here.0, parent_behind q before p after own order))
-before_switch (q ∷ before) p after own origin at start end order (inr behind) below =
-    before_switch before p after own q.switch at start end (order_behind own q (before ++ p ∷ after) order) behind below
+    absurd (omega (arith, here.0, parent_past q before p after own order))
+before_switch (q ∷ before) p after own origin at start end order (inr past) below =
+    before_switch before p after own q.switch at start end (order_past own q (before ++ p ∷ after) order) past below
 
 pub before_end : (path : Path) (at tli end : ℕ) → IsPath path → IsOn path tli at → EndsAt path tli end → at < end
 before_end path at tli end order on ends =
@@ -89,13 +89,13 @@ pub item_next : (ps : List Part) (i : ℕ) (x : Part) → i < length ps → x �
 item_next ps i x h e = drop_more ps i x h ∙ ap (λ y. y ∷ drop (i + 1) ps) (sym e)
 
 pub item_stands : (path : Path) (i tli : ℕ) (x : Part) → i < length path.parents → x ≡ get_or path.parents i x → x.tli ≡ tli
-    → StandsBehind path tli i
+    → StandsPast path tli i
 item_stands path i tli x h e number =
     let parts : path.parents ≡ take i path.parents ++ x ∷ drop (i + 1) path.parents = sym (take-append-drop i path.parents)
     ∙ ap (λ qs. take i path.parents ++ qs) (item_next path.parents i x h e) in
     (take i path.parents, x, drop (i + 1) path.parents, parts, number, length-take-le i path.parents (omega arith))
 
--- a parent behind that place, which is not at it, is behind the next one
+-- a parent after that place, which is not at it, is after the next one
 pub item_passed : (ps : List Part) (i tli : ℕ) (x : Part) → x ≡ get_or ps i x → x.tli ≢ tli
     → (before : List Part) (p : Part) (after : List Part) → ps ≡ before ++ p ∷ after → p.tli ≡ tli → i ≤ length before
     → i + 1 ≤ length before

@@ -4,9 +4,9 @@ use Rattle.repl_lsn.specs.declared.history.Part.{Part}
 use Rattle.repl_lsn.specs.History.{Path, IsPath, InOrder}
 use Rattle.repl_lsn.specs.Path.{IsUpTo}
 
-order_behind : (own : ℕ) (p : Part) (ps : List Part) → InOrder own (p ∷ ps) → InOrder own ps
-order_behind own p [] order = tt
-order_behind own p (q ∷ ps) order = order.2
+order_past : (own : ℕ) (p : Part) (ps : List Part) → InOrder own (p ∷ ps) → InOrder own ps
+order_past own p [] order = tt
+order_past own p (q ∷ ps) order = order.2
 
 -- numbers rise up to the own one
 rises : (own : ℕ) (p : Part) (between : List Part) (q : Part) (after : List Part) → InOrder own (p ∷ (between ++ q ∷ after)) → p.tli < q.tli
@@ -16,7 +16,7 @@ rises own p (r ∷ between) q after order = let more = rises own r between q aft
 below_own : (own : ℕ) (before : List Part) (p : Part) (after : List Part) → InOrder own (before ++ p ∷ after) → p.tli < own
 below_own own [] p [] order = order
 below_own own [] p (q ∷ after) order = let more = below_own own [] q after order.2 in omega (arith, order.0)
-below_own own (q ∷ before) p after order = below_own own before p after (order_behind own q (before ++ p ∷ after) order)
+below_own own (q ∷ before) p after order = below_own own before p after (order_past own q (before ++ p ∷ after) order)
 
 first_same : (p q : Part) (ps qs : List Part) → p ∷ ps ≡ q ∷ qs → p ≡ q
 first_same p q ps qs e = cc
@@ -35,7 +35,7 @@ same_before own (x ∷ a) [] p q after rest order e number =
     let up = rises own x a p after order in
     absurd (omega (arith, ap (λ (r : Part). r.tli) (first_same x q (a ++ p ∷ after) rest e)))
 same_before own (x ∷ a) (y ∷ b) p q after rest order e number =
-    let tail = same_before own a b p q after rest (order_behind own x (a ++ p ∷ after) order)
+    let tail = same_before own a b p q after rest (order_past own x (a ++ p ∷ after) order)
     (rest_same x y (a ++ p ∷ after) (b ++ q ∷ rest) e) number in
     ap (λ (r : Part). r ∷ a) (first_same x y (a ++ p ∷ after) (b ++ q ∷ rest) e) ∙ ap (λ ps. y ∷ ps) tail
 

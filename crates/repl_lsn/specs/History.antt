@@ -56,27 +56,27 @@ abbrev pub IsApart : List ℕ → Type 0
 IsApart [] = Unit {0}
 IsApart (c ∷ cs) = is_blank c ≡ true
 
--- after blanks the line has this number of a timeline, and these bytes are behind it
-pub record HasNumber (line : List ℕ) (n : ℕ) (behind : List ℕ) : Type 0 where
+-- after blanks the line has this number of a timeline, and these bytes are after it
+pub record HasNumber (line : List ℕ) (n : ℕ) (past : List ℕ) : Type 0 where
   pub lead : List ℕ
   pub number : List ℕ
-  pub parts : line ≡ lead ++ number ++ behind
+  pub parts : line ≡ lead ++ number ++ past
   pub blank : AreBlank lead
   pub digits : All (λ c. is_ascii_digit c ≡ true) number
   pub some : 0 < length number
   pub value : n ≡ digits_value 10 number
   pub in_range : (0 < n) × (n < 2 ^ 32)
-  pub apart : IsApart behind
+  pub apart : IsApart past
 
--- after blanks, of which there are some, these bytes have this position, and those are behind it
-pub record HasSwitch (bytes : List ℕ) (switch : ℕ) (behind : List ℕ) : Type 0 where
+-- after blanks, of which there are some, these bytes have this position, and those are after it
+pub record HasSwitch (bytes : List ℕ) (switch : ℕ) (past : List ℕ) : Type 0 where
   pub gap : List ℕ
   pub position : List ℕ
-  pub parts : bytes ≡ gap ++ position ++ behind
+  pub parts : bytes ≡ gap ++ position ++ past
   pub blank : AreBlank gap
   pub some : 0 < length gap
   pub spelled : Spells position switch
-  pub apart : IsApart behind
+  pub apart : IsApart past
 
 -- what is left without the blanks at its ends
 pub record IsReason (bytes reason : List ℕ) : Type 0 where
@@ -88,10 +88,10 @@ pub record IsReason (bytes reason : List ℕ) : Type 0 where
 
 -- the line says the part
 pub record SaysPart (line : List ℕ) (p : Part) : Type 0 where
-  pub behind : List ℕ
+  pub past : List ℕ
   pub rest : List ℕ
-  pub number : HasNumber line p.tli behind
-  pub switch : HasSwitch behind p.switch rest
+  pub number : HasNumber line p.tli past
+  pub switch : HasSwitch past p.switch rest
   pub reason : IsReason rest p.reason
 
 -- the lines say the parts, in order
@@ -125,11 +125,11 @@ last_switch [] = 0
 last_switch (p ∷ []) = p.switch
 last_switch (p ∷ q ∷ ps) = last_switch (q ∷ ps)
 
--- the line is wrong behind lines that say these parts, and this is the first that is wrong with it
+-- the line is wrong after lines that say these parts, and this is the first that is wrong with it
 abbrev pub IsLineFault : ℕ → List Part → List ℕ → ℕ → HistoryFault → Type 0
 IsLineFault own before line at (fault.NotNumber place) = (place ≡ at) × ¬ IsIgnored line
-    × ((n : ℕ) (behind : List ℕ) → ¬ HasNumber line n behind)
-IsLineFault own before line at (fault.NotSwitch place) = (place ≡ at) × ((n : ℕ) × (behind : List ℕ) × HasNumber line n behind)
+    × ((n : ℕ) (past : List ℕ) → ¬ HasNumber line n past)
+IsLineFault own before line at (fault.NotSwitch place) = (place ≡ at) × ((n : ℕ) × (past : List ℕ) × HasNumber line n past)
     × ((p : Part) → ¬ SaysPart line p)
 IsLineFault own before line at (fault.NotIncreasing place) = (place ≡ at) × ((p : Part) × SaysPart line p × (p.tli ≤ last_number before))
 IsLineFault own before line at (fault.NotBelowOwn place) = (place ≡ at) × ((p : Part) × SaysPart line p × (last_number before < p.tli)

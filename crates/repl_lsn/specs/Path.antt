@@ -35,7 +35,7 @@ abbrev pub IsEndOf : Path → ℕ → Option ℕ → Type 0
 IsEndOf path tli (Some end) = EndsAt path tli end
 IsEndOf path tli None = (end : ℕ) → ¬ EndsAt path tli end
 
--- the timeline that holds a position, as a function: the first parent that ends behind it, or the own one
+-- the timeline that holds a position, as a function: the first parent that ends after it, or the own one
 abbrev pub holder : ℕ → List Part → ℕ → ℕ
 holder own [] at = own
 holder own (p ∷ ps) at = if nat_lt at p.switch then p.tli else holder own ps at
@@ -46,8 +46,8 @@ timeline_at path at = holder path.own path.parents at
 -- ---- a timeline among those of a path
 
 -- so many parents stand before this one
-abbrev pub StandsBehind : Path → ℕ → ℕ → Type 0
-StandsBehind path tli count =
+abbrev pub StandsPast : Path → ℕ → ℕ → Type 0
+StandsPast path tli count =
     (before : List Part) × (p : Part) × (after : List Part) × (path.parents ≡ before ++ p ∷ after) × (p.tli ≡ tli) × (length before ≡ count)
 
 -- the own timeline, or one that was left
@@ -64,7 +64,7 @@ abbrev pub first_of : ℕ → List Part → ℕ
 first_of own [] = own
 first_of own (p ∷ ps) = p.tli
 
--- the timeline behind one that was left
+-- the timeline after one that was left
 abbrev pub IsNext : Path → ℕ → ℕ → Type 0
 IsNext path tli next =
     (before : List Part) × (p : Part) × (after : List Part) × (path.parents ≡ before ++ p ∷ after) × (p.tli ≡ tli)
@@ -94,7 +94,7 @@ IsSame a b = (a.own ≡ b.own) × (steps a ≡ steps b)
 abbrev pub IsChild : Path → Path → ℕ → Type 0
 IsChild a b switch = (more : List Step) × (steps b ≡ steps a ++ record { tli = a.own; switch = switch } ∷ more)
 
--- the first index at which the parents, or the own numbers behind them, differ
+-- the first index at which the parents, or the own numbers after them, differ
 pub record DifferAt (a b : Path) (at : ℕ) : Type 0 where
   pub within : (at ≤ length (steps a)) × (at ≤ length (steps b))
   pub same : take at (steps a) ≡ take at (steps b)

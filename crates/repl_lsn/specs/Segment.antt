@@ -98,7 +98,7 @@ pub record LacksDigit (text : List ℕ) (place : ℕ) : Type 0 where
   pub none : ¬ AreDigits (take 1 (drop place text)) ⊎ (length text ≡ place)
 
 -- What is wrong with a name, judged number by number: a digit that is wrong or missing, a timeline 0, a third number
--- that is too large, and bytes behind it.
+-- that is too large, and bytes after it.
 abbrev pub IsNameFault : ℕ → List ℕ → ℕ → Type 0
 IsNameFault size text place =
     (LacksDigit text place × (8 ≤ place → 0 < number_at text 0))
@@ -122,7 +122,7 @@ pub record LacksDigitFrom (text : List ℕ) (start place : ℕ) : Type 0 where
   pub before : AreDigits (take (place - start) (drop start text))
   pub none : ¬ AreDigits (take 1 (drop place text)) ⊎ (length text ≡ place)
 
--- What is wrong with the name of a history: a digit that is wrong or missing, a timeline 0, and what stands behind the
+-- What is wrong with the name of a history: a digit that is wrong or missing, a timeline 0, and what stands after the
 -- digits.
 abbrev pub IsHistoryNameFault : List ℕ → ℕ → Type 0
 IsHistoryNameFault text place =

@@ -10,7 +10,7 @@ pub enum HistoryFault {
     /// The line does not begin with a number from 1 to 4,294,967,295.
     #[error("line {0} has no timeline")]
     NotNumber(u64),
-    /// No position is behind the line's number.
+    /// No position is after the line's number.
     #[error("line {0} has no switch point")]
     NotSwitch(u64),
     /// The line's number is not above that of the line before.

@@ -10,10 +10,10 @@ use crate::segment::{
 use crate::timeline::Tli;
 use std::alloc::{AllocError, Global};
 
-/// What stands behind the timeline in the name of a history.
+/// What stands after the timeline in the name of a history.
 const HISTORY_SUFFIX: &[u8] = b".history";
 
-/// What stands behind the name of a segment in that of one that is not whole.
+/// What stands after the name of a segment in that of one that is not whole.
 const PARTIAL_SUFFIX: &[u8] = b".partial";
 
 /// The name of the file with the timeline's history. Takes memory for it.
@@ -26,7 +26,7 @@ pub fn history_name(alloc: Global, tli: Tli) -> Result<String, AllocError>
 
 /// The timeline whose history the name of a file says.
 ///
-/// A digit that is wrong or missing is refused at its place, a timeline 0 at 0, and anything but `.history` behind the
+/// A digit that is wrong or missing is refused at its place, a timeline 0 at 0, and anything but `.history` after the
 /// digits at 8.
 pub fn parse_history_name(text: &[u8]) -> Result<Tli, PlaceFault>
     // What is read is what the text names.
@@ -63,7 +63,7 @@ pub fn partial_name(
 
 /// The timeline and the segment that the name of a file with the beginning of a segment says, where segments are so large.
 ///
-/// The first 24 bytes are judged as `parse_seg_name` judges them, and anything but `.partial` behind them is refused at 24.
+/// The first 24 bytes are judged as `parse_seg_name` judges them, and anything but `.partial` after them is refused at 24.
 pub fn parse_partial_name(text: &[u8], size: SegSize) -> Result<(Tli, SegNo), PlaceFault>
     // What is read is what the text names.
     ensures read { IfOk result (λ found. NamesPartial size text.now found.0 found.1) }
@@ -72,9 +72,9 @@ pub fn parse_partial_name(text: &[u8], size: SegSize) -> Result<(Tli, SegNo), Pl
     // Each refusal has its cause, and is told where it has.
     ensures refused { IfErr result (λ fault. IsPartialNameFault size text.now fault.place) }
 {
-    let (front, behind) = split_name(text);
+    let (front, past) = split_name(text);
     let named = parse_seg_name(front, size)?;
-    if behind != PARTIAL_SUFFIX {
+    if past != PARTIAL_SUFFIX {
         return Err(PlaceFault { place: NAME_LENGTH });
     }
     Ok(named)
@@ -83,7 +83,7 @@ pub fn parse_partial_name(text: &[u8], size: SegSize) -> Result<(Tli, SegNo), Pl
 /// As many bytes as the name of a segment has, or all where there are fewer, and the rest.
 fn split_name(text: &[u8]) -> (&[u8], &[u8])
     ensures front { result.0.now ≡ take 24 text.now }
-    ensures behind { result.1.now ≡ drop 24 text.now }
+    ensures past { result.1.now ≡ drop 24 text.now }
 {
     text.split_at(text.len().min(NAME_LENGTH))
 }

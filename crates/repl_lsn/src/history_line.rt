@@ -31,8 +31,8 @@ pub(crate) fn parse_line(
     let Some(number) = number_of(line) else {
         return Err(HistoryFault::NotNumber(place));
     };
-    let (tli, behind) = number;
-    let Some(found) = switch_of(behind) else {
+    let (tli, past) = number;
+    let Some(found) = switch_of(past) else {
         return Err(HistoryFault::NotSwitch(place));
     };
     let (switch, rest) = found;
@@ -54,28 +54,28 @@ fn is_ignored(line: &[u8]) -> bool
     }
 }
 
-/// The number of a timeline with which the line begins, and what is behind it.
+/// The number of a timeline with which the line begins, and what is after it.
 fn number_of(line: &[u8]) -> Option<(Tli, &[u8])>
-    ensures { MatchOption result ((n : ℕ) (behind : List ℕ) → ¬ HasNumber line.now n behind) (λ found. HasNumber line.now found.0 found.1.now) }
+    ensures { MatchOption result ((n : ℕ) (past : List ℕ) → ¬ HasNumber line.now n past) (λ found. HasNumber line.now found.0 found.1.now) }
 {
-    let (word, behind) = split_word(after_blanks(line));
+    let (word, past) = split_word(after_blanks(line));
     if word.is_empty() {
         return None;
     }
     let Ok(number) = u32::try_from(decimal_value(word)?) else {
         return None;
     };
-    Some((Tli::new(number)?, behind))
+    Some((Tli::new(number)?, past))
 }
 
-/// The position with which the bytes go on after blanks, and what is behind it.
+/// The position with which the bytes go on after blanks, and what is after it.
 fn switch_of(bytes: &[u8]) -> Option<(Lsn, &[u8])>
     requires { IsApart bytes.now }
-    ensures { MatchOption result ((switch : ℕ) (behind : List ℕ) → ¬ HasSwitch bytes.now switch behind) (λ found. HasSwitch bytes.now found.0 found.1.now) }
+    ensures { MatchOption result ((switch : ℕ) (past : List ℕ) → ¬ HasSwitch bytes.now switch past) (λ found. HasSwitch bytes.now found.0 found.1.now) }
 {
-    let (word, behind) = split_word(after_blanks(bytes));
+    let (word, past) = split_word(after_blanks(bytes));
     match Lsn::parse(word) {
-        Ok(switch) => Some((switch, behind)),
+        Ok(switch) => Some((switch, past)),
         Err(_) => None,
     }
 }

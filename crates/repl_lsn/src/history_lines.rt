@@ -95,14 +95,14 @@ fn parse_parents(
     let mut rest = text;
     let mut place = 0;
     while !rest.is_empty() {
-        let (line, behind) = split_line(rest);
+        let (line, past) = split_line(rest);
         place += 1;
         if let Some(part) = parse_line(alloc, line, place)? {
             check_order(own, &parents, &part, place)?;
             outside = first_outside(outside, part.switch, least, most, place);
             parents.push(part)?;
         }
-        rest = behind;
+        rest = past;
     }
     Ok(Said { parents, outside })
 }
@@ -191,7 +191,7 @@ fn push_line(text: &mut Vec<u8>, head: &[u8], reason: &[u8]) -> Result<(), Alloc
     Ok(())
 }
 
-/// A line's number and position, and a tab behind each. Takes memory for it.
+/// A line's number and position, and a tab after each. Takes memory for it.
 fn line_head(alloc: Global, part: &Part) -> Result<String, AllocError>
     ensures exact { IfOk result (λ head. string_bytes head ≡ decimal part.now.tli ++ (9 ∷ (position_text part.now.switch ++ (9 ∷ [])))) }
     ensures number { (0 < part.now.tli) × (part.now.tli < 2 ^ 32) }

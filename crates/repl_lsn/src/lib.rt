@@ -14,7 +14,7 @@
 //! ```text
 //! let text = b"1\t0/1000048\tfirst failover\n2\t0/3000000\tsecond\n";
 //! let history = parse_history(alloc, Tli(3), text)?;
-//! history.timeline_at(Lsn(0x100_0048)) // Tli(2): a switch point is on the timeline behind it
+//! history.timeline_at(Lsn(0x100_0048)) // Tli(2): a switch point is on the timeline after it
 //! history.end_of(Tli(1)) // Some(Lsn(0x100_0048))
 //! ```
 #![tactic(auto)]

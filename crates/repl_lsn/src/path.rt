@@ -1,7 +1,7 @@
 //! The timelines of a path: which positions each holds, which comes next, and the history of each.
 ghost use Rattle.std.specs.Prelude.{◌≡◌, ℕ, ◌<◌, ◌≤◌, ◌++◌, ◌∷◌, [], length, IfOk, MatchOption, codes};
 ghost use Rattle.repl_lsn.specs.History.{last_switch};
-ghost use Rattle.repl_lsn.specs.Path.{IsOn, IsEndOf, EndsAt, StandsBehind, HasTimeline, IsUpTo, IsNextOf, timeline_at};
+ghost use Rattle.repl_lsn.specs.Path.{IsOn, IsEndOf, EndsAt, StandsPast, HasTimeline, IsUpTo, IsNextOf, timeline_at};
 
 use crate::copies::copy_parts;
 use crate::history::{History, Line, Part, Parts};
@@ -18,7 +18,7 @@ impl History {
         Some(self.parents().as_slice()[place].switch)
     }
 
-    /// The timeline behind one that was left, which starts where that ends. `None` for the own one and for one that is
+    /// The timeline after one that was left, which starts where that ends. `None` for the own one and for one that is
     /// not on the path.
     pub fn next_of(&self, tli: Tli) -> Option<Tli>
         ensures { IsNextOf self.now tli result }
@@ -34,7 +34,7 @@ impl History {
     fn place_of(&self, tli: Tli) -> Option<usize>
         ensures { MatchOption result
             ((end : ℕ) → ¬ EndsAt self.now tli end)
-            (λ place. StandsBehind self.now tli place × (place < length self.now.parents)) }
+            (λ place. StandsPast self.now tli place × (place < length self.now.parents)) }
     {
         for (place, part) in self.parents().as_slice().iter().enumerate() {
             if part.tli == tli {
@@ -44,7 +44,7 @@ impl History {
         None
     }
 
-    /// The timeline that holds the position: the first before its switch point, or the own one behind the last.
+    /// The timeline that holds the position: the first before its switch point, or the own one after the last.
     pub fn timeline_at(&self, at: Lsn) -> Tli
         ensures on { IsOn self.now result at }
         ensures value { result ≡ timeline_at self.now at }
@@ -60,7 +60,7 @@ impl History {
     /// The history of a timeline that leaves this one at a position, for a promotion. Takes memory.
     pub fn child(&self, alloc: Global, tli: Tli, switch: Lsn) -> Result<History, AllocError>
         requires above { self.now.own < tli }
-        requires behind { last_switch self.now.parents ≤ switch }
+        requires past { last_switch self.now.parents ≤ switch }
         ensures { IfOk result (λ child. child ≡ record { own = tli; parents = self.now.parents ++ record { tli = self.now.own; switch = switch; reason = codes "promoted" } ∷ [] }) }
     {
         let mut parents = copy_parts(self.parents().as_slice(), alloc)?;

@@ -5,7 +5,7 @@ ghost use Rattle.repl_lsn.specs.declared.relation.Relation.TheVariants as Relati
 ghost use Rattle.repl_lsn.specs.History.{Path, IsPath, last_switch};
 ghost use Rattle.repl_lsn.specs.Path.{IsOn, IsEndOf, IsBelow, IsChild, IsRelation, IsUpTo, IsNext, EndsAt, Holds, timeline_at};
 
-/// A position is on one timeline of a path, and not behind where that ends.
+/// A position is on one timeline of a path, and not past where that ends.
 pub fn one_timeline()
     ensures one { (path : Path) (at a b : ℕ) → IsPath path → IsOn path a at → IsOn path b at → a ≡ b }
     ensures end { (path : Path) (at tli end : ℕ) → IsPath path → IsOn path tli at → IsEndOf path tli (Some end) → at < end }

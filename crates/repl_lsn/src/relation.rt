@@ -13,7 +13,7 @@ pub enum Relation {
     Child { switch: Lsn },
     /// This one goes on from the other, which it left at this position.
     Parent { switch: Lsn },
-    /// Neither goes on from the other. The timelines before them, and behind these their own, differ at this index
+    /// Neither goes on from the other. The timelines before them, and after these their own, differ at this index
     /// first, counted from 0.
     Apart { at: u64 },
 }

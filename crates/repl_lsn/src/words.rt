@@ -10,7 +10,7 @@ pub(crate) fn is_blank(byte: u8) -> bool
     byte == b' ' || byte == b'\t'
 }
 
-/// What is behind the blanks with which the bytes begin.
+/// What is after the blanks with which the bytes begin.
 pub(crate) fn after_blanks(bytes: &[u8]) -> &[u8]
     ensures { result.now ≡ drop (prefix_len is_blank bytes.now) bytes.now }
 {
@@ -56,7 +56,7 @@ fn word_size(bytes: &[u8]) -> usize
     bytes.iter().take_while(|c| !is_blank(**c)).count()
 }
 
-/// The bytes before the first line feed, and those behind it: none of either where there is no more.
+/// The bytes before the first line feed, and those after it: none of either where there is no more.
 pub(crate) fn split_line(text: &[u8]) -> (&[u8], &[u8])
     ensures single { All (λ c. c ≢ 10) result.0.now }
     ensures parts { (text.now ≡ result.0.now ++ 10 ∷ result.1.now) ⊎ ((text.now ≡ result.0.now) × (result.1.now ≡ [])) }

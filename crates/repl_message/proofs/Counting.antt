@@ -36,7 +36,7 @@ entry_fits f [] i x lt is = absurd (omega arith)
 entry_fits {X} f (y ∷ ys) zero x lt is = omega (arith, ap (λ (z : X). length (f z)) is, length-append (f y) (flat_map f ys))
 entry_fits f (y ∷ ys) (suc i) x lt is = omega (arith, entry_fits f ys i x (omega arith) is, length-append (f y) (flat_map f ys))
 
--- the entries so far stand behind a head, and one more is added
+-- the entries so far stand after a head, and one more is added
 pub added_more : {X : Type 0} (f : X → List ℕ) (xs : List X) (i : ℕ) (x : X) (old out new head : List ℕ) → i < length xs → x ≡ get_or xs i x
     → out ≡ old ++ (head ++ flat_map f (take i xs)) → new ≡ out ++ f x → new ≡ old ++ (head ++ flat_map f (take (i + 1) xs))
 added_more f xs i x old out new head lt is so_far added =

@@ -50,19 +50,19 @@ pair_marked p fits rest =
     let t = string_begins p.name (string p.value ++ rest) fits.named fits.name in
     (t.0, t.1, append_assoc (string p.name) (string p.value) rest ∙ t.2, t.3)
 
--- what stands behind a column's name
-abbrev behind_name : Field → List ℕ → List ℕ
-behind_name f rest = int32 f.table ++ (signed16 f.attribute ++
+-- what stands after a column's name
+abbrev past_name : Field → List ℕ → List ℕ
+past_name f rest = int32 f.table ++ (signed16 f.attribute ++
     (int32 f.type_oid ++ (signed16 f.size ++ (signed32 f.modifier ++ (int16 f.format ++ rest)))))
 
-field_parts : (f : Field) (rest : List ℕ) → field f ++ rest ≡ string f.name ++ behind_name f rest
+field_parts : (f : Field) (rest : List ℕ) → field f ++ rest ≡ string f.name ++ past_name f rest
 field_parts f rest = append_assoc (string f.name) (int32 f.table ++ signed16 f.attribute ++ int32 f.type_oid ++ signed16 f.size
     ++ signed32 f.modifier ++ int16 f.format) rest
 
 pub field_one : IsPrefixFree FitsField field
 field_one = record {
   one = λ f g r s f_fits g_fits e.
-      let name = string_one.one f.name g.name (behind_name f r) (behind_name g s) f_fits.name g_fits.name
+      let name = string_one.one f.name g.name (past_name f r) (past_name g s) f_fits.name g_fits.name
       (sym (field_parts f r) ∙ e ∙ field_parts g s) in
       let table = int32_one.one f.table g.table _ _ f_fits.table g_fits.table name.1 in
       let attribute = signed16_one.one f.attribute g.attribute _ _ f_fits.attribute g_fits.attribute table.1 in
@@ -108,8 +108,8 @@ pub error_field_one : IsPrefixFree FitsErrorField error_field
 error_field_one = record {
   one = λ f g r s f_fits g_fits e.
       let code : f.code ≡ g.code = cc in
-      let behind : string f.text ++ r ≡ string g.text ++ s = cc in
-      let text = string_one.one f.text g.text r s f_fits.text g_fits.text behind in
+      let past : string f.text ++ r ≡ string g.text ++ s = cc in
+      let text = string_one.one f.text g.text r s f_fits.text g_fits.text past in
       (same_error_field f g code text.0, text.1);
 }
 

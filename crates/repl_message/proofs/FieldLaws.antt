@@ -122,7 +122,7 @@ wide_again w limit wide n rest lt =
     let len = wide.len n in
     (rw (take_at (to_be_bytes w n) rest (byte_len w) len) (wide.again n lt), drop_at (to_be_bytes w n) rest (byte_len w) len)
 
--- the number in the first two bytes, and what is behind it
+-- the number in the first two bytes, and what is after it
 pub int16_takes : (bytes : List ℕ) → IsBytes bytes → 2 ≤ length bytes
     → Takes bytes (int16 (from_be_bytes w16 (take 2 bytes))) (drop 2 bytes) × (from_be_bytes w16 (take 2 bytes) < 2 ^ 16)
 int16_takes bytes fits long = wide_takes w16 (2 ^ 16) wide16 bytes fits long
@@ -218,7 +218,7 @@ string_first b bytes text rest e =
     rw (← same) (omega arith)
 
 -- a string that is not empty does not begin with a zero byte
-pub string_begins : (text rest : List ℕ) → 0 < length text → IsText text → (b : ℕ) × (behind : List ℕ) × (string text ++ rest ≡ b ∷ behind)
+pub string_begins : (text rest : List ℕ) → 0 < length text → IsText text → (b : ℕ) × (past : List ℕ) × (string text ++ rest ≡ b ∷ past)
     × (0 < b)
 string_begins [] rest some fits = absurd (omega arith)
 string_begins (b ∷ text) rest some fits = (b, string text ++ rest, refl, (fits 0 0 (omega arith)).0)

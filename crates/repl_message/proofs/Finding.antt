@@ -7,7 +7,7 @@ use Rattle.repl_message.specs.declared.startup.Pair.{Pair}
 use Rattle.repl_message.specs.declared.back.ErrorField.{ErrorField}
 use Rattle.repl_message.specs.Lists.{HasNoField, HasNoPair, IsFirst, IsLast}
 
--- an element, what stands before it, none of which counts, and what stands behind it
+-- an element, what stands before it, none of which counts, and what stands after it
 record IsFound {A : Type 0} (No : A → Type 0) (xs : List A) (x : A) : Type 0 where
   before : List A
   after : List A
@@ -33,18 +33,18 @@ found_at {A} No (y ∷ ys) (suc i) x within at none =
     }
 
 -- there is one such element
-found_one : {A : Type 0} (No : A → Type 0) (front others behind after : List A) (x y : A) → ¬ No x → ¬ No y → All No front → All No others
-    → front ++ x ∷ behind ≡ others ++ y ∷ after → x ≡ y
-found_one No [] [] behind after x y x_counts y_counts front_no others_no e = cc
-found_one No [] (q ∷ others) behind after x y x_counts y_counts front_no others_no e =
+found_one : {A : Type 0} (No : A → Type 0) (front others past after : List A) (x y : A) → ¬ No x → ¬ No y → All No front → All No others
+    → front ++ x ∷ past ≡ others ++ y ∷ after → x ≡ y
+found_one No [] [] past after x y x_counts y_counts front_no others_no e = cc
+found_one No [] (q ∷ others) past after x y x_counts y_counts front_no others_no e =
     let first : q ≡ x = cc in
     absurd (x_counts (subst No first (others_no 0 q (omega arith))))
-found_one No (p ∷ front) [] behind after x y x_counts y_counts front_no others_no e =
+found_one No (p ∷ front) [] past after x y x_counts y_counts front_no others_no e =
     let first : p ≡ y = cc in
     absurd (y_counts (subst No first (front_no 0 p (omega arith))))
-found_one No (p ∷ front) (q ∷ others) behind after x y x_counts y_counts front_no others_no e =
-    let rest : front ++ x ∷ behind ≡ others ++ y ∷ after = cc in
-    found_one No front others behind after x y x_counts y_counts (All-tail No p front front_no) (All-tail No q others others_no) rest
+found_one No (p ∷ front) (q ∷ others) past after x y x_counts y_counts front_no others_no e =
+    let rest : front ++ x ∷ past ≡ others ++ y ∷ after = cc in
+    found_one No front others past after x y x_counts y_counts (All-tail No p front front_no) (All-tail No q others others_no) rest
 
 -- ---- from the back
 

@@ -48,14 +48,14 @@ fronts_one a b x y a_is b_is e =
 
 -- ---- startup packets
 
--- what stands behind a packet's code
-abbrev behind_code : Startup → List ℕ
-behind_code (startup.Params pairs) = ended pair pairs
-behind_code startup.Ssl = []
-behind_code startup.Gss = []
-behind_code (startup.Cancel pid key) = int32 pid ++ int32 key
+-- what stands after a packet's code
+abbrev past_code : Startup → List ℕ
+past_code (startup.Params pairs) = ended pair pairs
+past_code startup.Ssl = []
+past_code startup.Gss = []
+past_code (startup.Cancel pid key) = int32 pid ++ int32 key
 
-startup_parts : (m : Startup) → startup_body m ≡ int32 (startup_code m) ++ behind_code m
+startup_parts : (m : Startup) → startup_body m ≡ int32 (startup_code m) ++ past_code m
 startup_parts (startup.Params pairs) = refl
 startup_parts startup.Ssl = refl
 startup_parts startup.Gss = refl
@@ -67,23 +67,23 @@ startup_codes startup.Ssl = omega arith
 startup_codes startup.Gss = omega arith
 startup_codes (startup.Cancel pid key) = omega arith
 
-startups_behind : (a b : Startup) → FitsStartup a → FitsStartup b → startup_code a ≡ startup_code b → behind_code a ≡ behind_code b → a ≡ b
-startups_behind (startup.Params pairs) (startup.Params others) a_fits b_fits code behind =
-    ap startup.Params (whole_one (ended_one FitsPair pair pair_one pair_marked) pairs others a_fits b_fits behind)
-startups_behind startup.Ssl startup.Ssl a_fits b_fits code behind = refl
-startups_behind startup.Gss startup.Gss a_fits b_fits code behind = refl
-startups_behind (startup.Cancel pid key) (startup.Cancel other secret) a_fits b_fits code behind =
-    let t = int32_one.one pid other (int32 key) (int32 secret) a_fits.0 b_fits.0 behind in
+startups_past : (a b : Startup) → FitsStartup a → FitsStartup b → startup_code a ≡ startup_code b → past_code a ≡ past_code b → a ≡ b
+startups_past (startup.Params pairs) (startup.Params others) a_fits b_fits code past =
+    ap startup.Params (whole_one (ended_one FitsPair pair pair_one pair_marked) pairs others a_fits b_fits past)
+startups_past startup.Ssl startup.Ssl a_fits b_fits code past = refl
+startups_past startup.Gss startup.Gss a_fits b_fits code past = refl
+startups_past (startup.Cancel pid key) (startup.Cancel other secret) a_fits b_fits code past =
+    let t = int32_one.one pid other (int32 key) (int32 secret) a_fits.0 b_fits.0 past in
     let u = whole_one int32_one key secret a_fits.1 b_fits.1 t.1 in
     let p = t.0 in
     cc
-startups_behind _ _ a_fits b_fits code behind = absurd (omega (arith, code))
+startups_past _ _ a_fits b_fits code past = absurd (omega (arith, code))
 
 startup_bodies : (a b : Startup) → FitsStartup a → FitsStartup b → startup_body a ≡ startup_body b → a ≡ b
 startup_bodies a b a_fits b_fits e =
-    let t = int32_one.one (startup_code a) (startup_code b) (behind_code a) (behind_code b) (startup_codes a) (startup_codes b)
+    let t = int32_one.one (startup_code a) (startup_code b) (past_code a) (past_code b) (startup_codes a) (startup_codes b)
     (sym (startup_parts a) ∙ e ∙ startup_parts b) in
-    startups_behind a b a_fits b_fits t.0 t.1
+    startups_past a b a_fits b_fits t.0 t.1
 
 pub startups_one : (a b : Startup) (x y : List ℕ) → IsStartup a → IsStartup b → startup_spelling a ++ x ≡ startup_spelling b ++ y → (a ≡ b)
     × (x ≡ y)
@@ -146,9 +146,9 @@ back_bodies (back.CopyData bytes) (back.CopyData other) a_is b_is kind body = ap
 back_bodies back.CopyDone back.CopyDone a_is b_is kind body = refl
 back_bodies (back.CopyBoth format formats) (back.CopyBoth other others) a_is b_is kind body =
     let first : format ≡ other = cc in
-    let behind : counted int16 formats ≡ counted int16 others = cc in
+    let past : counted int16 formats ≡ counted int16 others = cc in
     let t = whole_one (counted_one (λ f. f < 2 ^ 16) int16 int16_one) formats others (a_is.fits.1, a_is.fits.2) (b_is.fits.1, b_is.fits.2)
-    behind in
+    past in
     cc
 back_bodies _ _ a_is b_is kind body = absurd (omega (arith, kind))
 

@@ -83,7 +83,7 @@ counted_one Fits entry free = record {
 
 -- its spelling, whatever follows it, begins with a byte that is not 0
 abbrev pub IsMarked : List ℕ → Type 0
-IsMarked spelled = (rest : List ℕ) → (b : ℕ) × (behind : List ℕ) × (spelled ++ rest ≡ b ∷ behind) × (0 < b)
+IsMarked spelled = (rest : List ℕ) → (b : ℕ) × (past : List ℕ) × (spelled ++ rest ≡ b ∷ past) × (0 < b)
 
 -- the end of a list is no entry
 end_apart : {A : Type 0} (entry : A → List ℕ) (y : A) (ys : List A) (r s : List ℕ) → IsMarked (entry y) → 0 ∷ r ≡ ended entry (y ∷ ys) ++ s

@@ -13,7 +13,7 @@ use crate::message::COPY_DATA_LIMIT;
 use crate::put::put_bytes;
 use std::alloc::AllocError;
 
-/// Appends the one spelling of a CopyData whose data are a head and the bytes behind it. It is the same from either
+/// Appends the one spelling of a CopyData whose data are a head and the bytes after it. It is the same from either
 /// side. Where that is not done, `out` is as it was.
 pub fn encode_copy_data(head: &[u8], bytes: &[u8], out: &mut Vec<u8>) -> Result<(), EncodeFault>
     ensures ok { OnOk result (out.new.items ≡ out.old.items ++ data_spelling (head.now ++ bytes.now)) }

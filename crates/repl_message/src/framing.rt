@@ -29,7 +29,7 @@ pub(crate) fn put_head(out: &mut Vec<u8>, kind: u8, said: u32) -> Result<(), All
     put_u32(out, said)
 }
 
-/// Where writing failed, removes what stands behind `start`.
+/// Where writing failed, removes what stands after `start`.
 pub(crate) fn whole_or_none(
     out: &mut Vec<u8>,
     start: usize,

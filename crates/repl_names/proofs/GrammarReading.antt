@@ -128,7 +128,7 @@ pub only_read : (text : List ℕ) (r : Result Listing NamesFault) → IfOk r (λ
 only_read text (Ok l) o e list i = inl (ap (λ x. Ok x) (reads_one_list text l list o i))
 only_read text (Err f) o e list i = inr (ap (λ x. Err x) (refused_unread text list f i e))
 
--- ---- what is known behind the judgment
+-- ---- what is known after the judgment
 
 pub record Parsed (text : List ℕ) (tokens : List Token) (s : Shape) : Type 0 where
   pub reads : Reads 0 text tokens

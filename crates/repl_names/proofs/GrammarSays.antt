@@ -61,7 +61,7 @@ inner_are_said inside closing names n e =
 
 -- ---- the one meaning
 
--- the first token is a name, and no parenthesis opens behind it
+-- the first token is a name, and no parenthesis opens after it
 plain_shape : (j : Kind) (second : Option Kind) → IsName j → (second ≡ Some kind.Comma) ⊎ (second ≡ None)
     → shape_from (Some j) second ≡ shape_from None None
 plain_shape j second (inl d) (inl e) = ap (λ k. shape_from (Some k) second) d ∙ ap (shape_from (Some kind.Word)) e

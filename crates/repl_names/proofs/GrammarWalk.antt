@@ -138,61 +138,61 @@ said_passes tokens (m, number, names, says) = says_passes tokens m number names 
 
 -- ---- tokens that pass are a list
 
-behind_name : (k : Kind) (tokens : List Token) → passes (step state.Name k) tokens ≡ true
+past_name : (k : Kind) (tokens : List Token) → passes (step state.Name k) tokens ≡ true
     → (k ≡ kind.Comma) × (passes (Some state.Comma) tokens ≡ true)
-behind_name kind.Comma tokens p = (refl, p)
-behind_name _ tokens p = absurd (nothing_passes tokens p)
+past_name kind.Comma tokens p = (refl, p)
+past_name _ tokens p = absurd (nothing_passes tokens p)
 
-behind_comma : (k : Kind) (tokens : List Token) → passes (step state.Comma k) tokens ≡ true
+past_comma : (k : Kind) (tokens : List Token) → passes (step state.Comma k) tokens ≡ true
     → IsName k × (passes (Some state.Name) tokens ≡ true)
-behind_comma kind.Word tokens p = (inl refl, p)
-behind_comma kind.Number tokens p = (inr (inl refl), p)
-behind_comma kind.Quoted tokens p = (inr (inr (inl refl)), p)
-behind_comma kind.Star tokens p = (inr (inr (inr refl)), p)
-behind_comma _ tokens p = absurd (nothing_passes tokens p)
+past_comma kind.Word tokens p = (inl refl, p)
+past_comma kind.Number tokens p = (inr (inl refl), p)
+past_comma kind.Quoted tokens p = (inr (inr (inl refl)), p)
+past_comma kind.Star tokens p = (inr (inr (inr refl)), p)
+past_comma _ tokens p = absurd (nothing_passes tokens p)
 
-behind_opened : (k : Kind) (tokens : List Token) → passes (step state.Opened k) tokens ≡ true
+past_opened : (k : Kind) (tokens : List Token) → passes (step state.Opened k) tokens ≡ true
     → IsName k × (passes (Some state.Inside) tokens ≡ true)
-behind_opened kind.Word tokens p = (inl refl, p)
-behind_opened kind.Number tokens p = (inr (inl refl), p)
-behind_opened kind.Quoted tokens p = (inr (inr (inl refl)), p)
-behind_opened kind.Star tokens p = (inr (inr (inr refl)), p)
-behind_opened _ tokens p = absurd (nothing_passes tokens p)
+past_opened kind.Word tokens p = (inl refl, p)
+past_opened kind.Number tokens p = (inr (inl refl), p)
+past_opened kind.Quoted tokens p = (inr (inr (inl refl)), p)
+past_opened kind.Star tokens p = (inr (inr (inr refl)), p)
+past_opened _ tokens p = absurd (nothing_passes tokens p)
 
-behind_inside : (k : Kind) (tokens : List Token) → passes (step state.Inside k) tokens ≡ true
+past_inside : (k : Kind) (tokens : List Token) → passes (step state.Inside k) tokens ≡ true
     → ((k ≡ kind.Comma) × (passes (Some state.Opened) tokens ≡ true)) ⊎ ((k ≡ kind.Closing) × (passes (Some state.Closed) tokens ≡ true))
-behind_inside kind.Comma tokens p = inl (refl, p)
-behind_inside kind.Closing tokens p = inr (refl, p)
-behind_inside _ tokens p = absurd (nothing_passes tokens p)
+past_inside kind.Comma tokens p = inl (refl, p)
+past_inside kind.Closing tokens p = inr (refl, p)
+past_inside _ tokens p = absurd (nothing_passes tokens p)
 
-behind_closed : (tokens : List Token) → passes (Some state.Closed) tokens ≡ true → tokens ≡ []
-behind_closed [] p = refl
-behind_closed (token ∷ tokens) p = absurd (nothing_passes tokens p)
+past_closed : (tokens : List Token) → passes (Some state.Closed) tokens ≡ true → tokens ≡ []
+past_closed [] p = refl
+past_closed (token ∷ tokens) p = absurd (nothing_passes tokens p)
 
-behind_keyword : (k : Kind) (tokens : List Token) → passes (step state.Keyword k) tokens ≡ true
+past_keyword : (k : Kind) (tokens : List Token) → passes (step state.Keyword k) tokens ≡ true
     → (k ≡ kind.Number) × (passes (Some state.Number) tokens ≡ true)
-behind_keyword kind.Number tokens p = (refl, p)
-behind_keyword _ tokens p = absurd (nothing_passes tokens p)
+past_keyword kind.Number tokens p = (refl, p)
+past_keyword _ tokens p = absurd (nothing_passes tokens p)
 
-behind_number : (k : Kind) (tokens : List Token) → passes (step state.Number k) tokens ≡ true
+past_number : (k : Kind) (tokens : List Token) → passes (step state.Number k) tokens ≡ true
     → (k ≡ kind.Opening) × (passes (Some state.Opened) tokens ≡ true)
-behind_number kind.Opening tokens p = (refl, p)
-behind_number _ tokens p = absurd (nothing_passes tokens p)
+past_number kind.Opening tokens p = (refl, p)
+past_number _ tokens p = absurd (nothing_passes tokens p)
 
-behind_first_number : (k : Kind) (tokens : List Token) → passes (step state.FirstNumber k) tokens ≡ true
+past_first_number : (k : Kind) (tokens : List Token) → passes (step state.FirstNumber k) tokens ≡ true
     → (passes (step state.Name k) tokens ≡ true) ⊎ ((k ≡ kind.Opening) × (passes (Some state.Opened) tokens ≡ true))
-behind_first_number kind.Comma tokens p = inl p
-behind_first_number kind.Opening tokens p = inr (refl, p)
-behind_first_number _ tokens p = absurd (nothing_passes tokens p)
+past_first_number kind.Comma tokens p = inl p
+past_first_number kind.Opening tokens p = inr (refl, p)
+past_first_number _ tokens p = absurd (nothing_passes tokens p)
 
-names_behind : (token : Token) (tokens : List Token) → IsName token.kind → passes (Some state.Name) tokens ≡ true
+names_past : (token : Token) (tokens : List Token) → IsName token.kind → passes (Some state.Name) tokens ≡ true
     → (names : List (List ℕ)) × AreNames (token ∷ tokens) names
-names_behind token [] n p = (token.text ∷ [], (n, refl))
-names_behind token (comma ∷ []) n p = absurd (false≢true (behind_name comma.kind [] p).1)
-names_behind token (comma ∷ next ∷ tokens) n p =
-    let b = behind_name comma.kind (next ∷ tokens) p in
-    let h = behind_comma next.kind tokens b.1 in
-    let r = names_behind next tokens h.0 h.1 in
+names_past token [] n p = (token.text ∷ [], (n, refl))
+names_past token (comma ∷ []) n p = absurd (false≢true (past_name comma.kind [] p).1)
+names_past token (comma ∷ next ∷ tokens) n p =
+    let b = past_name comma.kind (next ∷ tokens) p in
+    let h = past_comma next.kind tokens b.1 in
+    let r = names_past next tokens h.0 h.1 in
     (token.text ∷ r.0, (n, b.0, (r.0, refl, r.1)))
 
 -- names, and the parenthesis that closes
@@ -204,19 +204,19 @@ record AreInner (tokens : List Token) : Type 0 where
   are_names : AreNames inside names
   closes : closing.kind ≡ kind.Closing
 
-inner_behind : (token : Token) (tokens : List Token) → IsName token.kind → passes (Some state.Inside) tokens ≡ true
+inner_past : (token : Token) (tokens : List Token) → IsName token.kind → passes (Some state.Inside) tokens ≡ true
     → AreInner (token ∷ tokens)
-inner_behind token [] n p = absurd (false≢true p)
-inner_behind token (closing ∷ []) n p =
+inner_past token [] n p = absurd (false≢true p)
+inner_past token (closing ∷ []) n p =
     ⊎_elim
     (λ c. absurd (false≢true c.1))
     (λ c. record { inside = token ∷ []; closing = closing; names = token.text ∷ []; parts = refl; are_names = (n, refl); closes = c.0 })
-    (behind_inside closing.kind [] p)
-inner_behind token (second ∷ next ∷ tokens) n p =
+    (past_inside closing.kind [] p)
+inner_past token (second ∷ next ∷ tokens) n p =
     ⊎_elim
     (λ c.
-    let h = behind_opened next.kind tokens c.1 in
-    let r = inner_behind next tokens h.0 h.1 in
+    let h = past_opened next.kind tokens c.1 in
+    let r = inner_past next tokens h.0 h.1 in
     record {
       inside = token ∷ second ∷ r.inside;
       closing = r.closing;
@@ -226,11 +226,11 @@ inner_behind token (second ∷ next ∷ tokens) n p =
       closes = r.closes;
     })
     (λ c. absurd (nothing_passes tokens c.1))
-    (behind_inside second.kind (next ∷ tokens) p)
+    (past_inside second.kind (next ∷ tokens) p)
 
 inner_opened : (tokens : List Token) → passes (Some state.Opened) tokens ≡ true → AreInner tokens
 inner_opened [] p = absurd (false≢true p)
-inner_opened (token ∷ tokens) p = let h = behind_opened token.kind tokens p in inner_behind token tokens h.0 h.1
+inner_opened (token ∷ tokens) p = let h = past_opened token.kind tokens p in inner_past token tokens h.0 h.1
 
 counted_from : (number opening : Token) (tokens : List Token) → number.kind ≡ kind.Number → opening.kind ≡ kind.Opening
     → passes (Some state.Opened) tokens ≡ true
@@ -251,7 +251,7 @@ counted_from number opening tokens is opens p =
     )
 
 plain_said : (token : Token) (tokens : List Token) → IsName token.kind → passes (Some state.Name) tokens ≡ true → IsSaid (token ∷ tokens)
-plain_said token tokens n p = let r = names_behind token tokens n p in (method.First, None, r.0, (refl, inr r.1))
+plain_said token tokens n p = let r = names_past token tokens n p in (method.First, None, r.0, (refl, inr r.1))
 
 number_said : (token : Token) (tokens : List Token) → token.kind ≡ kind.Number → passes (Some state.FirstNumber) tokens ≡ true
     → IsSaid (token ∷ tokens)
@@ -260,15 +260,15 @@ number_said token (second ∷ tokens) e p =
     ⊎_elim
     (λ q. plain_said token (second ∷ tokens) (inr (inl e)) q)
     (λ q. let r = counted_from token second tokens e q.0 q.1 in (method.First, Some token, r.0, inl (refl, r.1)))
-    (behind_first_number second.kind tokens p)
+    (past_first_number second.kind tokens p)
 
 keyword_said : (m : Method) (token : Token) (tokens : List Token) → token.kind ≡ keyword m → passes (Some state.Keyword) tokens ≡ true
     → IsSaid (token ∷ tokens)
 keyword_said m token [] e p = absurd (false≢true p)
-keyword_said m token (number ∷ []) e p = absurd (false≢true (behind_keyword number.kind [] p).1)
+keyword_said m token (number ∷ []) e p = absurd (false≢true (past_keyword number.kind [] p).1)
 keyword_said m token (number ∷ opening ∷ tokens) e p =
-    let h = behind_keyword number.kind (opening ∷ tokens) p in
-    let g = behind_number opening.kind tokens h.1 in
+    let h = past_keyword number.kind (opening ∷ tokens) p in
+    let g = past_number opening.kind tokens h.1 in
     let r = counted_from number opening tokens h.0 g.0 g.1 in
     (m, Some number, r.0, inr (record { chosen = token; others = number ∷ opening ∷ tokens; parts = refl; chooses = e; are_counted = r.1 }))
 

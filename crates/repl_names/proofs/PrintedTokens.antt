@@ -30,19 +30,19 @@ use Rattle.repl_names.specs.Grammar.{IsName, AreNames, Spells, SaysList, keyword
 abbrev token_of : Kind → List ℕ → ℕ → Token
 token_of k text place = record { kind = k; place = place; text = text }
 
--- the token behind these blanks, which begin at this place
-abbrev token_behind : ℕ → List ℕ → Kind → List ℕ → Token
-token_behind at blanks k text = token_of k text (at + length blanks)
+-- the token after these blanks, which begin at this place
+abbrev token_past : ℕ → List ℕ → Kind → List ℕ → Token
+token_past at blanks k text = token_of k text (at + length blanks)
 
 -- these bytes spell a token of this kind with this text
 abbrev IsToken : Kind → List ℕ → List ℕ → List ℕ → Type 0
-IsToken k text spelled behind = IsTokenAs list_class list_token (token_of k text) spelled behind
+IsToken k text spelled past = IsTokenAs list_class list_token (token_of k text) spelled past
 
-read_next : (at : ℕ) (blanks spelled behind : List ℕ) (k : Kind) (text : List ℕ) (tokens : List Token)
+read_next : (at : ℕ) (blanks spelled past : List ℕ) (k : Kind) (text : List ℕ) (tokens : List Token)
     → All (λ c. is_blank (list_class c) ≡ true) blanks
-    → IsToken k text spelled behind → Reads (at + length blanks + length spelled) behind tokens
-    → Reads at (blanks ++ spelled ++ behind) (token_behind at blanks k text ∷ tokens)
-read_next at blanks spelled behind k text tokens blank is reads = written.read_next list_class list_token at blanks spelled behind
+    → IsToken k text spelled past → Reads (at + length blanks + length spelled) past tokens
+    → Reads at (blanks ++ spelled ++ past) (token_past at blanks k text ∷ tokens)
+read_next at blanks spelled past k text tokens blank is reads = written.read_next list_class list_token at blanks spelled past
     (token_of k text) tokens blank is reads
 
 no_blank : All (λ c. is_blank (list_class c) ≡ true) []
@@ -52,22 +52,22 @@ one_space : All (λ c. is_blank (list_class c) ≡ true) (32 ∷ [])
 one_space = one_blank list_class 32 refl
 
 -- a byte that is a token of its own
-sign_token : (sign : ℕ) (k : Kind) (text behind : List ℕ) → list_class sign ≡ class.Alone
+sign_token : (sign : ℕ) (k : Kind) (text past : List ℕ) → list_class sign ≡ class.Alone
     → ((place : ℕ) → said (sign_kind sign) place [] ≡ token_of k text place)
-    → IsToken k text (sign ∷ []) behind
-sign_token sign k text behind alone means = record { kind = raw.Alone sign; text = []; is = (refl, refl, alone); means = means }
+    → IsToken k text (sign ∷ []) past
+sign_token sign k text past alone means = record { kind = raw.Alone sign; text = []; is = (refl, refl, alone); means = means }
 
-comma_token : (behind : List ℕ) → IsToken kind.Comma [] (codes ",") behind
-comma_token behind = sign_token 44 kind.Comma [] behind refl (λ place. refl)
+comma_token : (past : List ℕ) → IsToken kind.Comma [] (codes ",") past
+comma_token past = sign_token 44 kind.Comma [] past refl (λ place. refl)
 
-opening_token : (behind : List ℕ) → IsToken kind.Opening [] (codes "(") behind
-opening_token behind = sign_token 40 kind.Opening [] behind refl (λ place. refl)
+opening_token : (past : List ℕ) → IsToken kind.Opening [] (codes "(") past
+opening_token past = sign_token 40 kind.Opening [] past refl (λ place. refl)
 
-closing_token : (behind : List ℕ) → IsToken kind.Closing [] (codes ")") behind
-closing_token behind = sign_token 41 kind.Closing [] behind refl (λ place. refl)
+closing_token : (past : List ℕ) → IsToken kind.Closing [] (codes ")") past
+closing_token past = sign_token 41 kind.Closing [] past refl (λ place. refl)
 
-quoted_token : (name behind : List ℕ) → IsText name → EndsBefore (λ c. c == 34) behind → IsToken kind.Quoted name (quoted 34 name) behind
-quoted_token name behind texts ends = record {
+quoted_token : (name past : List ℕ) → IsText name → EndsBefore (λ c. c == 34) past → IsToken kind.Quoted name (quoted 34 name) past
+quoted_token name past texts ends = record {
   kind = raw.Quoted 34;
   text = name;
   is = (refl, record { spelled = refl; ends = ends });
@@ -75,31 +75,31 @@ quoted_token name behind texts ends = record {
 }
 
 -- a name is printed as `*` or in quotes
-record IsPrinted (name behind : List ℕ) : Type 0 where
+record IsPrinted (name past : List ℕ) : Type 0 where
   kind_of : Kind
   is_name : IsName kind_of
-  is_token : IsToken kind_of name (name_spelling name) behind
+  is_token : IsToken kind_of name (name_spelling name) past
 
-printed_name : (name behind : List ℕ) → IsText name → EndsBefore (λ c. c == 34) behind → IsPrinted name behind
-printed_name name behind texts ends = by_test (bytes_eq name (codes "*")) refl
+printed_name : (name past : List ℕ) → IsText name → EndsBefore (λ c. c == 34) past → IsPrinted name past
+printed_name name past texts ends = by_test (bytes_eq name (codes "*")) refl
   where
-    by_test : (b : Bool) → bytes_eq name (codes "*") ≡ b → IsPrinted name behind
+    by_test : (b : Bool) → bytes_eq name (codes "*") ≡ b → IsPrinted name past
     by_test true e =
         let star : name ≡ codes "*" = (bytes_eq-Decides name (codes "*")).0 e in
         record {
           kind_of = kind.Star;
           is_name = inr (inr (inr refl));
           is_token = subst
-              (λ (text : List ℕ). IsToken kind.Star name text behind) (sym (ap (λ b. cond b (codes "*") (quoted 34 name)) e))
-              (subst (λ (text : List ℕ). IsToken kind.Star text (codes "*") behind) (sym star)
-              (sign_token 42 kind.Star (codes "*") behind refl (λ place. refl)));
+              (λ (text : List ℕ). IsToken kind.Star name text past) (sym (ap (λ b. cond b (codes "*") (quoted 34 name)) e))
+              (subst (λ (text : List ℕ). IsToken kind.Star text (codes "*") past) (sym star)
+              (sign_token 42 kind.Star (codes "*") past refl (λ place. refl)));
         }
     by_test false e =
         record {
           kind_of = kind.Quoted;
           is_name = inr (inr (inl refl));
-          is_token = subst (λ (text : List ℕ). IsToken kind.Quoted name text behind)
-              (sym (ap (λ b. cond b (codes "*") (quoted 34 name)) e)) (quoted_token name behind texts ends);
+          is_token = subst (λ (text : List ℕ). IsToken kind.Quoted name text past)
+              (sym (ap (λ b. cond b (codes "*") (quoted 34 name)) e)) (quoted_token name past texts ends);
         }
 
 -- the names, and the parenthesis that closes them
@@ -110,7 +110,7 @@ record ReadsNames (at : ℕ) (bytes : List ℕ) (names : List (List ℕ)) : Type
   are_names : AreNames inside names
   closes : closing.kind ≡ kind.Closing
 
--- names behind blanks: a space, but for the first
+-- names after blanks: a space, but for the first
 read_names : (at : ℕ) (blanks : List ℕ) (names : List (List ℕ)) → All (λ c. is_blank (list_class c) ≡ true) blanks → 0 < length names
     → All IsText names → ReadsNames at (blanks ++ names_spelling names ++ codes ")") names
 read_names at blanks [] blank some texts = absurd (omega arith)
@@ -118,10 +118,10 @@ read_names at blanks (name ∷ []) blank some texts =
     let p = printed_name name (codes ")") (All-head IsText name [] texts) refl in
     let end : ℕ = at + length blanks + length (name_spelling name) in
     record {
-      inside = token_behind at blanks p.kind_of name ∷ [];
-      closing = token_behind end [] kind.Closing [];
+      inside = token_past at blanks p.kind_of name ∷ [];
+      closing = token_past end [] kind.Closing [];
       reads = read_next at blanks (name_spelling name) (codes ")") p.kind_of name
-          (token_behind end [] kind.Closing [] ∷ []) blank p.is_token (read_next end [] (codes ")") [] kind.Closing [] [] no_blank
+          (token_past end [] kind.Closing [] ∷ []) blank p.is_token (read_next end [] (codes ")") [] kind.Closing [] [] no_blank
           (closing_token []) (read_end list_class list_token (end + 0 + 1)));
       are_names = (p.is_name, refl);
       closes = refl;
@@ -132,15 +132,15 @@ read_names at blanks (name ∷ second ∷ names) blank some texts =
     (All-tail IsText name (second ∷ names) texts) in
     let rest : List ℕ = codes " " ++ names_spelling (second ∷ names) ++ codes ")" in
     let p = printed_name name (44 ∷ rest) (All-head IsText name (second ∷ names) texts) refl in
-    let comma : Token = token_behind end [] kind.Comma [] in
+    let comma : Token = token_past end [] kind.Comma [] in
     let parts : blanks ++ name_spelling name ++ 44 ∷ rest ≡ blanks ++ names_spelling (name ∷ second ∷ names) ++ codes ")" =
     simp append_assoc in
     let reads_comma : Reads end (44 ∷ rest) (comma ∷ others.inside ++ others.closing ∷ []) =
     read_next end [] (codes ",") rest kind.Comma [] (others.inside ++ others.closing ∷ []) no_blank (comma_token rest) others.reads in
     record {
-      inside = token_behind at blanks p.kind_of name ∷ comma ∷ others.inside;
+      inside = token_past at blanks p.kind_of name ∷ comma ∷ others.inside;
       closing = others.closing;
-      reads = subst (λ bytes. Reads at bytes (token_behind at blanks p.kind_of name ∷ comma ∷ others.inside ++ others.closing ∷ [])) parts
+      reads = subst (λ bytes. Reads at bytes (token_past at blanks p.kind_of name ∷ comma ∷ others.inside ++ others.closing ∷ [])) parts
           (read_next at blanks (name_spelling name) (44 ∷ rest) p.kind_of name
           (comma ∷ others.inside ++ others.closing ∷ []) blank p.is_token reads_comma);
       are_names = (p.is_name, refl, (second ∷ names, refl, others.are_names));
@@ -148,8 +148,8 @@ read_names at blanks (name ∷ second ∷ names) blank some texts =
     }
 
 -- a keyword is a word
-read_keyword : (m : Method) (behind : List ℕ) → IsToken (keyword m) (method_spelling m) (method_spelling m) (32 ∷ behind)
-read_keyword method.First behind = record {
+read_keyword : (m : Method) (past : List ℕ) → IsToken (keyword m) (method_spelling m) (method_spelling m) (32 ∷ past)
+read_keyword method.First past = record {
   kind = raw.Word;
   text = codes "FIRST";
   is = (
@@ -165,7 +165,7 @@ read_keyword method.First behind = record {
   );
   means = λ place. refl;
 }
-read_keyword method.Any behind = record {
+read_keyword method.Any past = record {
   kind = raw.Word;
   text = codes "ANY";
   is = (
@@ -195,8 +195,8 @@ digits_are_ascii : (ds : List ℕ) → AllDigits 10 ds → All (λ c. is_ascii_d
 digits_are_ascii [] h = All-nil (λ c. is_ascii_digit c ≡ true)
 digits_are_ascii (c ∷ cs) h = All-cons (λ c. is_ascii_digit c ≡ true) c cs (grind (arith, nat_tests)) (digits_are_ascii cs h.1)
 
-read_number : (n : ℕ) (behind : List ℕ) → n < 2 ^ 64 → IsToken kind.Number (decimal n) (decimal n) (32 ∷ behind)
-read_number n behind small =
+read_number : (n : ℕ) (past : List ℕ) → n < 2 ^ 64 → IsToken kind.Number (decimal n) (decimal n) (32 ∷ past)
+read_number n past small =
     let digits = decimal n in
     let some = decimal_nonempty n small in
     let all = digits_are_ascii digits (decimal_is_IsNumeral n small).0.1 in
@@ -207,7 +207,7 @@ read_number n behind small =
     record {
       kind = raw.Number;
       text = digits;
-      is = (refl, run_of list_class class.Digit is_digit digits (32 ∷ behind) some (digit_is (get_or digits 0 0) first) passes refl);
+      is = (refl, run_of list_class class.Digit is_digit digits (32 ∷ past) some (digit_is (get_or digits 0 0) first) passes refl);
       means = λ place. said_text kind.Number place digits (λ e. cc) texts;
     }
 
@@ -220,9 +220,9 @@ spells_some list names is some texts small =
     let after_word : ℕ = 0 + 0 + length word in
     let after_number : ℕ = after_word + 1 + length digits in
     let inner = read_names (after_number + 1 + 1) [] names no_blank some texts in
-    let opening : Token = token_behind after_number (codes " ") kind.Opening [] in
-    let number : Token = token_behind after_word (codes " ") kind.Number digits in
-    let chosen : Token = token_behind 0 [] (keyword list.method) word in
+    let opening : Token = token_past after_number (codes " ") kind.Opening [] in
+    let number : Token = token_past after_word (codes " ") kind.Number digits in
+    let chosen : Token = token_past 0 [] (keyword list.method) word in
     let tail : List ℕ = names_spelling names ++ codes ")" in
     let counted : List Token = number ∷ opening ∷ inner.inside ++ inner.closing ∷ [] in
     let reads_opening : Reads after_number (codes " (" ++ tail) (opening ∷ inner.inside ++ inner.closing ∷ []) =

@@ -102,10 +102,10 @@ count_into_by p q c cs true e new apart h rest =
     let first = All-head (λ x. p x ≡ true → Passes q new x) c cs h e in
     let d = first.0 in
     let k = first.1.0 in
-    let behind = All-tail (λ x. p x ≡ true → Passes q new x) c cs h in
+    let past = All-tail (λ x. p x ≡ true → Passes q new x) c cs h in
     let more = rest (remove new k) (λ i x l passes.
     let y = get_or cs i x in
-    passes_without q new k d y first.1.1 first.1.2 (λ same. apart i x l (same ∙ first.2)) (behind i x l passes)) in
+    passes_without q new k d y first.1.1 first.1.2 (λ same. apart i x l (same ∙ first.2)) (past i x l passes)) in
     omega (arith, count_cons p c cs ∙ ap (λ b. cond {A = ℕ} b 1 0 + count_by p cs) e, count_without q new k d first.1.1 first.1.2 first.3)
 
 -- no fewer pass the test where each that passed has one of its own that does

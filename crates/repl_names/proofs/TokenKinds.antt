@@ -133,29 +133,29 @@ raw_number (raw.Quoted quote) text e = absurd cc
 raw_number raw.Wrong text e = absurd cc
 raw_number (raw.Unclosed quote) text e = absurd cc
 
-run_digits : (text behind : List ℕ) → IsToken list_class raw.Number text text behind → All (λ c. is_ascii_digit c ≡ true) text
-run_digits text behind h = All-weaker (λ c. is_digit (list_class c) ≡ true) (λ c. is_ascii_digit c ≡ true) digit_class text
-    (run_all list_class class.Digit is_digit text behind refl h.1)
+run_digits : (text past : List ℕ) → IsToken list_class raw.Number text text past → All (λ c. is_ascii_digit c ≡ true) text
+run_digits text past h = All-weaker (λ c. is_digit (list_class c) ≡ true) (λ c. is_ascii_digit c ≡ true) digit_class text
+    (run_all list_class class.Digit is_digit text past refl h.1)
 
-token_digits : (t : RawToken) (spelled behind : List ℕ) → IsToken list_class t.kind t.text spelled behind
+token_digits : (t : RawToken) (spelled past : List ℕ) → IsToken list_class t.kind t.text spelled past
     → (list_token t).kind ≡ kind.Number
     → All (λ c. is_ascii_digit c ≡ true) (list_token t).text
-token_digits t spelled behind is n =
+token_digits t spelled past is n =
     let number = said_number (kind_of t.kind t.text) t.place t.text n in
     let k = raw_number t.kind t.text number.0 in
-    let run : IsToken list_class raw.Number t.text spelled behind = subst
-    (λ (j : lexer.Kind). IsToken list_class j t.text spelled behind) k is in
-    let digits = run_digits spelled behind (refl, run.1) in
+    let run : IsToken list_class raw.Number t.text spelled past = subst
+    (λ (j : lexer.Kind). IsToken list_class j t.text spelled past) k is in
+    let digits = run_digits spelled past (refl, run.1) in
     subst (All (λ c. is_ascii_digit c ≡ true)) (sym (number.1 ∙ run.0)) digits
 
 raw_digits : (at : ℕ) (bytes : List ℕ) (tokens : List RawToken) (i : ℕ) (number : Token) → lexer_token.Reads list_class at bytes tokens
     → slice_get (map list_token tokens) i ≡ Some number → number.kind ≡ kind.Number → All (λ c. is_ascii_digit c ≡ true) number.text
 raw_digits at bytes [] i number r e k = absurd cc
-raw_digits at bytes (t ∷ tokens) zero number (behind, place, next, size, others) e k =
+raw_digits at bytes (t ∷ tokens) zero number (past, place, next, size, others) e k =
     let same : list_token t ≡ number = cc in
     subst (λ (n : Token). All (λ c. is_ascii_digit c ≡ true) n.text) same
-    (token_digits t next.spelled behind next.is (ap (λ (n : Token). n.kind) same ∙ k))
-raw_digits at bytes (t ∷ tokens) (suc i) number (behind, place, next, size, others) e k = raw_digits place behind tokens i number others e k
+    (token_digits t next.spelled past next.is (ap (λ (n : Token). n.kind) same ∙ k))
+raw_digits at bytes (t ∷ tokens) (suc i) number (past, place, next, size, others) e k = raw_digits place past tokens i number others e k
 
 -- the digits of a number among the tokens of a list
 pub reads_number : (at : ℕ) (bytes : List ℕ) (tokens : List Token) (i : ℕ) (number : Token) → Reads at bytes tokens

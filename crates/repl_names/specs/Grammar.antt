@@ -79,7 +79,7 @@ pub record SaysList (text : List ℕ) (list : Listing) : Type 0 where
 
 -- ---- refusals
 
--- where the token at this index stands, or the text's length behind the last
+-- where the token at this index stands, or the text's length after the last
 abbrev pub place_at : List Token → ℕ → ℕ → ℕ
 place_at [] i end = end
 place_at (token ∷ tokens) zero end = token.place

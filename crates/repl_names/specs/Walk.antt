@@ -22,7 +22,7 @@ is_name kind.Quoted = true
 is_name kind.Star = true
 is_name _ = false
 
--- the state behind a token of this kind, or none where no list goes on with it
+-- the state after a token of this kind, or none where no list goes on with it
 abbrev pub step : State → Kind → Option State
 step state.Start kind.Number = Some state.FirstNumber
 step state.Start kind.First = Some state.Keyword

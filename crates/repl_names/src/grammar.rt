@@ -14,21 +14,21 @@ use std::alloc::{AllocError, Global};
 enum State {
     /// No token is read.
     Start,
-    /// Behind a number that stands first: a name, or how many of those that follow.
+    /// After a number that stands first: a name, or how many of those that follow.
     FirstNumber,
-    /// Behind a name that stands in no parentheses.
+    /// After a name that stands in no parentheses.
     Name,
-    /// Behind a comma after it.
+    /// After a comma that follows it.
     Comma,
-    /// Behind `FIRST` or `ANY`.
+    /// After `FIRST` or `ANY`.
     Keyword,
-    /// Behind the number after it.
+    /// After the number that follows it.
     Number,
     /// In parentheses, where a name is to follow.
     Opened,
-    /// In parentheses, behind a name.
+    /// In parentheses, after a name.
     Inside,
-    /// Behind the closing parenthesis.
+    /// After the closing parenthesis.
     Closed,
 }
 
@@ -42,7 +42,7 @@ impl Kind {
 }
 
 impl State {
-    /// The state behind a token of this kind, or `None` where no list goes on with it.
+    /// The state after a token of this kind, or `None` where no list goes on with it.
     fn next(self, kind: Kind) -> Option<State>
         ensures { result ≡ step self kind }
     {

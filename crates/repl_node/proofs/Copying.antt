@@ -55,9 +55,9 @@ module _ (old mid : DiskState) (folder : Folder) (slots : HasNoSlots old mid fol
       (copying_copied size d))
 
   -- the log's source is known to it as to the node
-  pub known_behind : {E : Type 0} (source : DiskState) (held : HeldLog E) (n : LogState) (known : ℕ) → IsKnownSource source held old n known
+  pub known_past : {E : Type 0} (source : DiskState) (held : HeldLog E) (n : LogState) (known : ℕ) → IsKnownSource source held old n known
       → IsKnownSource source held mid n known
-  known_behind source held n known is = record {
+  known_past source held n known is = record {
     holds = is.holds;
     told = is.told;
     size = is.size;

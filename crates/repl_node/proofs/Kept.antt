@@ -54,7 +54,7 @@ least_below slots (Some least) at other is there = omega (arith, All-contains (�
 
 -- ---- a node's floor
 
--- the floor behind a trim holds nothing back that a listed slot holds
+-- the floor after a trim holds nothing back that a listed slot holds
 pub trimmed_kept : (n : NodeState) (keep : ℕ) (least : Option ℕ) → IsLog n.log → IsKept n → AreListed n → IsFloor n.slots least
     → All (λ (entry : Entry). IfSome entry.restart (λ restart. trimmed_floor n.log least keep ≤ segment_start n.log.size restart)) n.saved
 trimmed_kept n keep least is kept listed floor =
@@ -105,7 +105,7 @@ saved_left n is kept above d saved (old, slots) =
           (subst (λ (e : Durable). Kept n.log.size e (entries_of n.slots)) (sym old) (above_kept n is above))
     ]
 
--- so is it behind a trim, however that ended
+-- so is it after a trim, however that ended
 trimmed_by : (n : NodeState) (keep : ℕ) (least : Option ℕ) (m : LogState) → IsLog n.log → IsKept n → AreListed n → IsFloor n.slots least
     → Sorted (IsTrimmed n.log least keep) (PartlyTrims n.log least keep) n.log m → Kept m.size m.kept.durable n.saved
 trimmed_by n keep least m is kept listed floor (done at trimmed sound) =

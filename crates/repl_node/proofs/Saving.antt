@@ -63,7 +63,7 @@ module _ (old new : DiskState) (bytes : List ℕ) (result : Result (Unit {0}) Sl
         weakened old new (IsBeforeOrAfter old.may_leave slots_name aside_name bytes) (IsOneButApart old.may_leave) only (but old.may_leave));
   }
 
--- ---- the node behind it
+-- ---- the node after it
 
 module _ {D : Type 0} (old new : DiskState) (before : HeldNode D) (disk : D) (n : NodeState) (holds : Holds old before n)
     (only : OnlyApart old new) (stored : IfTold old.files (λ folder. StoresThrough old new (entries_of before.slots.slots))) where

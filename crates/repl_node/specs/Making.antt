@@ -44,7 +44,7 @@ AreBadSlots size folder e = (place : ℕ) × (e ≡ fault.BadSlots place) × ((c
 abbrev pub IsFirstRefusal : ℕ → Folder → NodeFault → Type 0
 IsFirstRefusal size folder e = ((f : StoreFault) × (e ≡ of_store f) × IsBeforeSlots f × IsRefusal size folder f) ⊎ AreBadSlots size folder e
 
--- That; or both are right, and what follows is not: the history, the segments, or what is flushed behind the whole end.
+-- That; or both are right, and what follows is not: the history, the segments, or what is flushed past the whole end.
 abbrev pub IsNodeRefusal : ℕ → Folder → (Folder → Type 0) → NodeFault → Type 0
 IsNodeRefusal size folder leaves e = IsFirstRefusal size folder e
     ⊎ ((saved : List Entry) × Stores saved folder × IsMountRefusal size folder leaves e)
@@ -73,7 +73,7 @@ pub record IsJudged {A : Type 0} (result : Result A NodeFault) (old new : DiskSt
 abbrev pub OnlyThese : Durable → List Entry → Left
 OnlyThese log slots d saved = (d ≡ log) × (saved ≡ slots)
 
--- Where a crash leaves nothing but what the files stand for, it only reads: a crash in it leaves that, and behind it too, and a
+-- Where a crash leaves nothing but what the files stand for, it only reads: a crash in it leaves that, and after it too, and a
 -- failure was counted as one.
 pub record OnlyOpensNode {A : Type 0} (result : Result A NodeFault) (old new : DiskState) (size : ℕ) (d : Durable) (saved : List Entry) : Type 0 where
   pub moments : LeavesSome old new size (OnlyThese d saved)

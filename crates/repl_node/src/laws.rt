@@ -11,17 +11,17 @@ ghost use Rattle.repl_node.specs.Keeping.{AreAbove, AreListed, IsKept, IsTrimmed
 ghost use Rattle.repl_node.specs.State.{LeftOf, NodeState, saved_node};
 ghost use Rattle.repl_node.specs.Steps.{SaveLeaves};
 
-/// A trim keeps the log for every slot that is saved, at each of its moments and behind it, where no such slot was dropped since
+/// A trim keeps the log for every slot that is saved, at each of its moments and after it, where no such slot was dropped since
 /// the last save.
 pub fn trim_keeps()
     ensures moments { (n : NodeState) (keep : ℕ) → IsLog n.log → IsKept n → AreListed n → KeptIn n.log.size (TrimLeavesNode n keep) }
-    ensures behind { (n m : NodeState) (keep : ℕ) (result : Result ℕ NodeFault) → IsLog n.log → IsKept n → AreListed n → IsTrimmedNode n keep result m → IsKept m }
+    ensures past { (n m : NodeState) (keep : ℕ) (result : Result ℕ NodeFault) → IsLog n.log → IsKept n → AreListed n → IsTrimmedNode n keep result m → IsKept m }
 {}
 
 /// Saving the slots keeps the log for every one, where no restart position that is saved lies below the floor.
 pub fn save_keeps()
     ensures moments { (n : NodeState) → IsLog n.log → IsKept n → AreAbove n → KeptIn n.log.size (SaveLeaves n) }
-    ensures behind { (n : NodeState) → IsLog n.log → AreAbove n → IsKept (saved_node n) }
+    ensures past { (n : NodeState) → IsLog n.log → AreAbove n → IsKept (saved_node n) }
 {}
 
 /// So does every other call: it moves no floor, and saves no slot.

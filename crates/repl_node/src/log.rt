@@ -21,7 +21,7 @@ use repl_wal::{NodeFault, ReadOut};
 use std::alloc::Global;
 
 impl<D: Disk> Node<D> {
-    /// Appends a record behind the last one, and answers where it ends. It is certain on the disk from the next `flush` on.
+    /// Appends a record after the last one, and answers where it ends. It is certain on the disk from the next `flush` on.
     /// Takes memory for the record's image, once.
     pub fn append(&mut self, alloc: Global, item: &RecordIn) -> Result<Lsn, NodeFault>
         ensures steps { (n : NodeState) → Holds (D.state self.old.wal.store.disk) self.old n →
@@ -74,7 +74,7 @@ impl<D: Disk> Node<D> {
         self.wal.demote()
     }
 
-    /// Makes the standby a primary, on a new timeline behind its last whole record, and answers both. Its number is at least the
+    /// Makes the standby a primary, on a new timeline after its last whole record, and answers both. Its number is at least the
     /// given one and above every one that was heard of. What is written of a further record goes. Takes memory for the history
     /// and a piece of a segment.
     pub fn promote(&mut self, alloc: Global, at_least: u32) -> Result<(Tli, Lsn), NodeFault>
@@ -87,7 +87,7 @@ impl<D: Disk> Node<D> {
     }
 
     /// Goes on with a timeline that another node began where this log's whole records end. What is written or flushed
-    /// behind that goes. Takes memory for the history and a piece of a segment.
+    /// after that goes. Takes memory for the history and a piece of a segment.
     pub fn follow(&mut self, alloc: Global, child: &History) -> Result<(), NodeFault>
         ensures steps { (n : NodeState) → Holds (D.state self.old.wal.store.disk) self.old n →
             Comes result (D.state self.old.wal.store.disk) (D.state self.new.wal.store.disk) self.new n (OfLog n (Follows n.log child.now result)) (LeftOf n (FollowLeaves n.log child.now)) }
@@ -99,7 +99,7 @@ impl<D: Disk> Node<D> {
 
     /// Reads the log's bytes from the position on into the front of the room, as far as they are of this timeline or of those
     /// before it, and are flushed. Where there is more than room, it ends with the last page's start in the room, if one is
-    /// behind the position. Takes memory for the names of segments.
+    /// past the position. Takes memory for the names of segments.
     pub fn read(
         &mut self,
         alloc: Global,

@@ -22,10 +22,10 @@ use std::alloc::Global;
 
 impl<D: Disk> Node<D> {
     /// Opens the node that stands on the disk. It judges the control, the slots, the history and the segments, in this order, and
-    /// then walks what is flushed behind the whole end: what is no record there is `Damaged`, and where a further record ends,
+    /// then walks what is flushed past the whole end: what is no record there is `Damaged`, and where a further record ends,
     /// the control is wrong (`BadControl` at its whole end). Takes memory for a piece of the log, and for the slots.
     pub fn mount(alloc: Global, disk: D) -> Result<Node<D>, (NodeFault, D)>
-        // What is mounted is what the files stand for, and nothing is written behind it.
+        // What is mounted is what the files stand for, and nothing is written after it.
         ensures mounted { IfOk result (λ node. (node.wal.stopped ≡ None) × IfTold (D.state disk).files (λ folder.
             (d : Durable) × StandsFor VERSION_1_SIZE folder d × IsMounted node.wal.store.head VERSION_1_SIZE d)) }
         // So are the slots, each with its restart position saved.

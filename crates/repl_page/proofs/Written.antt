@@ -4,7 +4,7 @@ use Rattle.byteorder.specs.Endian.{little_bytes}
 use Rattle.byteorder.specs.Numbers.{little_number-reads_back}
 use Rattle.repl_page.specs.declared.header.PageHeader.{PageHeader}
 use Rattle.repl_page.specs.declared.header.LongPart.{LongPart}
-use Rattle.repl_page.specs.Header.{Agrees, AgreesShort, AgreesLong, AgreesBehind, IsHeader, judged, header_bytes, long_bytes, long_bytes_of}
+use Rattle.repl_page.specs.Header.{Agrees, AgreesShort, AgreesLong, AgreesPast, IsHeader, judged, header_bytes, long_bytes, long_bytes_of}
 
 short_written : (header : PageHeader) (rest : List ℕ) → IsHeader header → AgreesShort header (header_bytes header ++ rest)
 short_written header rest fits =
@@ -29,13 +29,13 @@ long_written long rest system segment page =
       page = little_number-reads_back 4 long.page_size rest page;
     }
 
-behind_written : (long : Option LongPart) (rest : List ℕ) → IfSome long (λ long. (long.sysid < 2 ^ 64) × (long.seg_size < 2 ^ 32)
-    × (long.page_size < 2 ^ 32)) → AgreesBehind long (long_bytes_of long ++ rest)
-behind_written None rest fits = tt
-behind_written (Some long) rest fits = long_written long rest fits.0 fits.1 fits.2
+past_written : (long : Option LongPart) (rest : List ℕ) → IfSome long (λ long. (long.sysid < 2 ^ 64) × (long.seg_size < 2 ^ 32)
+    × (long.page_size < 2 ^ 32)) → AgreesPast long (long_bytes_of long ++ rest)
+past_written None rest fits = tt
+past_written (Some long) rest fits = long_written long rest fits.0 fits.1 fits.2
 
 pub written : (header : PageHeader) (rest : List ℕ) → IsHeader header → Agrees header (header_bytes header ++ rest)
 written header rest fits = record {
   short = short_written header rest fits;
-  long = behind_written header.long rest fits.long;
+  long = past_written header.long rest fits.long;
 }

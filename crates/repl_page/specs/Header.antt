@@ -93,14 +93,14 @@ pub record AgreesLong (expected : LongPart) (bytes : List ℕ) : Type 0 where
   pub segment : field 8 4 bytes ≡ expected.seg_size
   pub page : field 12 4 bytes ≡ expected.page_size
 
-abbrev pub AgreesBehind : Option LongPart → List ℕ → Type 0
-AgreesBehind None bytes = Unit {0}
-AgreesBehind (Some long) bytes = AgreesLong long bytes
+abbrev pub AgreesPast : Option LongPart → List ℕ → Type 0
+AgreesPast None bytes = Unit {0}
+AgreesPast (Some long) bytes = AgreesLong long bytes
 
 -- the bytes begin with this header, but for what is not judged
 pub record Agrees (expected : PageHeader) (bytes : List ℕ) : Type 0 where
   pub short : AgreesShort expected bytes
-  pub long : AgreesBehind expected.long (drop 24 bytes)
+  pub long : AgreesPast expected.long (drop 24 bytes)
 
 -- two headers differ in nothing that is judged
 pub record SayTheSame (a b : PageHeader) : Type 0 where
@@ -154,10 +154,10 @@ IsLongFault long bytes (fault.Timeline found expected) = ⊥
 IsLongFault long bytes (fault.Address found expected) = ⊥
 IsLongFault long bytes (fault.RemLen found expected) = ⊥
 
-abbrev pub IsFaultBehind : Option LongPart → List ℕ → PageFault → Type 0
-IsFaultBehind None bytes why = ⊥
-IsFaultBehind (Some long) bytes why = IsLongFault long bytes why
+abbrev pub IsFaultPast : Option LongPart → List ℕ → PageFault → Type 0
+IsFaultPast None bytes why = ⊥
+IsFaultPast (Some long) bytes why = IsLongFault long bytes why
 
 -- what is wrong with the header at the front of the bytes: the first field that differs
 abbrev pub IsPageFault : PageHeader → List ℕ → PageFault → Type 0
-IsPageFault header bytes why = IsShortFault header bytes why ⊎ (AgreesShort header bytes × IsFaultBehind header.long (drop 24 bytes) why)
+IsPageFault header bytes why = IsShortFault header bytes why ⊎ (AgreesShort header bytes × IsFaultPast header.long (drop 24 bytes) why)

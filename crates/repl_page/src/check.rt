@@ -10,7 +10,7 @@ const JUDGED: u16 = 4;
 
 /// Judges the header at the front of the bytes against the one that is expected, field by field in the order in which
 /// they stand: the first that differs is the fault. Of the flags only the two lowest are judged, and the four bytes of
-/// padding are not read. Bytes behind the header are not read either.
+/// padding are not read. Bytes after the header are not read either.
 pub fn check_header(expected: &PageHeader, bytes: &[u8]) -> Result<(), PageFault>
     requires { length_of expected.now ≤ length bytes.now }
     ensures agrees { IsOk result ↔ Agrees expected.now bytes.now }
@@ -67,7 +67,7 @@ fn check_short(expected: &PageHeader, bytes: &[u8]) -> Result<(), PageFault>
     Ok(())
 }
 
-/// Judges the fields that a long header has besides; the bytes are those behind the others.
+/// Judges the fields that a long header has besides; the bytes are those after the others.
 fn check_long(expected: LongPart, bytes: &[u8]) -> Result<(), PageFault>
     requires { 16 ≤ length bytes.now }
     ensures agrees { IsOk result ↔ AgreesLong expected bytes.now }

@@ -78,7 +78,7 @@ none_refused s left bytes more rest messages all last f parts read wrong are =
     elim (readings (first_phase s) last are.0 left (rest ++ more) [] messages all here are.1) [
       | inl a ↦ refused_some last rest f wrong (none_in_front rest more a.left_over)
       | inr e ↦ elim e [
-        | inl g ↦ stuck_wrong last rest more f wrong g.message g.behind g.belongs g.parts
+        | inl g ↦ stuck_wrong last rest more f wrong g.message g.past g.belongs g.parts
         | inr g ↦ none_further are.0 all messages g
       ]
     ]
@@ -91,7 +91,7 @@ none_begun s left bytes rest messages all last same read short some are =
     elim (readings (first_phase s) last are.0 left rest [] messages all here are.1) [
       | inl a ↦ some a.left_over
       | inr e ↦ elim e [
-        | inl g ↦ stuck_short last rest short g.message g.behind g.belongs g.parts
+        | inl g ↦ stuck_short last rest short g.message g.past g.belongs g.parts
         | inr g ↦ none_further are.0 all messages g
       ]
     ]

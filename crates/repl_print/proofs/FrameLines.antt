@@ -28,12 +28,12 @@ lines_then p q bytes rest [] ns place at read is =
     let same : place ≡ capped (at + (length bytes - length rest)) = omega (arith, is, ap length read.1) in
     ap (λ (k : ℕ). lines k ns) same
 lines_then p q bytes rest (m ∷ ms) ns place at read is =
-    let behind : List ℕ = read.1.0 in
+    let past : List ℕ = read.1.0 in
     let next : capped (place + length (spelling m)) ≡ capped (at + length (spelling m)) = omega (arith, is) in
-    let within = read_within (after p m) q behind rest ms read.1.2 in
-    let so_far : capped (at + length (spelling m) + (length behind - length rest)) ≡ capped (at + (length bytes - length rest)) =
-    ap capped (omega (arith, within, ap length read.1.1, length-append (spelling m) behind)) in
-    let others = lines_then (after p m) q behind rest ms ns (capped (place + length (spelling m))) (at + length (spelling m)) read.1.2 next
+    let within = read_within (after p m) q past rest ms read.1.2 in
+    let so_far : capped (at + length (spelling m) + (length past - length rest)) ≡ capped (at + (length bytes - length rest)) =
+    ap capped (omega (arith, within, ap length read.1.1, length-append (spelling m) past)) in
+    let others = lines_then (after p m) q past rest ms ns (capped (place + length (spelling m))) (at + length (spelling m)) read.1.2 next
     in
     ap (λ (s : List ℕ). line place m ++ s) (others ∙ ap (λ (k : ℕ). lines (capped (place + length (spelling m))) ms ++ lines k ns) so_far)
     ∙ sym (append_assoc (line place m) (lines (capped (place + length (spelling m))) ms)
@@ -115,17 +115,17 @@ printed_none r text none fits = record {
 }
 
 -- it gives one message more
-pub printed_more : (old now new : Reading) (text after_line : List ℕ) (place : ℕ) (m : Message) (behind : List ℕ)
+pub printed_more : (old now new : Reading) (text after_line : List ℕ) (place : ℕ) (m : Message) (past : List ℕ)
     → GivesLines old now (λ made. text ≡ made) → old.place < 2 ^ 64 → place ≡ now.place
-    → Belongs now.phase m → now.rest ≡ spelling m ++ behind → new ≡ record {
+    → Belongs now.phase m → now.rest ≡ spelling m ++ past → new ≡ record {
       phase = after now.phase m;
       place =
           capped (now.place + length (spelling m));
-      rest = behind;
+      rest = past;
     }
     → after_line ≡ text ++ line place m → GivesLines old new (λ made. after_line ≡ made)
-printed_more old now new text after_line place m behind printed fits at belongs parts next added =
-    let used : length now.rest ≡ length (spelling m) + length behind = ap length parts ∙ length-append (spelling m) behind in
+printed_more old now new text after_line place m past printed fits at belongs parts next added =
+    let used : length now.rest ≡ length (spelling m) + length past = ap length parts ∙ length-append (spelling m) past in
     let within = read_within old.phase now.phase old.rest now.rest printed.messages printed.read in
     let one = lines_then old.phase now.phase old.rest now.rest printed.messages (m ∷ []) old.place old.place printed.read
     (omega (arith, fits)) in
@@ -133,8 +133,8 @@ printed_more old now new text after_line place m behind printed fits at belongs 
     sym (append-nil (line place m)) ∙ ap (λ (k : ℕ). lines k (m ∷ [])) (at ∙ printed.place) in
     rw next (record {
       messages = printed.messages ++ m ∷ [];
-      read = read_then old.phase now.phase (after now.phase m) old.rest now.rest behind printed.messages (m ∷ []) printed.read
-          (read_one now.phase now.rest behind m belongs parts);
+      read = read_then old.phase now.phase (after now.phase m) old.rest now.rest past printed.messages (m ∷ []) printed.read
+          (read_one now.phase now.rest past m belongs parts);
       place = omega (arith, printed.place, used, within);
       wrote = added ∙ ap (λ (s : List ℕ). text ++ s) this ∙ ap (λ (s : List ℕ).
           s ++ lines (capped (old.place + (length old.rest - length now.rest))) (m ∷ [])) printed.wrote ∙ sym one;

@@ -41,24 +41,24 @@ lines place (m ∷ ms) = line place m ++ lines (capped (place + length (spelling
 abbrev pub IsBegun : Phase → List ℕ → Type 0
 IsBegun last rest = judge last rest ≡ taken.Short
 
--- What is left behind the messages is refused there. Or it is the beginning of a message and the input ends in it,
+-- What is left after the messages is refused there. Or it is the beginning of a message and the input ends in it,
 -- and then the place is that of its first byte.
 abbrev pub IsWrongAt : Phase → List ℕ → ℕ → ℕ → SourceState → Type 0
-IsWrongAt last rest behind place now =
-    ((found : WireFault) × (judge last rest ≡ taken.Wrong found) × (place ≡ place_of (at_place behind found)))
-    ⊎ (IsReadOut now × IsBegun last rest × (rest ≢ []) × (place ≡ behind))
+IsWrongAt last rest past place now =
+    ((found : WireFault) × (judge last rest ≡ taken.Wrong found) × (place ≡ place_of (at_place past found)))
+    ⊎ (IsReadOut now × IsBegun last rest × (rest ≢ []) × (place ≡ past))
 
--- How the printing of these lines ends, where so many bytes were read, and what is left of them is behind the last
+-- How the printing of these lines ends, where so many bytes were read, and what is left of them is after the last
 -- message, whose end is this place. A fault is told only where it came, and want of time where the reads that gave
 -- bytes and those that gave none are 2^62 at least; then each message that was read whole has its line.
 abbrev pub FramesEnd : Converted → ℕ → Phase → List ℕ → ℕ → List ℕ → SourceState → SourceState → SinkState → SinkState → Type 0
-FramesEnd converted.Done count last rest behind printed r r' w w' = IsReadOut r' × (rest ≡ []) × Wrote printed w w'
-FramesEnd (converted.Refused place) count last rest behind printed r r' w w' = IsWrongAt last rest behind place r' × Wrote printed w w'
-FramesEnd converted.ReadFault count last rest behind printed r r' w w' = Rose r.faults r'.faults × IsBegun last rest × Wrote printed w w'
-FramesEnd converted.TurnsSpent count last rest behind printed r r' w w' =
+FramesEnd converted.Done count last rest past printed r r' w w' = IsReadOut r' × (rest ≡ []) × Wrote printed w w'
+FramesEnd (converted.Refused place) count last rest past printed r r' w w' = IsWrongAt last rest past place r' × Wrote printed w w'
+FramesEnd converted.ReadFault count last rest past printed r r' w w' = Rose r.faults r'.faults × IsBegun last rest × Wrote printed w w'
+FramesEnd converted.TurnsSpent count last rest past printed r r' w w' =
     ((quiet : ℕ) × RoseBy quiet r.quiets r'.quiets × (2 ^ 62 ≤ count + quiet)) × IsBegun last rest × Wrote printed w w'
-FramesEnd converted.WriteFault count last rest behind printed r r' w w' = Rose w.faults w'.faults × WroteFront printed w w'
-FramesEnd converted.Memory count last rest behind printed r r' w w' = WroteSome printed w w'
+FramesEnd converted.WriteFault count last rest past printed r r' w w' = Rose w.faults w'.faults × WroteFront printed w w'
+FramesEnd converted.Memory count last rest past printed r r' w w' = WroteSome printed w w'
 
 -- An input of this side is read, or some of it: what is read is these messages and what is left. Their lines are printed.
 pub record Printed (s : Side) (end : Converted) (r r' : SourceState) (w w' : SinkState) : Type 0 where

@@ -16,7 +16,7 @@ use std::alloc::{AllocError, Global};
 /// Prints the spelling of the standby list that the text says, on one line. Reads no input.
 ///
 /// Where the text is no list, `Refused` has the place of its fault, in bytes from 0, and nothing is written; a list whose
-/// spelling is too long is wrong behind its last byte. Takes memory for the list and for the line.
+/// spelling is too long is wrong after its last byte. Takes memory for the list and for the line.
 pub fn names<K: Sink>(alloc: Global, text: &[u8], out: &mut K) -> Converted
     ensures { Named text.now result (K.sink out.old) (K.sink out.new) }
 {
@@ -51,7 +51,7 @@ fn line_of_text(alloc: Global, text: &[u8]) -> Result<Vec<u8>, Refused>
     Ok(line(alloc, &list)?)
 }
 
-/// The refusal of a text that is no list. One whose list is too long is wrong behind its last byte, since the
+/// The refusal of a text that is no list. One whose list is too long is wrong after its last byte, since the
 /// length is judged over all of it.
 fn refusal(text: &[u8], fault: NamesFault) -> Refused
     ensures { ((fault ≡ names_fault.Memory) × (result ≡ refused.Memory)) ⊎

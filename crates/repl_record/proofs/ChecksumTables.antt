@@ -33,14 +33,14 @@ entry_follows (before ∷ others) (entry ∷ entries) zero follow inside =
 entry_follows (before ∷ others) (entry ∷ entries) (suc i) follow inside =
     entry_follows others entries i (and_parts (entry == past_byte before) (follows others entries) follow).1 (omega arith)
 
--- of a list behind the first n numbers
+-- of a list after the first n numbers
 among_first : (n : ℕ) (entries : List ℕ) (i : ℕ) → i < n → get_or (range_with_len 0 n ++ entries) i 0 ≡ i
 among_first n entries i below =
     get_or_append_left (range_with_len 0 n) entries 0 i (omega (arith, length-range_with_len 0 n)) ∙ get_or-range_with_len 0 n i 0 below
     ∙ zero-add i
 
-behind_first : (n : ℕ) (entries : List ℕ) (i : ℕ) → get_or (range_with_len 0 n ++ entries) (n + i) 0 ≡ get_or entries i 0
-behind_first n entries i =
+past_first : (n : ℕ) (entries : List ℕ) (i : ℕ) → get_or (range_with_len 0 n ++ entries) (n + i) 0 ≡ get_or entries i 0
+past_first n entries i =
     let same : n + i - n ≡ i = omega arith in
     get_or-append_right (range_with_len 0 n) entries n (n + i) 0 (length-range_with_len 0 n) (omega arith)
     ∙ ap (λ k. get_or entries k 0) same
@@ -57,7 +57,7 @@ entry_is entries follow (suc table) byte fits inside =
     let next : 256 * suc table + byte ≡ 256 + (256 * table + byte) = omega arith in
     entry_follows (befores entries) entries (256 * suc table + byte) follow inside
     ∙ ap (λ i. past_byte (get_or (befores entries) i 0)) next
-    ∙ ap past_byte (behind_first 256 entries (256 * table + byte) ∙ entry_is entries follow table byte fits (omega arith))
+    ∙ ap past_byte (past_first 256 entries (256 * table + byte) ∙ entry_is entries follow table byte fits (omega arith))
     ∙ past_bytes-last (suc table) byte
 
 pub LEFT_BEHIND-is : (table byte : ℕ) → table < 16 → byte < 256 → get_or LEFT_BEHIND (256 * table + byte) 0 ≡ past_bytes (suc table) byte

@@ -29,9 +29,9 @@ pub content-append : (size position : ℕ) (xs ys : List ℕ) → content size p
 content-append size position [] ys = ap (λ (p : ℕ). content size p ys) (sym (add-zero position))
     ∙ ap (λ (front : List ℕ). front ++ content size (position + 0) ys) (sym (content-nil size position))
 content-append size position (x ∷ xs) ys =
-    let behind : content size (position + 1 + length xs) ys ≡ content size (position + suc (length xs)) ys =
+    let past : content size (position + 1 + length xs) ys ≡ content size (position + suc (length xs)) ys =
     ap (λ (p : ℕ). content size p ys) (omega arith) in
-    let rest = content-append size (position + 1) xs ys ∙ ap (λ (t : List ℕ). content size (position + 1) xs ++ t) behind in
+    let rest = content-append size (position + 1) xs ys ∙ ap (λ (t : List ℕ). content size (position + 1) xs ++ t) past in
     elim (cases_Bool (in_header size position)) [
       | inl inside ↦ content-header_byte size position x (xs ++ ys) inside ∙ rest
           ∙ ap (λ (front : List ℕ). front ++ content size (position + suc (length xs)) ys)
@@ -54,16 +54,16 @@ content-header size position (byte ∷ bytes) is within =
 -- of a part of the rest of a page all is
 pub content-page : (size position : ℕ) (bytes : List ℕ) → IsSegSize size → header_length size position ≤ position % 8192
     → position % 8192 + length bytes ≤ 8192 → content size position bytes ≡ bytes
-content-page size position [] is behind within = content-nil size position
-content-page size position (byte ∷ []) is behind within =
-    content-byte size position byte [] (not_in_header_from size position behind)
+content-page size position [] is past within = content-nil size position
+content-page size position (byte ∷ []) is past within =
+    content-byte size position byte [] (not_in_header_from size position past)
     ∙ ap (λ (t : List ℕ). byte ∷ t) (content-nil size (position + 1))
-content-page size position (byte ∷ next ∷ bytes) is behind within =
+content-page size position (byte ∷ next ∷ bytes) is past within =
     let on_page : position % 8192 + 1 < 8192 = omega arith in
     let place = place_on_page position 1 on_page in
     let limit = same_header_length size position 1 is on_page in
     let rest = content-page size (position + 1) (next ∷ bytes) is (omega (arith, place, limit)) (omega (arith, place)) in
-    content-byte size position byte (next ∷ bytes) (not_in_header_from size position behind) ∙ ap (λ (t : List ℕ). byte ∷ t) rest
+    content-byte size position byte (next ∷ bytes) (not_in_header_from size position past) ∙ ap (λ (t : List ℕ). byte ∷ t) rest
 
 pub length-content : (size position : ℕ) (bytes : List ℕ) → length (content size position bytes) ≤ length bytes
 length-content size position [] = omega (arith, ap length (content-nil size position))
@@ -98,19 +98,19 @@ AreBytes-content size position (byte ∷ bytes) are =
 
 -- ---- of what is longer
 
--- of bytes on one page behind its header all is added
+-- of bytes on one page after its header all is added
 pub content-more : (size at from : ℕ) (log piece : List ℕ) → IsSegSize size → at ≡ from + length log → header_length size at ≤ at % 8192
     → at % 8192 + length piece ≤ 8192
     → content size from (log ++ piece) ≡ content size from log ++ piece
-content-more size at from log piece is behind outside on_page =
-    content-append size from log piece ∙ ap (λ (t : List ℕ). content size from log ++ t) (ap (λ (p : ℕ). content size p piece) (sym behind)
+content-more size at from log piece is past outside on_page =
+    content-append size from log piece ∙ ap (λ (t : List ℕ). content size from log ++ t) (ap (λ (p : ℕ). content size p piece) (sym past)
     ∙ content-page size at piece is outside on_page)
 
 -- and the last of them is none of a header
 pub last_more : (size at from : ℕ) (log piece : List ℕ) → IsSegSize size → at ≡ from + length log → header_length size at ≤ at % 8192
     → at % 8192 + length piece ≤ 8192 → 0 < length piece
     → LastIsContent size from (log ++ piece)
-last_more size at from log piece is behind outside on_page some =
+last_more size at from log piece is past outside on_page some =
     let i = length piece - 1 in
     let within : at % 8192 + i < 8192 = omega arith in
     let place : from + length (log ++ piece) - 1 ≡ at + i = omega (arith, length-append log piece) in
@@ -123,18 +123,18 @@ last_more size at from log piece is behind outside on_page some =
 -- of a part of a header nothing is
 pub content-append-header : (size from at : ℕ) (log piece : List ℕ) → IsSegSize size → at ≡ from + length log
     → at % 8192 + length piece ≤ header_length size at → content size from (log ++ piece) ≡ content size from log
-content-append-header size from at log piece is behind within =
+content-append-header size from at log piece is past within =
     let Within : ℕ → Type 0 = λ (p : ℕ). p % 8192 + length piece ≤ header_length size p in
     content-append size from log piece ∙ ap (λ (t : List ℕ). content size from log
-    ++ t) (content-header size (from + length log) piece is (subst Within behind within)) ∙ append-nil (content size from log)
+    ++ t) (content-header size (from + length log) piece is (subst Within past within)) ∙ append-nil (content size from log)
 
 -- where a header is begun, the record's bytes are those before its page
 pub content-before_page : (size from page : ℕ) (log : List ℕ) → IsSegSize size → page % 8192 ≡ 0 → from ≤ page → page ≤ from + length log
     → from + length log ≤ page + header_length size page → content size from log ≡ content size from (take (page - from) log)
 content-before_page size from page log is is_page began ended within =
     let n = page - from in
-    let behind : page ≡ from + length (take n log) = omega (arith, length-take-le n log (omega arith)) in
-    ap (content size from) (sym (take-append-drop n log)) ∙ content-append-header size from page (take n log) (drop n log) is behind
+    let past : page ≡ from + length (take n log) = omega (arith, length-take-le n log (omega arith)) in
+    ap (content size from) (sym (take-append-drop n log)) ∙ content-append-header size from page (take n log) (drop n log) is past
     (omega (arith, length-drop n log))
 
 -- ---- how much there is
@@ -143,8 +143,8 @@ content-before_page size from page log is is_page began ended within =
 pub length-content-front : (size from n : ℕ) (bytes : List ℕ) → length (content size from (take n bytes)) ≤ length (content size from bytes)
 length-content-front size from n bytes =
     let front = content size from (take n bytes) in
-    let behind = content size (from + length (take n bytes)) (drop n bytes) in
-    omega (arith, ap length (content-take size from n bytes), length-append front behind)
+    let past = content size (from + length (take n bytes)) (drop n bytes) in
+    omega (arith, ap length (content-take size from n bytes), length-append front past)
 
 -- of a longer front there is no less
 pub length-content-take : (size from m n : ℕ) (bytes : List ℕ) → m ≤ n
@@ -182,7 +182,7 @@ length-content-short size from n bytes below last =
 -- the eight bytes before a page are content
 pub eight_before_page : (size from page : ℕ) (bytes : List ℕ) → IsSegSize size → page % 8192 ≡ 0 → from + 8 ≤ page
     → page ≤ from + length bytes → 8 ≤ length (content size from (take (page - from) bytes))
-eight_before_page size from page bytes is is_page behind within =
+eight_before_page size from page bytes is is_page past within =
     let n = page - from in
     let front = take n bytes in
     let all : length front ≡ n = length-take-le n bytes (omega arith) in

@@ -13,29 +13,29 @@ pub record FrontOf (size from k : ℕ) (log : List ℕ) : Type 0 where
   pub last : LastIsContent size from (take m log)
 
 -- a front that is not empty ends where it does from one position on
-last_behind : (size from byte : ℕ) (bytes : List ℕ) → LastIsContent size (from + 1) bytes → LastIsContent size from (byte ∷ bytes)
-last_behind size from byte bytes last =
+last_past : (size from byte : ℕ) (bytes : List ℕ) → LastIsContent size (from + 1) bytes → LastIsContent size from (byte ∷ bytes)
+last_past size from byte bytes last =
     let same : from + suc (length bytes) - 1 ≡ from + 1 + length bytes - 1 = omega arith in
     ap (in_header size) same ∙ last
 
-front_behind_header : (size from k byte : ℕ) (bytes : List ℕ) → in_header size from ≡ true → FrontOf size (from + 1) k bytes
+front_past_header : (size from k byte : ℕ) (bytes : List ℕ) → in_header size from ≡ true → FrontOf size (from + 1) k bytes
     → FrontOf size from k (byte ∷ bytes)
-front_behind_header size from k byte bytes inside front = record {
+front_past_header size from k byte bytes inside front = record {
   m = suc front.m;
   within = omega arith;
   content_is = content-header_byte size from byte (take front.m bytes) inside ∙ front.content_is
       ∙ ap (take k) (sym (content-header_byte size from byte bytes inside));
-  last = last_behind size from byte (take front.m bytes) front.last;
+  last = last_past size from byte (take front.m bytes) front.last;
 }
 
-front_behind_byte : (size from k byte : ℕ) (bytes : List ℕ) → in_header size from ≡ false → FrontOf size (from + 1) k bytes
+front_past_byte : (size from k byte : ℕ) (bytes : List ℕ) → in_header size from ≡ false → FrontOf size (from + 1) k bytes
     → FrontOf size from (suc k) (byte ∷ bytes)
-front_behind_byte size from k byte bytes outside front = record {
+front_past_byte size from k byte bytes outside front = record {
   m = suc front.m;
   within = omega arith;
   content_is = content-byte size from byte (take front.m bytes) outside ∙ ap (λ (t : List ℕ). byte ∷ t) front.content_is
       ∙ ap (take (suc k)) (sym (content-byte size from byte bytes outside));
-  last = last_behind size from byte (take front.m bytes) front.last;
+  last = last_past size from byte (take front.m bytes) front.last;
 }
 
 front_of_byte : (size from byte : ℕ) (bytes : List ℕ) → in_header size from ≡ false → FrontOf size from 1 (byte ∷ bytes)
@@ -52,7 +52,7 @@ front_of size from k [] some enough = absurd (omega (arith, ap length (content-n
 front_of size from zero (byte ∷ bytes) some enough = absurd (omega arith)
 front_of size from (suc zero) (byte ∷ bytes) some enough =
     elim (cases_Bool (in_header size from)) [
-      | inl inside ↦ front_behind_header size from 1 byte bytes inside (front_of size (from + 1) 1 bytes some (omega (
+      | inl inside ↦ front_past_header size from 1 byte bytes inside (front_of size (from + 1) 1 bytes some (omega (
         arith,
         ap length (content-header_byte size from byte bytes inside),
       )))
@@ -60,8 +60,8 @@ front_of size from (suc zero) (byte ∷ bytes) some enough =
     ]
 front_of size from (suc (suc k)) (byte ∷ bytes) some enough =
     elim (cases_Bool (in_header size from)) [
-      | inl inside ↦ front_behind_header size from (suc (suc k)) byte bytes inside (front_of size (from + 1) (suc (suc k)) bytes some
+      | inl inside ↦ front_past_header size from (suc (suc k)) byte bytes inside (front_of size (from + 1) (suc (suc k)) bytes some
           (omega (arith, ap length (content-header_byte size from byte bytes inside))))
-      | inr outside ↦ front_behind_byte size from (suc k) byte bytes outside (front_of size (from + 1) (suc k) bytes (omega arith)
+      | inr outside ↦ front_past_byte size from (suc k) byte bytes outside (front_of size (from + 1) (suc k) bytes (omega arith)
           (omega (arith, ap length (content-byte size from byte bytes outside))))
     ]

@@ -13,7 +13,7 @@ same_number a b not = elim (cases_eq a b) [ inl same ↦ same | inr differ ↦ a
 
 -- ---- parts of a list
 
--- what is behind a place in a front
+-- what is after a place in a front
 pub drop_of_take : (place n : ℕ) (bytes : List ℕ) → place ≤ n → drop place (take n bytes) ≡ take (n - place) (drop place bytes)
 drop_of_take place n bytes within =
     let split : n ≡ place + (n - place) = omega arith in
@@ -57,7 +57,7 @@ pub AreBytes-append : (xs ys : List ℕ) → AreBytes xs → AreBytes ys → Are
 AreBytes-append xs ys left right i =
     elim (cases_lt i (length xs)) [
       | inl inside ↦ rw (get_or_append_left xs ys 0 i inside) (left i)
-      | inr behind ↦ rw (get_or-append_right xs ys (length xs) i 0 refl behind) (right (i - length xs))
+      | inr past ↦ rw (get_or-append_right xs ys (length xs) i 0 refl past) (right (i - length xs))
     ]
 
 pub AreBytes-take : (n : ℕ) (bytes : List ℕ) → AreBytes bytes → AreBytes (take n bytes)

@@ -8,7 +8,7 @@ use Rattle.repl_page.specs.declared.header.LongPart.{LongPart}
 use Rattle.repl_page.specs.declared.fault.PageFault.{PageFault}
 use Rattle.repl_page.specs.declared.fault.PageFault.TheVariants as fault
 use Rattle.repl_page.specs.Page.{in_first_page, header_length}
-use Rattle.repl_page.specs.Header.{Agrees, AgreesBehind, AgreesLong, AgreesShort, IsFaultBehind, IsLongFault, IsPageFault, IsShortFault, field, header_bytes, header_of, judged, length_of, long_bytes_of, long_length}
+use Rattle.repl_page.specs.Header.{Agrees, AgreesPast, AgreesLong, AgreesShort, IsFaultPast, IsLongFault, IsPageFault, IsShortFault, field, header_bytes, header_of, judged, length_of, long_bytes_of, long_length}
 use Rattle.repl_record.specs.Record.{content, remaining}
 use Rattle.repl_record.proofs.Fields.{drop_of_take, field-same, same_number}
 
@@ -105,17 +105,17 @@ long_agrees expected bytes none =
     ((refl, refl), differ, system, segment)) in
     record { system = system; segment = segment; page = page }
 
-behind_agrees : (expected : Option LongPart) (bytes : List ℕ) → ((why : PageFault) → ¬ IsFaultBehind expected bytes why)
-    → AgreesBehind expected bytes
-behind_agrees None bytes none = tt
-behind_agrees (Some long) bytes none = long_agrees long bytes none
+past_agrees : (expected : Option LongPart) (bytes : List ℕ) → ((why : PageFault) → ¬ IsFaultPast expected bytes why)
+    → AgreesPast expected bytes
+past_agrees None bytes none = tt
+past_agrees (Some long) bytes none = long_agrees long bytes none
 
 -- where they have none, they agree
 pub agrees_from_no_fault : (expected : PageHeader) (bytes : List ℕ) → ((why : PageFault) → ¬ IsPageFault expected bytes why)
     → Agrees expected bytes
 agrees_from_no_fault expected bytes none =
     let short = short_agrees expected bytes (λ why is. none why (inl is)) in
-    record { short = short; long = behind_agrees expected.long (drop 24 bytes) (λ why is. none why (inr (short, is))) }
+    record { short = short; long = past_agrees expected.long (drop 24 bytes) (λ why is. none why (inr (short, is))) }
 
 -- ---- only the header's own bytes are judged
 
@@ -128,17 +128,17 @@ short-same header n xs ys enough same agrees = record {
   remaining = field-same 16 4 n ys xs (sym same) (omega arith) ∙ agrees.remaining;
 }
 
-behind-same : (long : Option LongPart) (n : ℕ) (xs ys : List ℕ) → long_length long ≤ n → take n xs ≡ take n ys
-    → AgreesBehind long (drop 24 xs) → AgreesBehind long (drop 24 ys)
-behind-same None n xs ys enough same agrees = tt
-behind-same (Some long) n xs ys enough same agrees =
+past-same : (long : Option LongPart) (n : ℕ) (xs ys : List ℕ) → long_length long ≤ n → take n xs ≡ take n ys
+    → AgreesPast long (drop 24 xs) → AgreesPast long (drop 24 ys)
+past-same None n xs ys enough same agrees = tt
+past-same (Some long) n xs ys enough same agrees =
     let k = n - 24 in
-    let behind : take k (drop 24 ys) ≡ take k (drop 24 xs) = sym (drop_of_take 24 n ys (omega arith)) ∙ ap (drop 24) (sym same)
+    let past : take k (drop 24 ys) ≡ take k (drop 24 xs) = sym (drop_of_take 24 n ys (omega arith)) ∙ ap (drop 24) (sym same)
     ∙ drop_of_take 24 n xs (omega arith) in
     record {
-      system = field-same 0 8 k (drop 24 ys) (drop 24 xs) behind (omega arith) ∙ agrees.system;
-      segment = field-same 8 4 k (drop 24 ys) (drop 24 xs) behind (omega arith) ∙ agrees.segment;
-      page = field-same 12 4 k (drop 24 ys) (drop 24 xs) behind (omega arith) ∙ agrees.page;
+      system = field-same 0 8 k (drop 24 ys) (drop 24 xs) past (omega arith) ∙ agrees.system;
+      segment = field-same 8 4 k (drop 24 ys) (drop 24 xs) past (omega arith) ∙ agrees.segment;
+      page = field-same 12 4 k (drop 24 ys) (drop 24 xs) past (omega arith) ∙ agrees.page;
     }
 
 -- where bytes agree, so do others that begin with the same
@@ -146,5 +146,5 @@ pub agrees-same : (header : PageHeader) (n : ℕ) (xs ys : List ℕ) → length_
     → Agrees header ys
 agrees-same header n xs ys enough same agrees = record {
   short = short-same header n xs ys (omega (arith, long_length-least header.long)) same agrees.short;
-  long = behind-same header.long n xs ys enough same agrees.long;
+  long = past-same header.long n xs ys enough same agrees.long;
 }

@@ -38,7 +38,7 @@ over_front size from n log within has all last rounded =
 
 -- ---- the gap
 
--- behind the first m bytes of the log
+-- after the first m bytes of the log
 pub record IsGap (size from m : ℕ) (log : List ℕ) : Type 0 where
   pub few : length log - m < 8
   pub outside : (i : ℕ) → m ≤ i → i < length log → in_header size (from + i) ≡ false
@@ -48,7 +48,7 @@ gap_to_end : (size from m up : ℕ) (log : List ℕ) → IsSegSize size → 0 < 
     → (from + m - 1) % 8 + up < 8 → length log ≤ m + up → IsGap size from m log
 gap_to_end size from m up log is some last within ends = record {
   few = omega arith;
-  outside = λ i behind inside.
+  outside = λ i past inside.
       let place : from + i ≡ from + m - 1 + (i - (m - 1)) = omega arith in
       ap (in_header size) place ∙ same_eight size (from + m - 1) (i - (m - 1)) is last (omega arith);
 }
@@ -57,11 +57,11 @@ gap_to_end size from m up log is some last within ends = record {
 abbrev up_to_eight : ℕ → ℕ
 up_to_eight end = 8 - end % 8
 
-gap_behind : (size from m : ℕ) (log : List ℕ) → IsSegSize size → HasLength (content size from log)
+gap_past : (size from m : ℕ) (log : List ℕ) → IsSegSize size → HasLength (content size from log)
     → ((n : ℕ) → n < length log → ¬ IsOver size from (take n log))
     → m < length log → length_field (content size from log) ≤ length (content size from (take m log)) → 0 < m
     → in_header size (from + m - 1) ≡ false → (from + m) % 8 ≢ 0 → IsGap size from m log
-gap_behind size from m log is has going inside all some last uneven =
+gap_past size from m log is has going inside all some last uneven =
     let up = up_to_eight (from + m) in
     let step : (from + m - 1) % 8 + up < 8 = omega arith in
     elim (cases_lt (m + up) (length log)) [
@@ -83,9 +83,9 @@ gap_is size from m log is has going within all some last =
     elim (cases_lt m (length log)) [
       | inl inside ↦ elim (cases_eq ((from + m) % 8) 0) [
         | inl even ↦ absurd (going m inside (over_front size from m log within has all last even))
-        | inr uneven ↦ gap_behind size from m log is has going inside all some last uneven
+        | inr uneven ↦ gap_past size from m log is has going inside all some last uneven
       ]
-      | inr ends ↦ record { few = omega arith; outside = λ i behind inside. absurd (omega arith) }
+      | inr ends ↦ record { few = omega arith; outside = λ i past inside. absurd (omega arith) }
     ]
 
 -- ---- its bytes
@@ -94,12 +94,12 @@ pub zero_in_gap : (ident : Ident) (timeline : ℕ → ℕ) (from prev m : ℕ) (
     → ((n : ℕ) → n ≤ length log → IsRight ident timeline from prev (take n log))
     → length_field (content ident.size from log) ≤ length (content ident.size from (take m log)) → IsGap ident.size from m log
     → (i : ℕ) → m ≤ i → i < length log → get_or log i 0 ≡ 0
-zero_in_gap ident timeline from prev m log has right all gap i behind inside =
+zero_in_gap ident timeline from prev m log has right all gap i past inside =
     let n = i + 1 in
-    let outside = gap.outside i behind inside in
+    let outside = gap.outside i past inside in
     let long = length-take-le n log (omega arith) in
     let more = length-content-next ident.size from i log inside outside in
-    let enough = length-content-take ident.size from m i log behind in
+    let enough = length-content-take ident.size from m i log past in
     let same = length_field-take ident.size from n log (omega (arith, has.0)) in
     let place : from + length (take n log) - 1 ≡ from + i = omega arith in
     let back : length (take n log) - 1 ≡ i = omega arith in

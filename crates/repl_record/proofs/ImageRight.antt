@@ -20,11 +20,11 @@ use Rattle.repl_record.proofs.ImageRightFronts.{image_begun, image_front, image_
 
 -- ---- headers
 
--- by a page behind the start the length is there
+-- by a page after the start the length is there
 length_told : (ident : Ident) (timeline : ℕ → ℕ) (from prev m page : ℕ) (item : RecordIn) (log : List ℕ) → IsSegSize ident.size
     → from % 8 ≡ 0 → IsImage ident timeline from prev item log → m ≤ length log
     → page % 8192 ≡ 0 → from < page → page ≤ from + m → length_field (content ident.size from (take m log)) ≡ total_length item
-length_told ident timeline from prev m page item log size_is eight is within is_page behind inside =
+length_told ident timeline from prev m page item log size_is eight is within is_page past inside =
     let front = take m log in
     let counted : length front ≡ m = length-take-le m log within in
     let before = eight_before_page ident.size from page front size_is is_page (omega arith) (omega arith) in
@@ -36,7 +36,7 @@ header_agrees : (ident : Ident) (timeline from m page remaining : ℕ) (log : Li
     → from + m ≡ page + header_length ident.size page
     → Agrees (header_of ident timeline page remaining) (from_page from log page)
     → Agrees (header_of ident timeline page remaining) (from_page from (take m log) page)
-header_agrees ident timeline from m page remaining log behind ended agrees =
+header_agrees ident timeline from m page remaining log past ended agrees =
     let n = header_length ident.size page in
     agrees-same (header_of ident timeline page remaining) n (from_page from log page) (from_page from (take m log) page) (omega (
       arith,
@@ -98,7 +98,7 @@ image_right ident timeline from prev m item log size_is eight is within why.Padd
     let total = length_begun prev item _ is.item_is begun (omega arith) in
     let counted : length (take m log) ≡ m = length-take-le m log within in
     elim (cases_lt (length is.front) m) [
-      | inl behind ↦ wrong.3 (get_or-take m log (length (take m log) - 1) 0 (omega arith)
+      | inl past ↦ wrong.3 (get_or-take m log (length (take m log) - 1) 0 (omega arith)
           ∙ image_zero ident timeline from prev (length (take m log) - 1) item log is (omega arith) (omega arith))
       | inr before ↦ absurd (omega (arith, wrong.2, image_front ident timeline from prev m item log is before))
     ]

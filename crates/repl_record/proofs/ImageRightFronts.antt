@@ -25,7 +25,7 @@ front_length : (ident : Ident) (timeline : ℕ → ℕ) (from prev : ℕ) (item 
     → (is : IsImage ident timeline from prev item log) → length (content ident.size from is.front) ≡ total_length item
 front_length ident timeline from prev item log is = ap length is.bytes ∙ length-record_bytes prev item
 
--- and the image no others but zeros behind them
+-- and the image no others but zeros after them
 image_content : (ident : Ident) (timeline : ℕ → ℕ) (from prev : ℕ) (item : RecordIn) (log : List ℕ)
     → (is : IsImage ident timeline from prev item log) → content ident.size from log ≡ record_bytes prev item
     ++ content ident.size (from + length is.front) (replicate is.gap 0)
@@ -69,12 +69,12 @@ image_short ident timeline from prev m item log is below =
       front_length ident timeline from prev item log is,
     )
 
--- behind it there are zeros
+-- after it there are zeros
 pub image_zero : (ident : Ident) (timeline : ℕ → ℕ) (from prev i : ℕ) (item : RecordIn) (log : List ℕ)
     → (is : IsImage ident timeline from prev item log) → length is.front ≤ i → i < length log → get_or log i 0 ≡ 0
-image_zero ident timeline from prev i item log is behind below =
+image_zero ident timeline from prev i item log is past below =
     ap (λ (t : List ℕ). get_or t i 0) is.parts
-    ∙ get_or-append_right is.front (replicate is.gap 0) (length is.front) i 0 refl behind
+    ∙ get_or-append_right is.front (replicate is.gap 0) (length is.front) i 0 refl past
     ∙ get_or-replicate is.gap (i - length is.front) 0 0 (omega (arith, image_length ident timeline from prev item log is))
 
 -- ---- where it is over
@@ -131,5 +131,5 @@ image_not_over ident timeline from prev m item log is below over =
     length_begun prev item _ is.item_is (image_begun ident timeline from prev m item log is) (omega (arith, over.right.0, over.all)) in
     elim (cases_lt m (length is.front)) [
       | inl before ↦ absurd (omega (arith, over.all, image_short ident timeline from prev m item log is before))
-      | inr behind ↦ absurd (omega (arith, over.rounded, is.rounded, is.few, image_length ident timeline from prev item log is))
+      | inr past ↦ absurd (omega (arith, over.rounded, is.rounded, is.few, image_length ident timeline from prev item log is))
     ]

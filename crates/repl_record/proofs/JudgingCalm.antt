@@ -18,7 +18,7 @@ IsCalm ident timeline from prev log = (¬ IsOver ident.size from log) × IsRight
 
 -- ---- parts of a longer log
 
--- where the log is the beginning of a record, and a piece behind it is calm up to a byte
+-- where the log is the beginning of a record, and a piece after it is calm up to a byte
 pub open_more : (ident : Ident) (timeline : ℕ → ℕ) (from prev : ℕ) (log piece : List ℕ) (k : ℕ) → IsBeginning ident timeline from prev log
     → ((i : ℕ) → 0 < i → i < k → IsCalm ident timeline from prev (log ++ take i piece))
     → IsOpenBefore ident timeline from prev (log ++ piece) (length log + k)
@@ -26,7 +26,7 @@ open_more ident timeline from prev log piece k beginning calm m below =
     let Calm : List ℕ → Type 0 = λ l. IsCalm ident timeline from prev l in
     elim (cases_lt m (length log + 1)) [
       | inl inside ↦ subst Calm (sym (take-append-le m log piece (omega arith))) (beginning m inside)
-      | inr behind ↦
+      | inr past ↦
           let i = m - length log in
           let same : take m (log ++ piece) ≡ log ++ take i piece = ap (λ (n : ℕ). take n (log ++ piece)) (omega arith)
           ∙ take-append-add log piece i in
@@ -51,10 +51,10 @@ pub header_fault_last : (ident : Ident) (timeline : ℕ → ℕ) (from : ℕ) (l
 header_fault_last ident timeline from log fault is h last = both_ways (in_header ident.size (from + length log - 1)) last
     (header_fault_inside ident timeline from log fault is h)
 
--- behind a header no byte is in it
-pub header_fault_behind : (ident : Ident) (timeline : ℕ → ℕ) (from : ℕ) (log : List ℕ) (fault : PageFault) → IsSegSize ident.size
+-- after a header no byte is in it
+pub header_fault_past : (ident : Ident) (timeline : ℕ → ℕ) (from : ℕ) (log : List ℕ) (fault : PageFault) → IsSegSize ident.size
     → IsHeaderFault ident timeline from log fault → in_header ident.size (from + length log) ≡ true → ⊥
-header_fault_behind ident timeline from log fault is h inside =
+header_fault_past ident timeline from log fault is h inside =
     let size = ident.size in
     let two = header_is size h.page in
     let long = header_length size h.page in

@@ -1,4 +1,4 @@
--- A record's image grows by what is due of a header and by a block of the record's bytes behind it.
+-- A record's image grows by what is due of a header and by a block of the record's bytes after it.
 use Rattle.std.proofs.Common.{◌≡◌, ℕ, ◌+◌, ◌-◌, ◌%◌, ◌<◌, ◌≤◌, ◌⊎◌, ◌==◌, Bool, cond, List, [], ◌++◌, length, take, drop, sym, ap, ◌∙◌, subst, inl, inr, arith, append-nil, append_assoc, length-append, length-drop}
 use Rattle.std.proofs.lemmas.Bool.{cases_lt, cases_eq, eq-eqb, ne_eqb}
 use Rattle.std.proofs.lemmas.List.{take_at, take_rest, take-append-drop, length-take-le, drop_at, length-take, nil_from_length}
@@ -81,19 +81,19 @@ new_header place done log block begins is =
     page (left_over place done log))
     ∙ ap spelled (sym left)
 
--- ---- positions behind the header that is due
+-- ---- positions after the header that is due
 
--- where the log goes on: with r bytes of a header of n behind it, and so many due
-record IsBehind (size position due : ℕ) : Type 0 where
+-- where the log goes on: with r bytes of a header of n after it, and so many due
+record IsPast (size position due : ℕ) : Type 0 where
   pub same : header_length size (position + due) ≡ header_length size position
   pub start : page_start (position + due) ≡ page_start position
   pub place : (position + due) % 8192 ≡ position % 8192 + due
   pub outside : header_length size position ≤ position % 8192 + due
   pub inside : (due ≡ 0) ⊎ (position % 8192 + due ≤ header_length size position)
 
-behind_header : (size position due : ℕ) → IsSegSize size → due ≡ header_length size (page_start position) - position % 8192
-    → IsBehind size position due
-behind_header size position due is due_is =
+past_header : (size position due : ℕ) → IsSegSize size → due ≡ header_length size (page_start position) - position % 8192
+    → IsPast size position due
+past_header size position due is due_is =
     let r = position % 8192 in
     let limit = length_of_page size position is in
     let within : r + due < 8192 = omega (arith, header_is size (page_start position)) in
@@ -106,17 +106,17 @@ behind_header size position due is due_is =
     }
 
 -- nothing of the header is the record's
-no_content : (size position : ℕ) (header : List ℕ) → IsSegSize size → IsBehind size position (length header)
+no_content : (size position : ℕ) (header : List ℕ) → IsSegSize size → IsPast size position (length header)
     → content size position header ≡ []
-no_content size position header is behind =
-    elim behind.inside [
+no_content size position header is past =
+    elim past.inside [
       | inl none ↦ ap (content size position) (nil_from_length header none) ∙ content-nil size position
       | inr within ↦ content-header size position header is within
     ]
 
 -- ---- a block more
 
--- what is laid, with what is due of a header and a block behind it
+-- what is laid, with what is due of a header and a block after it
 abbrev pub with_block : Place → ℕ → List ℕ → List ℕ → List ℕ
 with_block place done log block = (log ++ due_header place done log) ++ block
 
@@ -127,16 +127,16 @@ content-with_block place done log block is fits =
     let size = place.ident.size in
     let header = due_header place done log in
     let position = place.at + length log in
-    let behind = behind_header size position (length header) is (length-due_header place done log) in
+    let past = past_header size position (length header) is (length-due_header place done log) in
     let along : place.at + length (log ++ header) ≡ position + length header = omega (arith, length-append log header) in
     let front : content_of place (log ++ header) ≡ content_of place log =
-    content-append size place.at log header ∙ ap (λ (t : List ℕ). content_of place log ++ t) (no_content size position header is behind)
+    content-append size place.at log header ∙ ap (λ (t : List ℕ). content_of place log ++ t) (no_content size position header is past)
     ∙ append-nil (content_of place log) in
     content-more size (position + length header) place.at (log ++ header) block is (sym along) (omega (
       arith,
-      behind.same,
-      behind.outside,
-      behind.place,
+      past.same,
+      past.outside,
+      past.place,
     )) (omega (arith, along)) ∙ ap (λ (t : List ℕ). t ++ block) front
 
 -- the headers of the pages that begin before the block's end
@@ -148,7 +148,7 @@ headers-with_block place done log block is laid done_is fits page begins above b
     let size = place.ident.size in
     let header = due_header place done log in
     let position = place.at + length log in
-    let behind = behind_header size position (length header) is (length-due_header place done log) in
+    let past = past_header size position (length header) is (length-due_header place done log) in
     let grouped : with_block place done log block ≡ log ++ (header ++ block) = append_assoc log header block in
     let P : List ℕ → Type 0 = λ grown. take (header_length size page) (from_page place.at grown page) ≡ header_bytes
     (header_of place.ident place.tli page (remaining size place.total place.at grown page)) in
@@ -161,7 +161,7 @@ headers-with_block place done log block is laid done_is fits page begins above b
           let short : (position + length header) % 8192 + length block ≤ 8192 = omega (arith, along) in
           let end : place.at + length (with_block place done log block) ≡ position + length header + length block =
           omega (arith, length-append log header, length-append (log ++ header) block) in
-          let here : page ≡ position = omega (arith, behind.place, header_is size position, behind.inside) in
+          let here : page ≡ position = omega (arith, past.place, header_is size position, past.inside) in
           subst (λ (p : ℕ). take (header_length size p) (from_page place.at (log ++ (header ++ block)) p) ≡ header_bytes
           (header_of place.ident place.tli p (remaining size place.total place.at (log ++ (header ++ block)) p))) (sym here)
           (new_header place done log block (omega arith) done_is)
@@ -176,19 +176,19 @@ IsLaid-with_block place done log block is laid done_is some fits =
     let size = place.ident.size in
     let header = due_header place done log in
     let position = place.at + length log in
-    let behind = behind_header size position (length header) is (length-due_header place done log) in
+    let past = past_header size position (length header) is (length-due_header place done log) in
     let along : place.at + length (log ++ header) ≡ position + length header = omega (arith, length-append log header) in
     record {
       headers = headers-with_block place done log block is laid done_is fits;
       last = inr (last_more size (position + length header) place.at (log ++ header) block is (sym along) (omega (
         arith,
-        behind.same,
-        behind.outside,
-        behind.place,
+        past.same,
+        past.outside,
+        past.place,
       )) (omega (arith, along)) some);
     }
 
--- of a piece that goes behind what was laid before, only the rest is not laid
+-- of a piece that goes after what was laid before, only the rest is not laid
 pub record IsGoing (place : Place) (before piece log rest : List ℕ) (done : ℕ) : Type 0 where
   pub laid : IsLaid place log
   pub bytes : content_of place log ++ rest ≡ content_of place before ++ piece

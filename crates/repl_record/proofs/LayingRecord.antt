@@ -1,4 +1,4 @@
--- What is laid of a whole record, and zeros behind it, are its image.
+-- What is laid of a whole record, and zeros after it, are its image.
 use Rattle.std.proofs.Common.{◌≡◌, ℕ, ◌+◌, ◌-◌, ◌%◌, ◌^◌, ◌<◌, ◌≤◌, ◌==◌, Bool, true, false, cond, Some, None, IfSome, List, [], ◌++◌, length, take, drop, replicate, sym, ap, ◌∙◌, subst, inl, inr, arith, length-append}
 use Rattle.std.proofs.lemmas.Bool.{cases_lt}
 use Rattle.std.proofs.lemmas.List.{take-append-drop, length-replicate}
@@ -83,7 +83,7 @@ laid_bytes place prev item empty head body one two none first second head_is bod
     ∙ ap (λ (t : List ℕ). t ++ body) head_is
     ∙ ap (λ (t : List ℕ). (front_bytes prev item ++ little_bytes 4 (checksum (item.body ++ front_bytes prev item))) ++ t) body_is
 
--- all of a record is laid, and behind it zeros up to a multiple of 8
+-- all of a record is laid, and after it zeros up to a multiple of 8
 pub record IsFinished (place : Place) (prev : ℕ) (item : RecordIn) (front log : List ℕ) : Type 0 where
   pub laid : IsLaid place front
   pub bytes : content_of place front ≡ record_bytes prev item

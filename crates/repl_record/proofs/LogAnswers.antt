@@ -109,7 +109,7 @@ pub answered : (ident : Ident) (timeline : ℕ → ℕ) (from prev : ℕ) (item 
     → IsImage ident timeline from prev item (take n log) → IsWhole ident timeline from prev log (start_of ident.size from) (from + n)
 answered ident timeline from prev item log n size_is eight within is =
     let counted = length-take-le n log within in
-    let behind : n ≡ from + n - from = omega arith in
+    let past : n ≡ from + n - from = omega arith in
     record {
       item = item;
       begins = refl;
@@ -119,9 +119,9 @@ answered ident timeline from prev item log n size_is eight within is =
         image_length ident timeline from prev item (take n log) is,
       );
       within = omega arith;
-      first = subst (IsOpenBefore ident timeline from prev log) behind (front_open ident timeline from prev n item log size_is eight within
+      first = subst (IsOpenBefore ident timeline from prev log) past (front_open ident timeline from prev n item log size_is eight within
           is);
-      image = subst (λ (k : ℕ). IsImage ident timeline from prev item (take k log)) behind is;
+      image = subst (λ (k : ℕ). IsImage ident timeline from prev item (take k log)) past is;
     }
 
 -- ---- one answer

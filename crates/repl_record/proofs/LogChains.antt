@@ -23,7 +23,7 @@ pub image_eight : (ident : Ident) (timeline : ℕ → ℕ) (from prev : ℕ) (it
 image_eight ident timeline from prev item log n within image = ap (λ (k : ℕ). (from + k) % 8) (sym (length-take-le n log within))
     ∙ image.rounded
 
--- a record ends where the log begins or behind it, and at a multiple of 8 if the log begins at one
+-- a record ends where the log begins or after it, and at a multiple of 8 if the log begins at one
 pub placed : (ident : Ident) (timeline : ℕ → ℕ) (from prev : ℕ) (log : List ℕ) (end last : ℕ) → from % 8 ≡ 0
     → RecordEnd ident timeline from prev log end last → (from ≤ end) × (end % 8 ≡ 0)
 placed ident timeline from prev log end last eight origin = (omega arith, eight)
@@ -44,10 +44,10 @@ one_record : (ident : Ident) (timeline : ℕ → ℕ) (from prev : ℕ) (log : L
     → last ≡ prev
     → (end - from) + n ≤ length log → IsImage ident timeline end last item (take n (drop (end - from) log))
     → FirstRecord ident timeline from prev log (end + n) (start_of ident.size end)
-one_record ident timeline from prev log end last item n at behind fits image =
+one_record ident timeline from prev log end last item n at past fits image =
     let none : end - from ≡ 0 = omega arith in
     let by_start = subst (λ (k : ℕ). IsImage ident timeline k last item (take n (drop (end - from) log))) at image in
-    let by_prev = subst (λ (k : ℕ). IsImage ident timeline from k item (take n (drop (end - from) log))) behind by_start in
+    let by_prev = subst (λ (k : ℕ). IsImage ident timeline from k item (take n (drop (end - from) log))) past by_start in
     record {
       item = item;
       n = n;
@@ -105,11 +105,11 @@ none_passed ident timeline from prev log last size_is eight is =
     ]
 
 -- a chain that goes on as far as the end of an image at its front goes on from there
-behind_image : (ident : Ident) (timeline : ℕ → ℕ) (from prev : ℕ) (log : List ℕ) (item : RecordIn) (n later start : ℕ)
+past_image : (ident : Ident) (timeline : ℕ → ℕ) (from prev : ℕ) (log : List ℕ) (item : RecordIn) (n later start : ℕ)
     → IsSegSize ident.size → from % 8 ≡ 0 → n ≤ length log → IsImage ident timeline from prev item (take n log)
     → RecordEnd ident timeline from prev log later start → from + n ≤ later
     → RecordEnd ident timeline (from + n) (start_of ident.size from) (drop n log) later start
-behind_image ident timeline from prev log item n later start size_is eight within image is reached =
+past_image ident timeline from prev log item n later start size_is eight within image is reached =
     elim (first_record ident timeline from prev log later start is) [
       | inl none ↦ let some = image_some ident timeline from prev item log n size_is eight within image in absurd (omega (arith, none.0))
       | inr first ↦
@@ -127,13 +127,13 @@ in_line ident timeline from prev log end last later start size_is eight origin s
 in_line ident timeline from prev log _ _ later start size_is eight (next end last item n before fits image) second reached =
     let at = placed ident timeline from prev log end last eight before in
     let rest = in_line ident timeline from prev log end last later start size_is eight before second (omega arith) in
-    let behind = behind_image ident timeline end last (drop (end - from) log) item n later start size_is at.1 (omega (
+    let past = past_image ident timeline end last (drop (end - from) log) item n later start size_is at.1 (omega (
       arith,
       length-drop (end - from) log,
     )) image rest reached in
     let way : end - from + n ≡ end + n - from = omega (arith, at.0) in
     subst (λ (t : List ℕ). RecordEnd ident timeline (end + n) (start_of ident.size end) t later start) (drop-drop n (end - from) log
-    ∙ ap (λ (k : ℕ). drop k log) way) behind
+    ∙ ap (λ (k : ℕ). drop k log) way) past
 
 pub same_last : (ident : Ident) (timeline : ℕ → ℕ) (from prev : ℕ) (log : List ℕ) (end last start : ℕ) → IsSegSize ident.size → from % 8 ≡ 0
     → RecordEnd ident timeline from prev log end last → RecordEnd ident timeline from prev log end start → last ≡ start
@@ -142,7 +142,7 @@ same_last ident timeline from prev log end last start size_is eight first second
     let none = in_line ident timeline from prev log end last end start size_is eight first second (omega arith) in
     sym (none_passed ident timeline end last (drop (end - from) log) start size_is at.1 none)
 
--- where the log is the beginning of a record, no record ends behind its front
+-- where the log is the beginning of a record, no record ends after its front
 beginning_has_no_end : (ident : Ident) (timeline : ℕ → ℕ) (from prev : ℕ) (log : List ℕ) (end last : ℕ) → IsSegSize ident.size
     → from % 8 ≡ 0 → IsBeginning ident timeline from prev log → RecordEnd ident timeline from prev log end last → end ≡ from
 beginning_has_no_end ident timeline from prev log end last size_is eight beginning is =
@@ -164,11 +164,11 @@ greatest_end ident timeline from prev log size_is eight records =
       is_end = records.records;
       greatest = λ other start is. elim (cases_lt end other) [
         | inl below ↦
-            let behind = in_line ident timeline from prev log end last other start size_is eight records.records is (omega arith) in
+            let past = in_line ident timeline from prev log end last other start size_is eight records.records is (omega arith) in
             omega (
               arith,
               beginning_has_no_end ident timeline end last (drop (end - from) log) other start size_is at.1 records.beginning
-                  behind,
+                  past,
             )
         | inr above ↦ above
       ];

@@ -11,7 +11,7 @@ use Rattle.repl_record.specs.Record.{HeadersAreSpelled, IsImage, content, from_p
 use Rattle.repl_record.specs.Length.{CanBegin}
 use Rattle.repl_record.proofs.Pages.{header_is, in_header_from, in_header_tells, length_of_page, page_start_is_page, same_header_length}
 use Rattle.repl_record.proofs.Content.{content-append, content-header_byte, content-byte}
-use Rattle.repl_record.proofs.ImageLength.{behind_record, same_image_end}
+use Rattle.repl_record.proofs.ImageLength.{past_record, same_image_end}
 
 -- ---- lists with one content and the same headers
 
@@ -82,7 +82,7 @@ byte_of_header ident timeline total from page k log spelled is_page above below 
     ∙ sym (get_or-take n (from_page from log page) k 0 inside)
     ∙ ap (λ (t : List ℕ). get_or t k 0) (spelled page is_page above below)
 
--- the page in whose header a position is began with the image or behind
+-- the page in whose header a position is began with the image or after
 page_began : (size from i : ℕ) → IsSegSize size → CanBegin size from → in_header size (from + i) ≡ true → from ≤ page_start (from + i)
 page_began size from i is can inside =
     elim (cases_lt (page_start (from + i)) from) [
@@ -135,8 +135,8 @@ same_image ident timeline from prev item a b is can left left_spelled right righ
     ) in
     let fronts : length left.front ≡ length right.front = omega (
       arith,
-      behind_record ident timeline from prev item a is left,
-      behind_record ident timeline from prev item b is right,
+      past_record ident timeline from prev item a is left,
+      past_record ident timeline from prev item b is right,
     ) in
     let gaps : left.gap ≡ right.gap = omega (
       arith,

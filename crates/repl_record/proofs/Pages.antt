@@ -27,7 +27,7 @@ whole_pages size is =
       )
     ]
 
--- two positions as far from the segment's start, or both behind its first page
+-- two positions as far from the segment's start, or both after its first page
 same_test : (r i : ℕ) → r % 8192 + i < 8192 → nat_lt (r + i) 8192 ≡ nat_lt r 8192
 same_test r i within =
     elim (cases_lt r 8192) [
@@ -35,7 +35,7 @@ same_test r i within =
       | inr later ↦ le-ltb (r + i) 8192 (omega arith) ∙ sym (le-ltb r 8192 later)
     ]
 
--- what is left of a segment behind a position on a page is at least the rest of that page
+-- what is left of a segment past a position on a page is at least the rest of that page
 page_in_segment : (pages r i : ℕ) → r < 8192 * pages → r % 8192 + i < 8192 → r + i < 8192 * pages
 page_in_segment pages r i inside within =
     let page = r / 8192 in
@@ -94,7 +94,7 @@ pub in_header_from : (size position : ℕ) → position % 8192 < header_length s
 in_header_from size position inside = lt-ltb (position % 8192) (header_length size position) inside
 
 pub not_in_header_from : (size position : ℕ) → header_length size position ≤ position % 8192 → in_header size position ≡ false
-not_in_header_from size position behind = le-ltb (position % 8192) (header_length size position) behind
+not_in_header_from size position past = le-ltb (position % 8192) (header_length size position) past
 
 pub in_header_tells : (size position : ℕ) → in_header size position ≡ true → position % 8192 < header_length size position
 in_header_tells size position is = ltb-true (position % 8192) (header_length size position) is
@@ -110,7 +110,7 @@ before_page size page is some = not_in_header_from size (page - 1) (omega (arith
 pub same_eight : (size position i : ℕ) → IsSegSize size → in_header size position ≡ false → position % 8 + i < 8
     → in_header size (position + i) ≡ false
 same_eight size position i is outside within =
-    let behind = not_in_header_tells size position outside in
+    let past = not_in_header_tells size position outside in
     not_in_header_from size (position + i) (omega (
       arith,
       same_header_length size position i is (omega arith),
@@ -144,13 +144,13 @@ header_is_whole size page position is is_page began outside =
       | inl inside ↦
           let step = position - page in
           let place : position ≡ page + step = omega arith in
-          let behind = not_in_header_tells size (page + step) (ap (in_header size) (sym place) ∙ outside) in
+          let past = not_in_header_tells size (page + step) (ap (in_header size) (sym place) ∙ outside) in
           let limit = same_header_length size page step is (omega (arith, header_is size page)) in
           absurd (omega (arith, header_is size page))
       | inr whole ↦ whole
     ]
 
--- behind bytes on one page the position is in a header at its page's first byte alone
+-- after bytes on one page the position is in a header at its page's first byte alone
 pub at_page : (size at n : ℕ) → IsSegSize size → header_length size at ≤ at % 8192 → at % 8192 + n ≤ 8192 → in_header size (at + n) ≡ true
     → (at + n) % 8192 ≡ 0
 at_page size at n is outside on_page inside =

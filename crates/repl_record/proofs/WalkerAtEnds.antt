@@ -49,7 +49,7 @@ begun w timeline prev not_refused count sum at aligned follows fits =
         begins = refl;
         follows = follows;
         prev_fits = fits;
-        behind = omega arith;
+        past = omega arith;
         aligned = aligned;
         are_bytes = λ i. omega arith;
         header_is = λ inside above. new_page w.from w.at w.header [] (omega arith) (first w.at w.from at above);
@@ -86,7 +86,7 @@ over_from w timeline from prev log k end =
       right = k.has_length (omega arith);
       all = all;
       last = k.in_gap (omega arith) all;
-      rounded = omega (arith, k.behind, end.rounded);
+      rounded = omega (arith, k.past, end.rounded);
     }
 
 pub over_tells : (w : Walker) (timeline : ℕ → ℕ) (from prev : ℕ) (log : List ℕ) → Keeps w timeline from prev log
@@ -98,24 +98,24 @@ over_tells w timeline from prev log k over =
     record {
       whole = whole;
       all = omega (arith, k.many many, total_is k (omega arith), over.all);
-      rounded = omega (arith, k.behind, over.rounded);
+      rounded = omega (arith, k.past, over.rounded);
     }
 
--- ---- behind another record
+-- ---- after another record
 
 -- what is judged of the start of the record before
-right_behind : (ident : Ident) (timeline : ℕ → ℕ) (from prev other : ℕ) (log : List ℕ) → length (content ident.size from log) < 16
+right_past : (ident : Ident) (timeline : ℕ → ℕ) (from prev other : ℕ) (log : List ℕ) → length (content ident.size from log) < 16
     → IsRight ident timeline from other log → IsRight ident timeline from prev log
-right_behind ident timeline from prev other log few right (why.Page fault) h = right (why.Page fault) h
-right_behind ident timeline from prev other log few right (why.Length found) h = right (why.Length found) h
-right_behind ident timeline from prev other log few right (why.Prev found expected) h = absurd (omega (arith, h.0.count_is))
-right_behind ident timeline from prev other log few right why.Reserved h = right why.Reserved h
-right_behind ident timeline from prev other log few right (why.Checksum found computed) h = right (why.Checksum found computed) h
-right_behind ident timeline from prev other log few right why.Padding h = right why.Padding h
+right_past ident timeline from prev other log few right (why.Page fault) h = right (why.Page fault) h
+right_past ident timeline from prev other log few right (why.Length found) h = right (why.Length found) h
+right_past ident timeline from prev other log few right (why.Prev found expected) h = absurd (omega (arith, h.0.count_is))
+right_past ident timeline from prev other log few right why.Reserved h = right why.Reserved h
+right_past ident timeline from prev other log few right (why.Checksum found computed) h = right (why.Checksum found computed) h
+right_past ident timeline from prev other log few right why.Padding h = right why.Padding h
 
-pub stands_behind : (w : Walker) (timeline : ℕ → ℕ) (from prev other : ℕ) (log : List ℕ) → prev < 2 ^ 64 → Stands w timeline from other log
+pub stands_past : (w : Walker) (timeline : ℕ → ℕ) (from prev other : ℕ) (log : List ℕ) → prev < 2 ^ 64 → Stands w timeline from other log
     → length (so_far w from log) < 16 → Stands (record w { prev = prev }) timeline from prev log
-stands_behind w timeline from prev other log fits s few =
+stands_past w timeline from prev other log fits s few =
     let k = s.keeps in
     record {
       keeps = record {
@@ -123,7 +123,7 @@ stands_behind w timeline from prev other log fits s few =
         begins = k.begins;
         follows = refl;
         prev_fits = fits;
-        behind = k.behind;
+        past = k.past;
         aligned = k.aligned;
         are_bytes = k.are_bytes;
         header_is = k.header_is;
@@ -137,7 +137,7 @@ stands_behind w timeline from prev other log fits s few =
       };
       beginning = λ m below. (
         (s.beginning m below).0,
-        right_behind w.ident timeline from prev other (take m log) (omega (arith, length-content-front w.ident.size from m log, few))
+        right_past w.ident timeline from prev other (take m log) (omega (arith, length-content-front w.ident.size from m log, few))
             (s.beginning m below).1,
       );
     }

@@ -68,7 +68,7 @@ counted_from w bytes holds has_length unfinished =
 length_grown : (bytes piece : List ℕ) → HasLength bytes → 4 ≤ length bytes → HasLength (bytes ++ piece)
 length_grown bytes piece right four = subst IsLength (sym (field-append 0 4 bytes piece four)) right
 
--- the length is right behind its own four bytes
+-- the length is right after its own four bytes
 has_length_grown : (w : Walker) (bytes piece : List ℕ) → IsCounted w bytes → (4 ≤ length bytes → HasLength bytes)
     → w.count + length piece ≤ goal w → 4 < length (bytes ++ piece) → HasLength (bytes ++ piece)
 has_length_grown w bytes piece counted right fits many =
@@ -87,11 +87,11 @@ grown_front w bytes piece counted right few fits =
     let short = cond-true (nat_lt w.count 24) (put w.front w.count piece) w.front (lt-ltb w.count 24 few) in
     let kept : take w.count w.front ≡ bytes = ap (λ (m : ℕ). take m w.front) (omega arith) ∙ counted.holds.front_is
     ∙ take_all 24 bytes (omega (arith, count)) in
-    let behind = drop (w.count + length piece) w.front in
-    let written : put w.front w.count piece ≡ all ++ behind = ap (λ (front : List ℕ). front ++ piece ++ behind) kept in
+    let past = drop (w.count + length piece) w.front in
+    let written : put w.front w.count piece ≡ all ++ past = ap (λ (front : List ℕ). front ++ piece ++ past) kept in
     let front : take (min (w.count + length piece) 24) (put w.front w.count piece) ≡ all =
     ap (λ (m : ℕ). take m (put w.front w.count piece)) (omega (arith, long)) ∙ ap (take (length all)) written
-    ∙ take_at all behind (length all) refl in
+    ∙ take_at all past (length all) refl in
     record {
       front_is = ap (take (min (w.count + length piece) 24)) short ∙ front ∙ sym (take_all 24 all (omega (arith, long)));
       few = λ _. sym long;
@@ -102,7 +102,7 @@ grown_front w bytes piece counted right few fits =
           ∙ sym (drop_all 24 (take (w.count + length piece) all) (omega (arith, length-take (w.count + length piece) all))));
     }
 
--- behind them, in its body
+-- after them, in its body
 grown_body : (w : Walker) (bytes piece : List ℕ) → IsCounted w bytes → HasLength bytes → 24 ≤ w.count
     → w.count + length piece ≤ length_field bytes → Holds (with_record w piece) (bytes ++ piece)
 grown_body w bytes piece counted right many fits =

@@ -1,4 +1,4 @@
--- A walker that takes a part of the gap behind a record: what it keeps then, and what is judged.
+-- A walker that takes a part of the gap after a record: what it keeps then, and what is judged.
 use Rattle.std.proofs.Common.{◌≡◌, ◌≢◌, ℕ, ◌+◌, ◌-◌, ◌%◌, ◌<◌, ◌≤◌, ◌==◌, Bool, true, false, not, List, ◌++◌, length, take, drop, get_or, min, refl, sym, ap, ◌∙◌, subst, inl, inr, arith, length-append}
 use Rattle.std.specs.List.{list_any, position_or_len}
 use Rattle.std.proofs.lemmas.Bool.{both_ways, cases_lt, false_from_ne_true, not-false, not-true, eqb-false, eqb-true}
@@ -64,7 +64,7 @@ pub all_zero : (bytes : List ℕ) → list_any is_other bytes ≡ false → (i :
 all_zero bytes none i inside = is_zero (get_or bytes i 0) (false_from_ne_true (is_other (get_or bytes i 0)) (λ some.
     both_ways (list_any is_other bytes) none (list_any_at is_other bytes i 0 inside some)))
 
--- the last byte of a log with a part of a piece behind it
+-- the last byte of a log with a part of a piece after it
 last_byte : (log bytes : List ℕ) (i : ℕ) → 0 < i → i ≤ length bytes
     → get_or (log ++ take i bytes) (length (log ++ take i bytes) - 1) 0 ≡ get_or bytes (i - 1) 0
 last_byte log bytes i some enough =
@@ -84,7 +84,7 @@ is_finished {w = w} {from = from} {log = log} k passed =
     let many = many_are k done.0 in
     (many, omega (arith, k.many many, done.1, total_is k (omega (arith, done.0))))
 
--- The walker stands behind the log's bytes, which are all of a record's and a part of the gap behind it, and it takes so
+-- The walker stands after the log's bytes, which are all of a record's and a part of the gap after it, and it takes so
 -- many of these bytes, up to the next multiple of 8 at most.
 pub record IsGapPart (w : Walker) (timeline : ℕ → ℕ) (from prev : ℕ) (log bytes : List ℕ) (taken : ℕ) : Type 0 where
   pub stands : Stands w timeline from prev log
@@ -124,7 +124,7 @@ gap_part {w = w} bytes taken s is outside passed some are taken_is =
 so_far_is : {w : Walker} {timeline : ℕ → ℕ} {from prev : ℕ} {log bytes : List ℕ} {taken : ℕ} (i : ℕ)
     → IsGapPart w timeline from prev log bytes taken → i ≤ taken → so_far w from (log ++ take i bytes) ≡ so_far w from log ++ take i bytes
 so_far_is {w = w} {from = from} {log = log} {bytes = bytes} i g within =
-    content-more w.ident.size w.at from log (take i bytes) g.size g.stands.keeps.behind g.outside (omega (
+    content-more w.ident.size w.at from log (take i bytes) g.size g.stands.keeps.past g.outside (omega (
       arith,
       length-take-le i bytes (omega (arith, g.enough)),
       g.within,
@@ -157,7 +157,7 @@ last_is_content : {w : Walker} {timeline : ℕ → ℕ} {from prev : ℕ} {log b
     → IsGapPart w timeline from prev log bytes taken → 0 < i → i ≤ taken → LastIsContent w.ident.size from (log ++ take i bytes)
 last_is_content {w = w} {from = from} {log = log} {bytes = bytes} i g some within =
     let counted = length-take-le i bytes (omega (arith, g.enough)) in
-    last_more w.ident.size w.at from log (take i bytes) g.size g.stands.keeps.behind g.outside (omega (
+    last_more w.ident.size w.at from log (take i bytes) g.size g.stands.keeps.past g.outside (omega (
       arith,
       counted,
       g.within,
@@ -193,7 +193,7 @@ calm_gap {w = w} {from = from} {log = log} {bytes = bytes} i g some within zero 
     over h = absurd (omega (
       arith,
       h.rounded,
-      g.stands.keeps.behind,
+      g.stands.keeps.past,
       g.within,
       g.begun,
       length-append log (take i bytes),
@@ -210,9 +210,9 @@ keeps_gap {w = w} {from = from} {log = log} {bytes = bytes} {taken = taken} g =
     let same : so_far w from (log ++ piece) ≡ so_far w from log ++ piece = so_far_is taken g (omega arith) in
     let count : length (so_far w from (log ++ piece)) ≡ length (so_far w from log) + taken = length_is taken g (omega arith) in
     let total : length_field (so_far w from (log ++ piece)) ≡ length_field (so_far w from log) = field_is taken g (omega arith) in
-    let behind : w.at + taken ≡ from + length (log ++ piece) = omega (
+    let past : w.at + taken ≡ from + length (log ++ piece) = omega (
       arith,
-      k.behind,
+      k.past,
       length-append log piece,
       length-take-le taken bytes g.enough,
     ) in
@@ -224,10 +224,10 @@ keeps_gap {w = w} {from = from} {log = log} {bytes = bytes} {taken = taken} g =
       begins = k.begins;
       follows = k.follows;
       prev_fits = k.prev_fits;
-      behind = behind;
+      past = past;
       aligned = k.aligned;
       are_bytes = AreBytes-append log piece k.are_bytes (AreBytes-take taken bytes g.are_bytes);
-      header_is = λ inside began. new_page from (w.at + taken) w.header (log ++ piece) behind (first inside);
+      header_is = λ inside began. new_page from (w.at + taken) w.header (log ++ piece) past (first inside);
       timeline_is = λ inside began after. absurd (omega (arith, after, first inside));
       front_is = k.front_is ∙ sym (ap (take 24) same ∙ take-append-le 24 (so_far w from log) piece g.front);
       few = λ few. absurd (omega (arith, few, count, g.front));

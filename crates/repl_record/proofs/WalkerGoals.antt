@@ -36,10 +36,10 @@ goal_is count whole =
                           up_20
                               ∙ cond-true (nat_lt count 24) 24 _ (lt-ltb count 24 below),
                         ))))
-                        | inr behind ↦ inr (inr (inr (inr (
-                          behind,
+                        | inr past ↦ inr (inr (inr (inr (
+                          past,
                           up_20
-                              ∙ cond-false (nat_lt count 24) 24 whole (le-ltb count 24 behind),
+                              ∙ cond-false (nat_lt count 24) 24 whole (le-ltb count 24 past),
                         ))))
                       ]
                 ]

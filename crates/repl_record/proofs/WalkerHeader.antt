@@ -20,12 +20,12 @@ use Rattle.repl_record.proofs.Fields.{AreBytes-append, AreBytes-take}
 use Rattle.repl_record.proofs.Pages.{header_is, in_header_from, page_start_is_page, place_on_page, same_page_start, still_in_header, page_of_end, length_of_page}
 use Rattle.repl_record.proofs.Headers.{no_fault}
 use Rattle.repl_record.proofs.Content.{content-append-header, content-before_page, eight_before_page}
-use Rattle.repl_record.proofs.JudgingCalm.{IsCalm, calm_header, header_fault_behind, open_more}
+use Rattle.repl_record.proofs.JudgingCalm.{IsCalm, calm_header, header_fault_past, open_more}
 use Rattle.repl_record.proofs.WalkerStands.{count_is, total_is, unfinished}
 
 -- ---- a part of a header
 
--- The walker stands behind the log's bytes in a page's header, and this piece is the next part of it. The page is on
+-- The walker stands after the log's bytes in a page's header, and this piece is the next part of it. The page is on
 -- this timeline, if it begins here.
 pub record IsHeaderPart (w : Walker) (tli : ℕ) (timeline : ℕ → ℕ) (from prev : ℕ) (log piece : List ℕ) : Type 0 where
   pub stands : Stands w timeline from prev log
@@ -38,7 +38,7 @@ pub record IsHeaderPart (w : Walker) (tli : ℕ) (timeline : ℕ → ℕ) (from 
 -- the piece's last byte is one of the header
 last_in_header : (size from at : ℕ) (log piece : List ℕ) → IsSegSize size → at ≡ from + length log → 0 < length piece
     → at % 8192 + length piece ≤ header_length size at → in_header size (from + length (log ++ piece) - 1) ≡ true
-last_in_header size from at log piece is behind some within = ap (in_header size) (omega (arith, length-append log piece))
+last_in_header size from at log piece is past some within = ap (in_header size) (omega (arith, length-append log piece))
     ∙ still_in_header size at (length piece - 1) is (omega arith)
 
 -- as much of the bytes as the header has room for
@@ -65,16 +65,16 @@ calm_part : {w : Walker} {timeline : ℕ → ℕ} {from prev : ℕ} {log : List 
     ⊎ (page_start w.at < from)
     → IsCalm w.ident timeline from prev (log ++ piece)
 calm_part {w = w} {timeline = timeline} {from = from} {prev = prev} {log = log} piece is s some within unjudged =
-    calm_header w.ident timeline from prev (log ++ piece) is (last_in_header size from w.at log piece is s.keeps.behind some within) none
+    calm_header w.ident timeline from prev (log ++ piece) is (last_in_header size from w.at log piece is s.keeps.past some within) none
   where
     size : ℕ
     size = w.ident.size
 
     none : (found : PageFault) → ¬ IsHeaderFault w.ident timeline from (log ++ piece) found
     none found h =
-        let at_end : w.at + length piece ≡ from + length (log ++ piece) = omega (arith, length-append log piece, s.keeps.behind) in
+        let at_end : w.at + length piece ≡ from + length (log ++ piece) = omega (arith, length-append log piece, s.keeps.past) in
         elim unjudged [
-          | inl below ↦ header_fault_behind w.ident timeline from (log ++ piece) found is h (ap (in_header size) (sym at_end)
+          | inl below ↦ header_fault_past w.ident timeline from (log ++ piece) found is h (ap (in_header size) (sym at_end)
               ∙ still_in_header size w.at (length piece) is below)
           | inr old ↦ absurd (omega (arith, old, h.began, page_of_end size w.at (length piece) h.page h.is_page within (at_end ∙ h.ended)))
         ]
@@ -104,7 +104,7 @@ open_whole {w = w} {tli = tli} {timeline = timeline} {from = from} {prev = prev}
 so_far_is : {w : Walker} {tli : ℕ} {timeline : ℕ → ℕ} {from prev : ℕ} {log piece : List ℕ} → IsHeaderPart w tli timeline from prev log piece
     → so_far w from (log ++ piece) ≡ so_far w from log
 so_far_is {w = w} {from = from} {log = log} {piece = piece} h =
-    content-append-header w.ident.size from w.at log piece h.size h.stands.keeps.behind h.within
+    content-append-header w.ident.size from w.at log piece h.size h.stands.keeps.past h.within
 
 -- the record has bytes to come
 is_unfinished : {w : Walker} {tli : ℕ} {timeline : ℕ → ℕ} {from prev : ℕ} {log piece : List ℕ}
@@ -119,7 +119,7 @@ header_so_far : {w : Walker} {tli : ℕ} {timeline : ℕ → ℕ} {from prev : �
 header_so_far {w = w} {from = from} {log = log} {piece = piece} h began =
     let place = w.at % 8192 in
     let n = page_start w.at - from in
-    let behind : w.at ≡ from + length log = h.stands.keeps.behind in
+    let past : w.at ≡ from + length log = h.stands.keeps.past in
     let old : take place w.header ≡ drop n log = h.stands.keeps.header_is (in_header_from w.ident.size w.at (omega (
       arith,
       h.within,
@@ -155,13 +155,13 @@ keeps_header {w = w} {tli = tli} {timeline = timeline} {from = from} {prev = pre
       begins = k.begins;
       follows = k.follows;
       prev_fits = k.prev_fits;
-      behind = omega (arith, k.behind, length-append log piece);
+      past = omega (arith, k.past, length-append log piece);
       aligned = k.aligned;
       are_bytes = AreBytes-append log piece k.are_bytes h.are_bytes;
       header_is = λ inside began.
           ap (λ (n : ℕ). take n (put w.header (w.at % 8192) piece)) (place_on_page w.at (length piece) on_page)
           ∙ header_so_far h (omega (arith, began)) ∙ ap (from_page from (log ++ piece)) (sym page);
-      timeline_is = λ inside began behind. timeline_so_far h (omega (arith, began)) ∙ ap timeline (sym page);
+      timeline_is = λ inside began past. timeline_so_far h (omega (arith, began)) ∙ ap timeline (sym page);
       front_is = k.front_is ∙ ap (take 24) (sym same);
       few = λ few. k.few (omega (arith, few)) ∙ sym count;
       many = λ many. omega (arith, k.many (omega (arith, many)));
@@ -181,15 +181,15 @@ before_page {w = w} {from = from} {log = log} h after =
     let size = w.ident.size in
     let page = page_start w.at in
     let same : so_far w from log ≡ content size from (take (page - from) log) =
-    content-before_page size from page log h.size (page_start_is_page w.at) (omega arith) (omega (arith, k.behind)) (omega (
+    content-before_page size from page log h.size (page_start_is_page w.at) (omega arith) (omega (arith, k.past)) (omega (
       arith,
-      k.behind,
+      k.past,
       h.within,
       length_of_page size w.at h.size,
     )) in
     let eight = eight_before_page size from page log h.size (page_start_is_page w.at) (omega (arith, after, k.aligned)) (omega (
       arith,
-      k.behind,
+      k.past,
     )) in
     (same, omega (arith, ap length same, eight))
 
@@ -209,7 +209,7 @@ remaining_is {w = w} {from = from} {log = log} {piece = piece} h began =
           ∙ sym (cond-true (page == from) 0 (whole - before) (eq-eqb page from first))
       | inr later ↦
           let old : take (page - from) (log ++ piece) ≡ take (page - from) log =
-          take-append-le (page - from) log piece (omega (arith, k.behind)) in
+          take-append-le (page - from) log piece (omega (arith, k.past)) in
           let all = before_page h (omega arith) in
           let count = count_is k (is_unfinished h) in
           let rest : total w - w.count ≡ whole - before = omega (
@@ -293,7 +293,7 @@ header_agrees {w = w} {timeline = timeline} {from = from} {prev = prev} {log = l
     }
   where
     last : in_header w.ident.size (from + length (log ++ piece) - 1) ≡ true
-    last = last_in_header w.ident.size from w.at log piece h.size h.stands.keeps.behind h.some h.within
+    last = last_in_header w.ident.size from w.at log piece h.size h.stands.keeps.past h.some h.within
 
     none : (found : PageFault) → ¬ IsHeaderFault w.ident timeline from (log ++ piece) found
     none found f =
@@ -301,7 +301,7 @@ header_agrees {w = w} {timeline = timeline} {from = from} {prev = prev} {log = l
         let ended : w.at + length piece ≡ f.page + header_length w.ident.size f.page = omega (
           arith,
           length-append log piece,
-          h.stands.keeps.behind,
+          h.stands.keeps.past,
           f.ended,
         ) in
         let one = page_of_end w.ident.size w.at (length piece) f.page f.is_page h.within ended in
@@ -321,7 +321,7 @@ header_fault {w = w} {from = from} {log = log} {piece = piece} found h began end
       page = page_start w.at;
       is_page = page_start_is_page w.at;
       began = began;
-      ended = omega (arith, length-append log piece, h.stands.keeps.behind, ended, length_of_page w.ident.size w.at h.size);
+      ended = omega (arith, length-append log piece, h.stands.keeps.past, ended, length_of_page w.ident.size w.at h.size);
       within = is_within h began;
       fault = fault;
     }
@@ -345,7 +345,7 @@ header_differs {w = w} {timeline = timeline} {from = from} {log = log} bytes tak
         arith,
         ap length same,
         length-append log (take taken bytes),
-        h.stands.keeps.behind,
+        h.stands.keeps.past,
         h.some,
         h.within,
         header_is w.ident.size w.at,

@@ -54,12 +54,12 @@ counted w timeline from prev log piece t =
 
 content_taken : (w : Walker) (timeline : ℕ → ℕ) (from prev : ℕ) (log piece : List ℕ) → IsRecordPart w timeline from prev log piece
     → so_far w from (log ++ piece) ≡ so_far w from log ++ piece
-content_taken w timeline from prev log piece t = content-more w.ident.size w.at from log piece t.size t.stands.keeps.behind t.outside
+content_taken w timeline from prev log piece t = content-more w.ident.size w.at from log piece t.size t.stands.keeps.past t.outside
     t.on_page
 
 pub last_taken : (w : Walker) (timeline : ℕ → ℕ) (from prev : ℕ) (log piece : List ℕ) → IsRecordPart w timeline from prev log piece
     → LastIsContent w.ident.size from (log ++ piece)
-last_taken w timeline from prev log piece t = last_more w.ident.size w.at from log piece t.size t.stands.keeps.behind t.outside t.on_page
+last_taken w timeline from prev log piece t = last_more w.ident.size w.at from log piece t.size t.stands.keeps.past t.outside t.on_page
     t.some
 
 pub counted_taken : (w : Walker) (timeline : ℕ → ℕ) (from prev : ℕ) (log piece : List ℕ) → IsRecordPart w timeline from prev log piece
@@ -77,17 +77,17 @@ keeps_taken w timeline from prev log piece t right =
     let k = t.stands.keeps in
     let holds = (counted_taken w timeline from prev log piece t).holds in
     let at = w.at + length piece in
-    let behind : at ≡ from + length (log ++ piece) = omega (arith, k.behind, length-append log piece) in
+    let past : at ≡ from + length (log ++ piece) = omega (arith, k.past, length-append log piece) in
     let first : in_header w.ident.size at ≡ true → at % 8192 ≡ 0 = at_page w.ident.size w.at (length piece) t.size t.outside t.on_page in
     record {
       not_refused = k.not_refused;
       begins = k.begins;
       follows = k.follows;
       prev_fits = k.prev_fits;
-      behind = behind;
+      past = past;
       aligned = k.aligned;
       are_bytes = AreBytes-append log piece k.are_bytes t.are_bytes;
-      header_is = λ inside above. new_page from at w.header (log ++ piece) behind (first inside);
+      header_is = λ inside above. new_page from at w.header (log ++ piece) past (first inside);
       timeline_is = λ inside above begun. absurd (omega (arith, first inside));
       front_is = holds.front_is;
       few = holds.few;

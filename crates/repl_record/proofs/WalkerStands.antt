@@ -1,4 +1,4 @@
--- A walker that stands behind bytes of the log: what it knows of them.
+-- A walker that stands after bytes of the log: what it knows of them.
 use Rattle.std.proofs.Common.{◌≡◌, ◌≢◌, ℕ, ◌+◌, ◌-◌, ◌%◌, ◌<◌, ◌≤◌, true, false, List, length, take, sym, ap, ◌∙◌, subst, inl, inr, arith}
 use Rattle.std.proofs.lemmas.Bool.{cases_lt, both_ways}
 use Rattle.std.proofs.lemmas.List.{take_all, drop_all}
@@ -30,7 +30,7 @@ not_rounded s four all rounded =
       all = all;
       last = s.keeps.in_gap four all;
       rounded =
-          omega (arith, s.keeps.behind, rounded);
+          omega (arith, s.keeps.past, rounded);
     })
 
 -- no header of a page is next
@@ -41,7 +41,7 @@ not_in_header {w = w} {from = from} {log = log} is s four all =
     let some : 0 < length log = omega (arith, length-content size from log) in
     let before = from + length log - 1 in
     let open_gap : w.at % 8 ≢ 0 = not_rounded s four all in
-    let next : before + 1 ≡ w.at = omega (arith, s.keeps.behind) in
+    let next : before + 1 ≡ w.at = omega (arith, s.keeps.past) in
     ap (in_header size) (sym next) ∙ same_eight size before 1 is (s.keeps.in_gap four all) (omega arith)
 
 -- ---- a record of which bytes are to come
@@ -84,5 +84,5 @@ many_are {w = w} {from = from} {log = log} k whole =
 -- no byte of its header is there
 pub new_page : (from at : ℕ) (header log : List ℕ) → at ≡ from + length log → at % 8192 ≡ 0
     → take (at % 8192) header ≡ from_page from log (page_start at)
-new_page from at header log behind first =
+new_page from at header log past first =
     ap (λ (n : ℕ). take n header) first ∙ sym (drop_all (page_start at - from) log (omega arith))

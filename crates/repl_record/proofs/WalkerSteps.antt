@@ -22,7 +22,7 @@ use Rattle.repl_record.proofs.WalkerAtEnds.{begun, over_from, over_tells}
 -- the walker has gone through so many of the bytes, and no record ended
 pub record Walked (old new : Walker) (tli : ℕ) (bytes : List ℕ) (used : ℕ) : Type 0 where
   pub within : used ≤ length bytes
-  pub behind : new.at ≡ old.at + used
+  pub past : new.at ≡ old.at + used
   pub same : IsOfOneLog old new
   pub open_still : old.refused ≡ None
   pub stands : (timeline : ℕ → ℕ) (from prev : ℕ) (log : List ℕ) → Stands old timeline from prev log
@@ -39,7 +39,7 @@ pub part_of_rest : (log bytes : List ℕ) (used taken : ℕ) → used ≤ length
 part_of_rest log bytes used taken within = append_assoc log (take used bytes) (take taken (drop used bytes))
     ∙ ap (λ (t : List ℕ). log ++ t) (sym (take-add used taken bytes))
 
--- where no record ends, the walker stands behind what it has reached
+-- where no record ends, the walker stands after what it has reached
 stands_from : (w : Walker) (timeline : ℕ → ℕ) (from prev : ℕ) (log : List ℕ) → Reached w timeline from prev log → ¬ IsAtEnd w
     → Stands w timeline from prev log
 stands_from w timeline from prev log reached none = record { keeps = reached.keeps; beginning = beginning }
@@ -61,13 +61,13 @@ pub walked_on : (old w new : Walker) (tli : ℕ) (bytes : List ℕ) (used taken 
     → ¬ IsAtEnd new → Walked old new tli bytes (used + taken)
 walked_on old w new tli bytes used taken walked within at same moved none = record {
   within = omega (arith, walked.within, length-drop used bytes);
-  behind = omega (arith, walked.behind, at);
+  past = omega (arith, walked.past, at);
   same = (same.0 ∙ walked.same.0, same.1 ∙ walked.same.1, same.2 ∙ walked.same.2, same.3 ∙ walked.same.3);
   open_still = walked.open_still;
   stands = λ timeline from prev log stands on.
       let After : List ℕ → Type 0 = λ l. Stands new timeline from prev l in
       let rest : AreOn timeline tli (position w) (length (drop used bytes)) =
-      subst (λ (p : ℕ). AreOn timeline tli p (length (drop used bytes))) (sym walked.behind) (rest_on timeline tli (position old) used
+      subst (λ (p : ℕ). AreOn timeline tli p (length (drop used bytes))) (sym walked.past) (rest_on timeline tli (position old) used
       bytes walked.within on) in
       let reached = moved timeline from prev (log ++ take used bytes) (walked.stands timeline from prev log stands on) rest in
       subst After (part_of_rest log bytes used taken walked.within) (stands_from new timeline from prev ((log ++ take used bytes)
@@ -83,7 +83,7 @@ whole_from w timeline from prev log bytes used is within some reached end =
     let all = log ++ take used bytes in
     let n = length log + used in
     let long : length all ≡ n = omega (arith, length-append log (take used bytes), length-take used bytes) in
-    let at : w.at - from ≡ n = omega (arith, k.behind, long) in
+    let at : w.at - from ≡ n = omega (arith, k.past, long) in
     let front : take n (log ++ bytes) ≡ all = take-append-add log bytes used in
     let made = image_from_over w.ident timeline from prev all is k.aligned k.prev_fits k.are_bytes reached.open_before reached.right
     (over_from w timeline from prev all k end) in
@@ -92,8 +92,8 @@ whole_from w timeline from prev log bytes used is within some reached end =
     record {
       item = made.0;
       begins = ap (start_of w.ident.size) k.begins;
-      after = omega (arith, k.behind, long);
-      within = omega (arith, k.behind, long, length-append log bytes);
+      after = omega (arith, k.past, long);
+      within = omega (arith, k.past, long, length-append log bytes);
       first = λ m below. subst P (ap (take m) (sym front) ∙ take-take m n (log
           ++ bytes) (omega (arith, at))) (reached.open_before m (omega (arith, at, long)));
       image = subst Image (sym (ap (λ (i : ℕ). take i (log ++ bytes)) at ∙ front)) made.1;
@@ -104,7 +104,7 @@ pub begins_next : (w : Walker) (timeline : ℕ → ℕ) (from prev : ℕ) (log :
     → w.at ≤ 2 ^ 63 → Stands (renewed w) timeline w.at (start_of w.ident.size w.from) []
 begins_next w timeline from prev log reached end low =
     begun (renewed w) timeline (start_of w.ident.size w.from) reached.keeps.not_refused refl refl refl end.rounded refl
-    (start_low w.ident.size w.from (omega (arith, reached.keeps.behind, reached.keeps.begins)))
+    (start_low w.ident.size w.from (omega (arith, reached.keeps.past, reached.keeps.begins)))
   where
     start_low : (size at : ℕ) → at ≤ 2 ^ 63 → start_of size at < 2 ^ 64
     start_low size at below =
@@ -124,10 +124,10 @@ fault_in_rest ident timeline from prev log bytes used at reason fault =
 -- the bytes that were taken up to a record's end are some of those that there are
 pub passes_from : (old new : Walker) (count at used : ℕ) (answer : WalkStep) → IsEnded answer at used → 0 < used → used ≤ count
     → new.at ≡ old.at + used → Passes old new count answer
-passes_from old new count at used (step.Whole start end taken) ended some within behind = (
+passes_from old new count at used (step.Whole start end taken) ended some within past = (
   omega (arith, ended.1),
   omega (arith, ended.1),
   omega (arith, ended.1),
 )
-passes_from old new count at used step.Short ended some within behind = absurd ended
-passes_from old new count at used (step.Bad place reason) ended some within behind = absurd ended
+passes_from old new count at used step.Short ended some within past = absurd ended
+passes_from old new count at used (step.Bad place reason) ended some within past = absurd ended

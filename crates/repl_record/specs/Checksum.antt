@@ -16,7 +16,7 @@ abbrev pub bits_of : ℕ → List ℕ
 bits_of byte = bit_at byte 0 ∷ bit_at byte 1 ∷ bit_at byte 2 ∷ bit_at byte 3 ∷ bit_at byte 4 ∷ bit_at byte 5 ∷ bit_at byte 6 ∷ bit_at byte 7
     ∷ []
 
--- the register behind these bits
+-- the register after these bits
 unfoldable pub remainder : ℕ → List ℕ → ℕ
 remainder register [] = register
 remainder register (bit ∷ bits) = remainder (divided register bit) bits

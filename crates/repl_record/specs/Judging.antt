@@ -49,7 +49,7 @@ pub record IsHeaderFault (ident : Ident) (timeline : ℕ → ℕ) (from : ℕ) (
   pub fault : IsPageFault (header_of ident (timeline page) page (remaining ident.size (length_field (content ident.size from log)) from log
       page)) (from_page from log page) why
 
--- the last byte of the log, which begins with the image of a record behind one that starts at prev, makes this wrong
+-- the last byte of the log, which begins with the image of a record after one that starts at prev, makes this wrong
 abbrev pub IsFaultAt : Ident → (ℕ → ℕ) → ℕ → ℕ → List ℕ → WalkReason → Type 0
 IsFaultAt ident timeline from prev log (why.Page fault) = IsHeaderFault ident timeline from log fault
 IsFaultAt ident timeline from prev log (why.Length found) =

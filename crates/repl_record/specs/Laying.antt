@@ -19,11 +19,11 @@ pub record AreFields (ident : Ident) (tli : ℕ) : Type 0 where
 abbrev pub content_of : Place → List ℕ → List ℕ
 content_of place log = content place.ident.size place.at log
 
--- how many bytes of the record the header of the next page counts, behind so many
+-- how many bytes of the record the header of the next page counts, after so many
 abbrev pub left_over : Place → ℕ → List ℕ → ℕ
 left_over place done log = if length log == 0 then 0 else place.total - done
 
--- the bytes of a page's header that stand from the end of these on, before more of the record: none where that is behind
+-- the bytes of a page's header that stand from the end of these on, before more of the record: none where that is after
 -- the header
 abbrev pub due_header : Place → ℕ → List ℕ → List ℕ
 due_header place done log =

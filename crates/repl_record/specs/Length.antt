@@ -5,15 +5,15 @@ use Rattle.std.specs.Int.{next_multiple_of}
 use Rattle.repl_page.specs.Page.{IsPage, in_header}
 use Rattle.repl_record.specs.Record.{start_of}
 
--- the position behind so many of a record's bytes, the first of which stands at this position, or behind the header of a
+-- the position after so many of a record's bytes, the first of which stands at this position, or after the header of a
 -- page there
-unfoldable pub position_behind : ℕ → ℕ → ℕ → ℕ
-position_behind size position zero = position
-position_behind size position (suc n) = position_behind size (start_of size position + 1) n
+unfoldable pub position_past : ℕ → ℕ → ℕ → ℕ
+position_past size position zero = position
+position_past size position (suc n) = position_past size (start_of size position + 1) n
 
 -- where the image of a record with a body of so many bytes ends that begins at this position: at the next multiple of 8
 abbrev pub image_end : ℕ → ℕ → ℕ → ℕ
-image_end size at body_length = next_multiple_of (position_behind size at (24 + body_length)) 8
+image_end size at body_length = next_multiple_of (position_past size at (24 + body_length)) 8
 
 -- how many bytes it has
 abbrev pub image_length : ℕ → ℕ → ℕ → ℕ

@@ -5,8 +5,8 @@ use Rattle.repl_record.specs.declared.record.RecordIn.{RecordIn}
 use Rattle.repl_record.specs.Record.{start_of, IsImage}
 use Rattle.repl_record.specs.Judging.{IsBeginning}
 
--- In the log from a position on, behind a record that starts at prev, a record ends at `end`, and it starts at `last`:
--- the position itself is one such end, and where one is and an image stands behind it, so is the image's end.
+-- In the log from a position on, after a record that starts at prev, a record ends at `end`, and it starts at `last`:
+-- the position itself is one such end, and where one is and an image stands after it, so is the image's end.
 pub data RecordEnd (ident : Ident) (timeline : ℕ → ℕ) (from prev : ℕ) (log : List ℕ) : ℕ → ℕ → Type 0 where
   origin : RecordEnd ident timeline from prev log from prev
   next : (end last : ℕ) (item : RecordIn) (n : ℕ) → RecordEnd ident timeline from prev log end last

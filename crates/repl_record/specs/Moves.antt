@@ -1,4 +1,4 @@
--- How a walker moves on: by a part of a page's header, of a record, or of the gap behind it. Private clauses cite this.
+-- How a walker moves on: by a part of a page's header, of a record, or of the gap after it. Private clauses cite this.
 use Rattle.std.specs.Prelude.{◌≡◌, ◌≢◌, ℕ, ◌+◌, ◌-◌, ◌%◌, ◌<◌, ◌≤◌, ◌==◌, List, ◌++◌, length, take, drop, nat_lt, if◌then◌else◌, Result, Ok, Err, Some}
 use Rattle.repl_page.specs.declared.header.TheConstants.{PAGE_SIZE}
 use Rattle.repl_page.specs.declared.header.PageHeader.{PageHeader}
@@ -40,7 +40,7 @@ IsOfOneLog old new = (new.ident ≡ old.ident) × (new.refused ≡ old.refused) 
 abbrev pub put : List ℕ → ℕ → List ℕ → List ℕ
 put list at piece = take at list ++ piece ++ drop (at + length piece) list
 
--- behind a part of a page's header
+-- after a part of a page's header
 abbrev pub with_header : Walker → ℕ → List ℕ → Walker
 with_header w tli piece = record w {
   at = w.at + length piece;
@@ -48,7 +48,7 @@ with_header w tli piece = record w {
   page_timeline = if w.at % PAGE_SIZE == 0 then tli else w.page_timeline;
 }
 
--- behind a part of a record, which ends before or with its first 24 bytes, or begins behind them
+-- after a part of a record, which ends before or with its first 24 bytes, or begins after them
 abbrev pub with_record : Walker → List ℕ → Walker
 with_record w piece = record w {
   at = w.at + length piece;
@@ -57,7 +57,7 @@ with_record w piece = record w {
   sum = if nat_lt w.count 24 then w.sum else checksum_from w.sum piece;
 }
 
--- behind a part of the gap
+-- after a part of the gap
 abbrev pub with_gap : Walker → ℕ → Walker
 with_gap w taken = record w { at = w.at + taken }
 

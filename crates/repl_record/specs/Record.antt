@@ -24,7 +24,7 @@ abbrev pub front_bytes : ℕ → RecordIn → List ℕ
 front_bytes prev item = little_bytes 4 (total_length item) ++ little_bytes 4 item.xid ++ little_bytes 8 prev
     ++ item.info ∷ item.rmid ∷ 0 ∷ 0 ∷ []
 
--- behind these, the checksum of the body and then of these, and the body
+-- after these, the checksum of the body and then of these, and the body
 abbrev pub record_bytes : ℕ → RecordIn → List ℕ
 record_bytes prev item = front_bytes prev item ++ little_bytes 4 (checksum (item.body ++ front_bytes prev item)) ++ item.body
 
@@ -74,8 +74,8 @@ HeadersAreSpelled ident timeline total from log =
     → take (header_length ident.size page) (from_page from log page) ≡ header_bytes (header_of ident (timeline page) page
     (remaining ident.size total from log page))
 
--- The bytes, which are those of the log from a position up to another, are the image of this record behind one that
--- starts at prev: with the headers taken out, the record's bytes, and behind the last of them fewer than eight zeros up
+-- The bytes, which are those of the log from a position up to another, are the image of this record after one that
+-- starts at prev: with the headers taken out, the record's bytes, and after the last of them fewer than eight zeros up
 -- to a multiple of 8. `timeline` tells a page's timeline by its address.
 pub record IsImage (ident : Ident) (timeline : ℕ → ℕ) (from prev : ℕ) (item : RecordIn) (log : List ℕ) : Type 0 where
   pub front : List ℕ

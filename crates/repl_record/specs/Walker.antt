@@ -19,7 +19,7 @@ position w = w.at
 abbrev pub identity : Walker → Ident
 identity w = w.ident
 
--- where the last whole record ends, behind which the present one's image begins, and where that record starts
+-- where the last whole record ends, after which the present one's image begins, and where that record starts
 abbrev pub last_end : Walker → ℕ
 last_end w = w.from
 
@@ -36,10 +36,10 @@ pub record Keeps (w : Walker) (timeline : ℕ → ℕ) (from prev : ℕ) (log : 
   pub begins : w.from ≡ from
   pub follows : w.prev ≡ prev
   pub prev_fits : prev < 2 ^ 64
-  pub behind : w.at ≡ from + length log
+  pub past : w.at ≡ from + length log
   pub aligned : from % 8 ≡ 0
   pub are_bytes : AreBytes log
-  -- the header of the page in which the position is, if that page began behind `from`
+  -- the header of the page in which the position is, if that page began after `from`
   pub header_is : in_header w.ident.size w.at ≡ true → from ≤ page_start w.at
       → take (w.at % PAGE_SIZE) w.header ≡ from_page from log (page_start w.at)
   pub timeline_is : in_header w.ident.size w.at ≡ true → from ≤ page_start w.at → page_start w.at < w.at
@@ -49,12 +49,12 @@ pub record Keeps (w : Walker) (timeline : ℕ → ℕ) (from prev : ℕ) (log : 
   pub few : length (so_far w from log) < 24 → w.count ≡ length (so_far w from log)
   pub many : 24 ≤ length (so_far w from log) → w.count ≡ min (length (so_far w from log)) (length_field (so_far w from log))
   pub sum_is : w.sum ≡ checksum (drop 24 (take w.count (so_far w from log)))
-  -- its length is right, once it is there, and no header of a page stands behind its last byte
+  -- its length is right, once it is there, and no header of a page stands after its last byte
   pub has_length : 4 ≤ length (so_far w from log) → HasLength (so_far w from log)
   pub in_gap : 4 ≤ length (so_far w from log) → length_field (so_far w from log) ≤ length (so_far w from log)
       → LastIsContent w.ident.size from log
 
--- The walker stands behind these bytes, in which no record ends and nothing is wrong.
+-- The walker stands after these bytes, in which no record ends and nothing is wrong.
 pub record Stands (w : Walker) (timeline : ℕ → ℕ) (from prev : ℕ) (log : List ℕ) : Type 0 where
   pub keeps : Keeps w timeline from prev log
   pub beginning : IsBeginning w.ident timeline from prev log
@@ -67,7 +67,7 @@ Refuses w at reason = w.refused ≡ Some (record { at = at; why = reason })
 abbrev pub AreOn : (ℕ → ℕ) → ℕ → ℕ → ℕ → Type 0
 AreOn timeline tli from count = (page : ℕ) → IsPage page → from ≤ page → page < from + count → timeline page ≡ tli
 
--- where the walker stands after an answer: behind the record that ended, or behind all bytes, or it refuses
+-- where the walker stands after an answer: after the record that ended, or after all bytes, or it refuses
 abbrev pub GoesOn : Walker → (ℕ → ℕ) → ℕ → ℕ → List ℕ → List ℕ → WalkStep → Type 0
 GoesOn w timeline from prev log bytes (step.Whole start end used) = (from + length log + used ≡ end) × Stands w timeline end start []
 GoesOn w timeline from prev log bytes step.Short = Stands w timeline from prev (log ++ bytes)

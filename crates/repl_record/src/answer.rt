@@ -9,9 +9,9 @@ pub enum WalkStep {
     Whole {
         /// The position of its first byte.
         start: Lsn,
-        /// The position behind its image: behind its last byte, rounded up to a multiple of 8.
+        /// The position after its image: after its last byte, rounded up to a multiple of 8.
         end: Lsn,
-        /// How many of the bytes were taken. Those behind are the next record's.
+        /// How many of the bytes were taken. Those after are the next record's.
         used: usize,
     },
     /// All bytes were taken, and no record is whole.
@@ -34,7 +34,7 @@ pub enum WalkReason {
     #[error("a record of {found} bytes")]
     Length { found: u32 },
     /// The record does not follow the one before it.
-    #[error("a record behind the one at {:x} and not at {:x}", found.0, expected.0)]
+    #[error("a record after the one at {:x} and not at {:x}", found.0, expected.0)]
     Prev { found: Lsn, expected: Lsn },
     /// The two reserved bytes are not zero.
     #[error("reserved bytes are set")]
@@ -43,6 +43,6 @@ pub enum WalkReason {
     #[error("checksum {found:08x} of a record with {computed:08x}")]
     Checksum { found: u32, computed: u32 },
     /// A byte between the record and the next multiple of 8 is not zero.
-    #[error("bytes behind the record are set")]
+    #[error("bytes after the record are set")]
     Padding,
 }

@@ -37,7 +37,7 @@ impl Walker {
         }
     }
 
-    /// Passes an image of so many bytes, behind which the next begins, and tells its end.
+    /// Passes an image of so many bytes, after which the next begins, and tells its end.
     pub(crate) fn pass_image(&mut self, taken: usize) -> WalkStep
         requires { self.old.at + taken ≤ 2 ^ 63 }
         ensures told { result ≡ WalkStep.Whole self.old.at (self.old.at + taken) taken }
@@ -58,7 +58,7 @@ impl Walker {
     }
 }
 
-/// Whether these are the bytes of a record behind one that starts at `prev`.
+/// Whether these are the bytes of a record after one that starts at `prev`.
 fn is_sound(prev: Lsn, record: &[u8]) -> bool
     ensures { IsTrue result → IsSound prev record.now }
 {

@@ -20,7 +20,7 @@ pub fn crc32c(before: u32, bytes: &[u8]) -> u32
     after_few(register, rest) ^ 0xffff_ffff
 }
 
-/// The register behind these bytes, one at a time.
+/// The register after these bytes, one at a time.
 fn after_few(before: u32, bytes: &[u8]) -> u32
     ensures { result ≡ remainder before (message bytes.now) }
 {
@@ -31,7 +31,7 @@ fn after_few(before: u32, bytes: &[u8]) -> u32
     register
 }
 
-/// The register behind a byte.
+/// The register after a byte.
 fn after_byte(register: u32, byte: u8) -> u32
     ensures { result ≡ remainder register (bits_of byte) }
 {
@@ -39,7 +39,7 @@ fn after_byte(register: u32, byte: u8) -> u32
     (register >> 8) ^ entry(0, lowest ^ byte)
 }
 
-/// The register behind the first sixteen bytes. Four of them are added to the register, each of the sixteen leaves
+/// The register after the first sixteen bytes. Four of them are added to the register, each of the sixteen leaves
 /// behind what its table says, and no step waits for another.
 fn after_sixteen(register: u32, bytes: &[u8]) -> u32
     requires { 16 ≤ length bytes.now }
@@ -52,7 +52,7 @@ fn after_sixteen(register: u32, bytes: &[u8]) -> u32
         ^ left_by_four(0, bytes, 12)
 }
 
-/// What four bytes leave in the register behind themselves and so many bytes of zeros.
+/// What four bytes leave in the register after themselves and so many bytes of zeros.
 fn left_by_four(zeros: usize, bytes: &[u8], place: usize) -> u32
     requires zeros { zeros ≤ 12 }
     requires place { place + 4 ≤ length bytes.now }
@@ -64,7 +64,7 @@ fn left_by_four(zeros: usize, bytes: &[u8], place: usize) -> u32
         ^ entry(zeros + 3, bytes[place])
 }
 
-/// What a byte leaves in the register behind itself and so many bytes of zeros.
+/// What a byte leaves in the register after itself and so many bytes of zeros.
 fn entry(zeros: usize, byte: u8) -> u32
     requires { zeros < 16 }
     ensures { result ≡ past_bytes (zeros + 1) byte }

@@ -1,4 +1,4 @@
-/// What a byte leaves in the register behind itself and so many bytes of zeros, at `256 * zeros + byte`. The check
+/// What a byte leaves in the register after itself and so many bytes of zeros, at `256 * zeros + byte`. The check
 /// computes each entry anew.
 pub(crate) static LEFT_BEHIND: [u32; 4096] = [
     0x00000000, 0xf26b8303, 0xe13b70f7, 0x1350f3f4, 0xc79a971f, 0x35f1141c, 0x26a1e7e8, 0xd4ca64eb,

@@ -7,7 +7,7 @@ ghost use Rattle.repl_record.specs.Checksum.{checksum};
 ghost use Rattle.repl_record.specs.Laying.{AreFields, IsLaid, content_of, due_header};
 
 use crate::checksum::crc32c;
-use crate::length::start_behind;
+use crate::length::start_past;
 use crate::record::{BODY_LIMIT, HEAD_LENGTH, Laid, RecordIn, RecordRefusal};
 use byteorder::{ByteOrder, LittleEndian};
 use bytes::Bytes;
@@ -31,9 +31,9 @@ struct Place {
     total: u32,
 }
 
-/// The record as it stands in the log from `at` on, behind the record that starts at `prev` (0 for the log's first), on
+/// The record as it stands in the log from `at` on, after the record that starts at `prev` (0 for the log's first), on
 /// this timeline. The bytes begin with the page's header where a page starts there, and end at the next multiple of 8
-/// behind the record. Takes memory for them, once.
+/// after the record. Takes memory for them, once.
 pub fn lay_out(
     alloc: Global,
     at: Lsn,
@@ -75,11 +75,11 @@ pub fn lay_out(
     put(&mut out, &place, 0, &head)?;
     put(&mut out, &place, HEAD_LENGTH as u32, body)?;
     round_up(&mut out)?;
-    let end = position_behind(&place, &out);
+    let end = position_past(&place, &out);
     written_agrees();
     Ok(Laid {
         bytes: Bytes::from_vec(out)?,
-        start: start_behind(at, ident.size),
+        start: start_past(at, ident.size),
         end,
     })
 }
@@ -173,7 +173,7 @@ fn put_header(out: &mut Vec<u8>, place: &Place, done: u32) -> Result<(), AllocEr
     requires fits { done ≤ place.now.total }
     ensures { OnOk result (out.new.items ≡ out.old.items ++ due_header place.now done out.old.items) }
 {
-    let position = position_behind(place, out);
+    let position = position_past(place, out);
     let offset = position.0 % u64::from(PAGE_SIZE);
     let page = Lsn(position.0 - offset);
     let size = header_size(page, place.ident.size);
@@ -191,8 +191,8 @@ fn put_header(out: &mut Vec<u8>, place: &Place, done: u32) -> Result<(), AllocEr
     out.extend_from_slice(&room[offset as usize..size as usize])
 }
 
-/// The position behind the bytes.
-fn position_behind(place: &Place, out: &Vec<u8>) -> Lsn
+/// The position after the bytes.
+fn position_past(place: &Place, out: &Vec<u8>) -> Lsn
     requires { place.now.at ≤ 2 ^ 62 }
     ensures { result ≡ place.now.at + length out.now.items }
 {
@@ -206,7 +206,7 @@ fn room_on_page(place: &Place, out: &Vec<u8>) -> usize
     ensures { result + (place.now.at + length out.now.items) % PAGE_SIZE ≡ PAGE_SIZE }
 {
     let page_size = u64::from(PAGE_SIZE);
-    let room = page_size - position_behind(place, out).0 % page_size;
+    let room = page_size - position_past(place, out).0 % page_size;
     room as usize
 }
 

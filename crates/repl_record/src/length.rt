@@ -22,7 +22,7 @@ pub fn image_end(at: Lsn, body_length: usize, size: SegSize) -> Lsn
     let mut position = at;
     let mut left = HEAD_LENGTH + body_length;
     while left > 0 {
-        let start = start_behind(position, size);
+        let start = start_past(position, size);
         let count = left_on_page(start).min(left);
         position = Lsn(start.0 + count as u64);
         left -= count;
@@ -31,7 +31,7 @@ pub fn image_end(at: Lsn, body_length: usize, size: SegSize) -> Lsn
 }
 
 /// Where the record begins that is laid from here on.
-pub(crate) fn start_behind(at: Lsn, size: SegSize) -> Lsn
+pub(crate) fn start_past(at: Lsn, size: SegSize) -> Lsn
     requires { at ≤ 2 ^ 63 }
     ensures value { result ≡ start_of size at }
     ensures size { IsSegSize size }
@@ -61,7 +61,7 @@ pub fn one_length()
         → IsImage ident timeline from prev item log → from + length log ≡ image_end ident.size from (length item.body) }
 {}
 
-/// Where the headers of pages are spelled, an item has one image at a place behind one record on one path: whoever lays
+/// Where the headers of pages are spelled, an item has one image at a place after one record on one path: whoever lays
 /// it out there lays the same bytes.
 pub fn one_image()
     ensures { (ident : Ident) (timeline : ℕ → ℕ) (from prev : ℕ) (item : RecordIn) (a b : List ℕ) → IsSegSize ident.size → CanBegin ident.size from

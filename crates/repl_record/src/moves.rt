@@ -54,7 +54,7 @@ impl Walker {
         header_size(self.at, self.ident.size) as usize
     }
 
-    /// Takes a part of a page's header, and judges the header where it is whole and began behind the record's image.
+    /// Takes a part of a page's header, and judges the header where it is whole and began after the record's image.
     fn through_header(&mut self, tli: Tli, bytes: &[u8]) -> Result<usize, Refusal>
         requires some { 0 < length bytes.now }
         requires room { position self.old + length bytes.now ≤ 2 ^ 63 }
@@ -242,7 +242,7 @@ impl Walker {
         }
     }
 
-    /// Takes a part of the gap behind a record, in which all bytes are zero.
+    /// Takes a part of the gap after a record, in which all bytes are zero.
     fn through_gap(&mut self, bytes: &[u8]) -> Result<usize, Refusal>
         requires some { 0 < length bytes.now }
         requires room { position self.old + length bytes.now ≤ 2 ^ 63 }
@@ -266,7 +266,7 @@ impl Walker {
         Ok(taken)
     }
 
-    /// Goes on behind so many zeros.
+    /// Goes on after so many zeros.
     fn pass_gap(&mut self, taken: usize)
         requires { position self.old + taken ≤ 2 ^ 63 }
         ensures { self.new ≡ with_gap self.old taken }
@@ -274,7 +274,7 @@ impl Walker {
         self.at = Lsn(self.at.0 + taken as u64);
     }
 
-    /// Where the present record begins: behind the page's header, where its image begins with one.
+    /// Where the present record begins: after the page's header, where its image begins with one.
     fn start(&self) -> Lsn
         ensures { self.now.from ≤ 2 ^ 63 → result ≡ start_of self.now.ident.size self.now.from }
     {
@@ -291,7 +291,7 @@ impl Walker {
         self.count >= HEAD_LENGTH as u32 && self.count == self.total() && self.at.0 % 8 == 0
     }
 
-    /// Begins the next record behind the present one, which ended with the last of so many bytes, and tells its end.
+    /// Begins the next record after the present one, which ended with the last of so many bytes, and tells its end.
     pub(crate) fn begin_next(&mut self, used: usize) -> WalkStep
         ensures ended { IsEnded result self.old.at used }
         ensures next { self.old.from ≤ 2 ^ 63 → (result ≡ WalkStep.Whole (start_of self.old.ident.size self.old.from) self.old.at used) × (self.new ≡ renewed self.old) }

@@ -30,7 +30,7 @@ pub struct Laid {
     pub bytes: Bytes,
     /// The position of the record's first byte.
     pub start: Lsn,
-    /// The position behind the last of the bytes.
+    /// The position after the last of the bytes.
     pub end: Lsn,
 }
 

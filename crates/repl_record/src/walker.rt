@@ -40,7 +40,7 @@ pub struct Walker {
 }
 
 impl Walker {
-    /// A walker over the log from this position on, at which a record's image begins behind the record that starts at
+    /// A walker over the log from this position on, at which a record's image begins after the record that starts at
     /// `prev` (0 for the log's first).
     pub fn new(at: Lsn, prev: Lsn, ident: Ident) -> Walker
         requires { at % 8 ≡ 0 }
@@ -62,9 +62,9 @@ impl Walker {
         }
     }
 
-    /// The same walker behind a record that starts elsewhere. Where that is has not been judged while fewer than 16 bytes
+    /// The same walker after a record that starts elsewhere. Where that is has not been judged while fewer than 16 bytes
     /// of the present record are there.
-    pub fn behind(self, prev: Lsn) -> Walker
+    pub fn past(self, prev: Lsn) -> Walker
         ensures stands { (timeline : ℕ → ℕ) (from other : ℕ) (log : List ℕ) → Stands self timeline from other log → length (so_far self from log) < 16
             → Stands result timeline from prev log }
         ensures ident { identity result ≡ identity self }
@@ -88,7 +88,7 @@ impl Walker {
         self.at
     }
 
-    /// Where the last whole record ends, behind which the walker stands, or where the walker began while none was whole.
+    /// Where the last whole record ends, after which the walker stands, or where the walker began while none was whole.
     pub fn last_end(&self) -> Lsn
         ensures { result ≡ last_end self.now }
     {
@@ -109,7 +109,7 @@ impl Walker {
         // What is answered is so of all bytes since the record's image began.
         ensures answers { (timeline : ℕ → ℕ) (from prev : ℕ) (log : List ℕ) → Stands self.old timeline from prev log → AreOn timeline tli (position self.old) (length bytes.now)
             → Answers (identity self.old) timeline from prev (log ++ bytes.now) result }
-        // The walker stands behind them, or behind the record that ended, or it refuses.
+        // The walker stands after them, or after the record that ended, or it refuses.
         ensures goes_on { (timeline : ℕ → ℕ) (from prev : ℕ) (log : List ℕ) → Stands self.old timeline from prev log → AreOn timeline tli (position self.old) (length bytes.now)
             → GoesOn self.new timeline from prev log bytes.now result }
         ensures again { (at : ℕ) (reason : WalkReason) → Refuses self.old at reason → (result ≡ WalkStep.Bad at reason) × (self.new ≡ self.old) }

@@ -3,7 +3,7 @@ use Rattle.std.proofs.Common.{◌≡◌, ◌≢◌, ℕ, ◌+◌, ◌-◌, ◌<�
 use Rattle.std.proofs.lemmas.List.{append-nil, drop-drop, drop_at, length-append}
 use Rattle.repl_disk.specs.Folder.{Folder}
 use Rattle.repl_slots.specs.Slot.{Differ, IsNew, SlotList}
-use Rattle.repl_slots.specs.SlotFile.{AreEach, AreEntries, BeginsWith, Entry, EntryStops, FileStops, HeaderStops, Spells, behind, entries_bytes, entries_of, entry_bytes, field, header_bytes, in_header, in_slot, names_in}
+use Rattle.repl_slots.specs.SlotFile.{AreEach, AreEntries, BeginsWith, Entry, EntryStops, FileStops, HeaderStops, Spells, past, entries_bytes, entries_of, entry_bytes, field, header_bytes, in_header, in_slot, names_in}
 use Rattle.repl_slots.specs.Stored.{Mounted, StoredIn, Stores, slots_name}
 use Rattle.repl_slots.specs.declared.fault.SlotFault.TheVariants as fault
 use Rattle.repl_slots.specs.declared.slot.TheConstants.{SLOT_LIMIT}
@@ -38,22 +38,22 @@ abbrev Ends : ℕ → List (List ℕ) → ℕ → List ℕ → Option ℕ → Ty
 Ends left names at file None = (left ≡ 0) × (length file ≤ at)
 Ends left names at file (Some place) = ((0 < left) × EntryStops names at file place) ⊎ ((left ≡ 0) × (place ≡ at) × (at < length file))
 
--- the same behind these slots
-abbrev EndsBehind : List Entry → ℕ → List (List ℕ) → ℕ → List ℕ → Option ℕ → Type 0
-EndsBehind [] left names at file end = Ends left names at file end
-EndsBehind (entry ∷ entries) left names at file end = EndsBehind entries (left - 1) (names ++ entry.name ∷ [])
+-- the same after these slots
+abbrev EndsPast : List Entry → ℕ → List (List ℕ) → ℕ → List ℕ → Option ℕ → Type 0
+EndsPast [] left names at file end = Ends left names at file end
+EndsPast (entry ∷ entries) left names at file end = EndsPast entries (left - 1) (names ++ entry.name ∷ [])
     (at + length (entry_bytes entry)) file end
 
-ends_behind : (entries : List Entry) (left less : ℕ) (names all : List (List ℕ)) (at end : ℕ) (file : List ℕ) (o : Option ℕ)
+ends_past : (entries : List Entry) (left less : ℕ) (names all : List (List ℕ)) (at end : ℕ) (file : List ℕ) (o : Option ℕ)
     → Ends less all end file o → less + length entries ≡ left → all ≡ names ++ names_in entries
-    → end ≡ at + length (entries_bytes entries) → EndsBehind entries left names at file o
-ends_behind [] left less names all at end file o ends left_is names_are end_is =
+    → end ≡ at + length (entries_bytes entries) → EndsPast entries left names at file o
+ends_past [] left less names all at end file o ends left_is names_are end_is =
     let l : less ≡ left = omega arith in
     let e : end ≡ at = omega arith in
     subst (λ (k : ℕ). Ends k names at file o) l (subst (λ (ns : List (List ℕ)). Ends less ns at file o) (names_are ∙ append-nil names)
     (subst (λ (k : ℕ). Ends less all k file o) e ends))
-ends_behind (entry ∷ entries) left less names all at end file o ends left_is names_are end_is =
-    ends_behind entries (left - 1) less (names ++ entry.name ∷ []) all (at + length (entry_bytes entry)) end file o ends (omega arith)
+ends_past (entry ∷ entries) left less names all at end file o ends left_is names_are end_is =
+    ends_past entries (left - 1) less (names ++ entry.name ∷ []) all (at + length (entry_bytes entry)) end file o ends (omega arith)
     (names_are ∙ sym (append_assoc names (entry.name ∷ []) (names_in entries)))
     (omega (arith, end_is, length-append (entry_bytes entry) (entries_bytes entries)))
 
@@ -84,7 +84,7 @@ ends_none left names at file (Some p) entry entries r (inr ends) more right new 
 
 walk_one : (xs ys : List Entry) (left : ℕ) (names : List (List ℕ)) (at : ℕ) (file : List ℕ) (o p : Option ℕ) (r s : List ℕ)
     → drop at file ≡ entries_bytes xs ++ r → drop at file ≡ entries_bytes ys ++ s → AreEach xs → AreEach ys → NewAll names xs
-    → NewAll names ys → length xs ≤ left → length ys ≤ left → EndsBehind xs left names at file o → EndsBehind ys left names at file p
+    → NewAll names ys → length xs ≤ left → length ys ≤ left → EndsPast xs left names at file o → EndsPast ys left names at file p
     → (xs ≡ ys) × (o ≡ p)
 walk_one [] [] left names at file o p r s dx dy fx fy nx ny lx ly ex ey = (refl, ends_one left names at file o p ex ey)
 walk_one [] (y ∷ ys) left names at file o p r s dx dy fx fy nx ny lx ly ex ey =
@@ -99,7 +99,7 @@ walk_one (x ∷ xs) (y ∷ ys) left names at file o p r s dx dy fx fy nx ny lx l
     (sym (append_assoc (entry_bytes x) (entries_bytes xs) r) ∙ sym dx ∙ dy ∙ append_assoc (entry_bytes y) (entries_bytes ys) s) in
     let rest = walk_one xs ys (left - 1) (names ++ x.name ∷ []) (at + len) file o p r s next (next ∙ same.1) fx.1 fy.1 nx.1
     (subst (λ (z : Entry). NewAll (names ++ z.name ∷ []) ys) (sym same.0) ny.1) (omega (arith, lx)) (omega (arith, ly)) ex
-    (subst (λ (z : Entry). EndsBehind ys (left - 1) (names ++ z.name ∷ []) (at + length (entry_bytes z)) file p) (sym same.0) ey) in
+    (subst (λ (z : Entry). EndsPast ys (left - 1) (names ++ z.name ∷ []) (at + length (entry_bytes z)) file p) (sym same.0) ey) in
     (ap (λ (z : Entry). z ∷ xs) same.0 ∙ ap (λ (l : List Entry). y ∷ l) rest.0, rest.1)
 
 -- ---- a whole file
@@ -110,7 +110,7 @@ record Walked (file : List ℕ) (count : ℕ) (entries : List Entry) (end : Opti
   rest : List ℕ
   begins : file ≡ header_bytes count ++ (entries_bytes entries ++ rest)
   enough : length entries ≤ count
-  ends : EndsBehind entries count [] 8 file end
+  ends : EndsPast entries count [] 8 file end
 
 walked_begun : (file : List ℕ) (count : ℕ) (entries : List Entry) (at : ℕ) (o : Option ℕ) → count ≤ SLOT_LIMIT
     → BeginsWith count entries at file → length entries ≤ count → Ends (count - length entries) (names_in entries) at file o
@@ -121,8 +121,8 @@ walked_begun file count entries at o few begun enough ends = record {
   rest = begun.rest;
   begins = begun.begins ∙ append_assoc (header_bytes count) (entries_bytes entries) begun.rest;
   enough = enough;
-  ends = ends_behind entries count (count - length entries) [] (names_in entries) 8 at file o ends (omega (arith, enough)) refl
-      (begun.behind ∙ length-append (header_bytes count) (entries_bytes entries));
+  ends = ends_past entries count (count - length entries) [] (names_in entries) 8 at file o ends (omega (arith, enough)) refl
+      (begun.past ∙ length-append (header_bytes count) (entries_bytes entries));
 }
 
 walked_spelled : (file : List ℕ) (entries : List Entry) → Spells entries file → Walked file (length entries) entries None
@@ -132,7 +132,7 @@ walked_spelled file entries spells = record {
   rest = [];
   begins = spells.1 ∙ ap (λ (l : List ℕ). header_bytes (length entries) ++ l) (sym (append-nil (entries_bytes entries)));
   enough = omega arith;
-  ends = ends_behind entries (length entries) 0 [] (names_in entries) 8 (8 + length (entries_bytes entries)) file None
+  ends = ends_past entries (length entries) 0 [] (names_in entries) 8 (8 + length (entries_bytes entries)) file None
       (refl, omega (arith, ap length spells.1, length-append (header_bytes (length entries)) (entries_bytes entries))) (omega arith) refl
       refl;
 }
@@ -145,7 +145,7 @@ walked_one file c d xs ys o p a b =
     let same : d ≡ c = count_one d c (entries_bytes ys ++ b.rest) (entries_bytes xs ++ a.rest) b.few a.few (sym b.begins ∙ a.begins) in
     walk_one xs ys c [] 8 file o p a.rest b.rest (ap (drop 8) a.begins) (ap (drop 8) b.begins) a.right.each b.right.each
     (new_all [] xs a.right.differ) (new_all [] ys b.right.differ) a.enough (omega (arith, b.enough, same)) a.ends
-    (subst (λ (k : ℕ). EndsBehind ys k [] 8 file p) same b.ends)
+    (subst (λ (k : ℕ). EndsPast ys k [] 8 file p) same b.ends)
 
 walked_header : (file : List ℕ) (count : ℕ) (entries : List Entry) (o : Option ℕ) (p : ℕ) → Walked file count entries o
     → HeaderStops file p → ⊥
@@ -154,15 +154,15 @@ walked_header file count entries o p a =
     header_none file p (omega (arith, long), ap (field 0 4) a.begins) (omega (arith, long), ap (field 4 2) a.begins)
     (omega (arith, long), (count, a.few, ap (field 6 2) a.begins))
 
--- where it goes wrong behind its header
+-- where it goes wrong after its header
 walked_slot : (file : List ℕ) (count : ℕ) (entries : List Entry) (at p : ℕ) → count ≤ SLOT_LIMIT → BeginsWith count entries at file
     → length entries < count → EntryStops (names_in entries) at file p → Walked file count entries (Some p)
 walked_slot file count entries at p few begun room stops = walked_begun file count entries at (Some p) few begun (omega (arith, room))
     (inl (omega (arith, room), stops))
 
-walked_behind : (file : List ℕ) (count : ℕ) (entries : List Entry) (p : ℕ) → count ≤ SLOT_LIMIT → BeginsWith count entries p file
+walked_past : (file : List ℕ) (count : ℕ) (entries : List Entry) (p : ℕ) → count ≤ SLOT_LIMIT → BeginsWith count entries p file
     → length entries ≡ count → p < length file → Walked file count entries (Some p)
-walked_behind file count entries p few begun all more = walked_begun file count entries p (Some p) few begun (omega (arith, all))
+walked_past file count entries p few begun all more = walked_begun file count entries p (Some p) few begun (omega (arith, all))
     (inr (omega (arith, all), refl, more))
 
 place_at : (p q : ℕ) → Some p ≡ Some q → p ≡ q
@@ -172,33 +172,33 @@ pub place_one : (file : List ℕ) (p q : ℕ) → FileStops file p → FileStops
 place_one file p q (in_header a) (in_header b) = header_one file p q a b
 place_one file p q (in_header a) (in_slot d ys at fd bd rd sd) =
     absurd (walked_header file d ys (Some q) p (walked_slot file d ys at q fd bd rd sd) a)
-place_one file p q (in_header a) (behind d ys fd bd ad md) =
-    absurd (walked_header file d ys (Some q) p (walked_behind file d ys q fd bd ad md) a)
+place_one file p q (in_header a) (past d ys fd bd ad md) =
+    absurd (walked_header file d ys (Some q) p (walked_past file d ys q fd bd ad md) a)
 place_one file p q (in_slot c xs at fc bc rc sc) (in_header b) =
     absurd (walked_header file c xs (Some p) q (walked_slot file c xs at p fc bc rc sc) b)
 place_one file p q (in_slot c xs at fc bc rc sc) (in_slot d ys to fd bd rd sd) =
     place_at p q (walked_one file c d xs ys (Some p) (Some q) (walked_slot file c xs at p fc bc rc sc)
     (walked_slot file d ys to q fd bd rd sd)).1
-place_one file p q (in_slot c xs at fc bc rc sc) (behind d ys fd bd ad md) =
+place_one file p q (in_slot c xs at fc bc rc sc) (past d ys fd bd ad md) =
     place_at p q (walked_one file c d xs ys (Some p) (Some q) (walked_slot file c xs at p fc bc rc sc)
-    (walked_behind file d ys q fd bd ad md)).1
-place_one file p q (behind c xs fc bc ac mc) (in_header b) =
-    absurd (walked_header file c xs (Some p) q (walked_behind file c xs p fc bc ac mc) b)
-place_one file p q (behind c xs fc bc ac mc) (in_slot d ys to fd bd rd sd) =
-    place_at p q (walked_one file c d xs ys (Some p) (Some q) (walked_behind file c xs p fc bc ac mc)
+    (walked_past file d ys q fd bd ad md)).1
+place_one file p q (past c xs fc bc ac mc) (in_header b) =
+    absurd (walked_header file c xs (Some p) q (walked_past file c xs p fc bc ac mc) b)
+place_one file p q (past c xs fc bc ac mc) (in_slot d ys to fd bd rd sd) =
+    place_at p q (walked_one file c d xs ys (Some p) (Some q) (walked_past file c xs p fc bc ac mc)
     (walked_slot file d ys to q fd bd rd sd)).1
-place_one file p q (behind c xs fc bc ac mc) (behind d ys fd bd ad md) =
-    place_at p q (walked_one file c d xs ys (Some p) (Some q) (walked_behind file c xs p fc bc ac mc)
-    (walked_behind file d ys q fd bd ad md)).1
+place_one file p q (past c xs fc bc ac mc) (past d ys fd bd ad md) =
+    place_at p q (walked_one file c d xs ys (Some p) (Some q) (walked_past file c xs p fc bc ac mc)
+    (walked_past file d ys q fd bd ad md)).1
 
 pub place_none : (entries : List Entry) (file : List ℕ) (p : ℕ) → Spells entries file → FileStops file p → ⊥
 place_none entries file p spells (in_header a) = walked_header file (length entries) entries None p (walked_spelled file entries spells) a
 place_none entries file p spells (in_slot d ys at fd bd rd sd) =
     let e : None ≡ Some p = (walked_one file (length entries) d entries ys None (Some p) (walked_spelled file entries spells)
     (walked_slot file d ys at p fd bd rd sd)).1 in absurd cc
-place_none entries file p spells (behind d ys fd bd ad md) =
+place_none entries file p spells (past d ys fd bd ad md) =
     let e : None ≡ Some p = (walked_one file (length entries) d entries ys None (Some p) (walked_spelled file entries spells)
-    (walked_behind file d ys p fd bd ad md)).1 in absurd cc
+    (walked_past file d ys p fd bd ad md)).1 in absurd cc
 
 pub spelled_one : (a b : List Entry) (file : List ℕ) → Spells a file → Spells b file → a ≡ b
 spelled_one a b file first second =

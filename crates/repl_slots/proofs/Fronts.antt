@@ -2,7 +2,7 @@
 use Rattle.std.proofs.Common.{◌≡◌, ℕ, ◌+◌, ◌*◌, ◌<◌, ◌≤◌, min, List, [], ◌∷◌, ◌++◌, length, take, drop, get_or, Option, Some, None, refl, sym, ◌∙◌, ap, subst, append_assoc, inl, inr, arith}
 use Rattle.std.proofs.lemmas.List.{length-append, length-take, length-drop, take-append-drop, get_or-take, get_or-drop, places, same_lists, take_all}
 use Rattle.std.proofs.lemmas.Bool.{cases_lt}
-use Rattle.repl_slots.specs.SlotFile.{AreEach, BeginsWith, Entry, EntryStops, FileStops, HeaderStops, Holds, IsCount, IsFlag, IsMagic, IsNameLength, IsNewName, IsPosition, IsVersion, Spells, Stops, behind, entries_bytes, entry_bytes, field, header_bytes, in_count, in_flag, in_header, in_length, in_magic, in_name, in_position, in_slot, in_version, names_in, position_bytes, size_at}
+use Rattle.repl_slots.specs.SlotFile.{AreEach, BeginsWith, Entry, EntryStops, FileStops, HeaderStops, Holds, IsCount, IsFlag, IsMagic, IsNameLength, IsNewName, IsPosition, IsVersion, Spells, Stops, past, entries_bytes, entry_bytes, field, header_bytes, in_count, in_flag, in_header, in_length, in_magic, in_name, in_position, in_slot, in_version, names_in, position_bytes, size_at}
 use Rattle.repl_text.specs.declared.slot_name.TheConstants.{SLOT_NAME_LIMIT}
 
 -- ---- how long files are
@@ -131,13 +131,13 @@ module _ (file : List ℕ) (n : ℕ) (long : n ≤ length file) where
     rest = begun.rest ++ drop n file;
     begins = sym (take-append-drop n file) ∙ ap (λ (l : List ℕ). l ++ drop n file) begun.begins
         ∙ append_assoc (header_bytes count ++ entries_bytes entries) begun.rest (drop n file);
-    behind = begun.behind;
+    past = begun.past;
   }
 
   at_small : (count : ℕ) (entries : List Entry) (at : ℕ) → BeginsWith count entries at (take n file) → at ≤ 8 + 73 * length entries
   at_small count entries at begun = omega (
     arith,
-    begun.behind,
+    begun.past,
     length-append (header_bytes count) (entries_bytes entries),
     length-entries entries begun.right.each,
   )
@@ -146,7 +146,7 @@ module _ (file : List ℕ) (n : ℕ) (long : n ≤ length file) where
   stops_front place le (in_header stops) = in_header (header_on place (omega (arith, le)) stops)
   stops_front place le (in_slot count entries at few begun room stops) = in_slot count entries at few (begins_on count entries at begun)
       room (entry_on (names_in entries) at place (omega (arith, le, at_small count entries at begun, few, room)) stops)
-  stops_front place le (behind count entries few begun all more) = behind count entries few (begins_on count entries place begun) all
+  stops_front place le (past count entries few begun all more) = past count entries few (begins_on count entries place begun) all
       (omega (arith, full, more, long))
 
 pub front_stops : (file : List ℕ) (count place : ℕ) → count ≡ min 739 (length file) → FileStops (take count file) place

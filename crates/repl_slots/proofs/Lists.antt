@@ -9,15 +9,15 @@ use Rattle.repl_slots.specs.Slot.{IsNew, Differ, AreSlots, names_of, slot_named,
 use Rattle.repl_slots.specs.declared.slot.Slot.{Slot}
 use Rattle.repl_slots.specs.declared.slot.TheConstants.{SLOT_LIMIT}
 
--- one name more behind names that differ
-pub new_behind : (names : List (List ℕ)) (name other : List ℕ) → IsNew names other → name ≢ other → IsNew (names ++ name ∷ []) other
-new_behind [] name other new differs = (differs, tt)
-new_behind (first ∷ names) name other new differs = (new.0, new_behind names name other new.1 differs)
+-- one name more after names that differ
+pub new_past : (names : List (List ℕ)) (name other : List ℕ) → IsNew names other → name ≢ other → IsNew (names ++ name ∷ []) other
+new_past [] name other new differs = (differs, tt)
+new_past (first ∷ names) name other new differs = (new.0, new_past names name other new.1 differs)
 
 pub differ_more : (names : List (List ℕ)) (name : List ℕ) → Differ names → IsNew names name → Differ (names ++ name ∷ [])
 differ_more [] name differ new = (tt, tt)
 differ_more (first ∷ names) name differ new =
-    (new_behind names name first differ.0 (λ same. new.0 (sym same)), differ_more names name differ.1 new.1)
+    (new_past names name first differ.0 (λ same. new.0 (sym same)), differ_more names name differ.1 new.1)
 
 -- no slot has the name
 pub new_where_none : (name : List ℕ) (slots : List Slot) → slot_named name slots ≡ None → IsNew (names_of slots) name

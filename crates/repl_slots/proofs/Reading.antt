@@ -2,7 +2,7 @@
 use Rattle.std.proofs.Common.{◌≡◌, ℕ, cond, not, is_some, Option, ◌+◌, ◌<◌, ◌≤◌, List, [], ◌∷◌, ◌++◌, length, map, drop, refl, sym, ◌∙◌, ap, subst, append_assoc, All, arith}
 use Rattle.std.proofs.lemmas.List.{length-append, map-append, append-nil, drop_all}
 use Rattle.std.proofs.lemmas.List.Elements.{All-append, All-nil}
-use Rattle.repl_slots.specs.SlotFile.{AreEntries, BeginsWith, IsAt, in_slot, behind, Entry, EntryStops, FileStops, IsEntry, IsMounted, Spells, entries_bytes, entries_of, entry_bytes, entry_of, header_bytes, names_in}
+use Rattle.repl_slots.specs.SlotFile.{AreEntries, BeginsWith, IsAt, in_slot, past, Entry, EntryStops, FileStops, IsEntry, IsMounted, Spells, entries_bytes, entries_of, entry_bytes, entry_of, header_bytes, names_in}
 use Rattle.repl_slots.specs.Slot.{IsNew, names_of}
 use Rattle.repl_slots.specs.declared.fault.SlotFault.{SlotFault}
 use Rattle.repl_slots.specs.declared.fault.SlotFault.TheVariants as fault
@@ -16,7 +16,7 @@ pub record SoFar (file : List ℕ) (count : ℕ) (slots : List Slot) (at n : ℕ
   pub entries : entries_of slots ≡ map entry_of slots
   pub right : AreEntries (entries_of slots)
   pub bytes : file ≡ header_bytes count ++ entries_bytes (entries_of slots) ++ drop at file
-  pub behind : at ≡ length (header_bytes count ++ entries_bytes (entries_of slots))
+  pub past : at ≡ length (header_bytes count ++ entries_bytes (entries_of slots))
   pub within : at ≤ length file
   pub counted : length (entries_of slots) ≡ n
 
@@ -28,7 +28,7 @@ start file count is = record {
   entries = refl;
   right = record { few = omega arith; each = tt; differ = tt };
   bytes = is;
-  behind = refl;
+  past = refl;
   within = omega (arith, ap length is, length-append (header_bytes count) (drop 8 file));
   counted = refl;
 }
@@ -75,7 +75,7 @@ module _ (file : List ℕ) (count : ℕ) (slots : List Slot) (at n : ℕ) (so_fa
         ∙ sym (append_assoc (header_bytes count ++ entries_bytes (entries_of slots)) (entry_bytes (entry_of slot)) (drop end file))
         ∙ ap (λ (l : List ℕ). l ++ drop end file) (sym front_is)
         ∙ ap (λ (es : List Entry). header_bytes count ++ entries_bytes es ++ drop end file) (sym entries_are);
-    behind = end_is ∙ ap (λ (k : ℕ). k + length (entry_bytes (entry_of slot))) so_far.behind
+    past = end_is ∙ ap (λ (k : ℕ). k + length (entry_bytes (entry_of slot))) so_far.past
         ∙ sym (length-append (header_bytes count ++ entries_bytes (entries_of slots)) (entry_bytes (entry_of slot)))
         ∙ ap length (sym front_is) ∙ ap (λ (es : List Entry). length (header_bytes count ++ entries_bytes es)) (sym entries_are);
     within = within;
@@ -86,14 +86,14 @@ module _ (file : List ℕ) (count : ℕ) (slots : List Slot) (at n : ℕ) (so_fa
 
 module _ (file : List ℕ) (count : ℕ) (slots : List Slot) (at n : ℕ) (so_far : SoFar file count slots at n) (few : count ≤ SLOT_LIMIT) where
   begun : BeginsWith count (entries_of slots) at file
-  begun = record { right = so_far.right; rest = drop at file; begins = so_far.bytes; behind = so_far.behind }
+  begun = record { right = so_far.right; rest = drop at file; begins = so_far.bytes; past = so_far.past }
 
   pub stops_in_slot : (place : ℕ) → n < count → EntryStops (names_of slots) at file place → FileStops file place
   stops_in_slot place room stops = in_slot count (entries_of slots) at few begun (omega (arith, so_far.counted, room))
       (subst (λ (names : List (List ℕ)). EntryStops names at file place) (sym (ap names_in so_far.entries ∙ written_names slots)) stops)
 
-  pub stops_behind : n ≡ count → at < length file → FileStops file at
-  stops_behind all more = behind count (entries_of slots) few begun (so_far.counted ∙ all) more
+  pub stops_past : n ≡ count → at < length file → FileStops file at
+  stops_past all more = past count (entries_of slots) few begun (so_far.counted ∙ all) more
 
   pub spells : n ≡ count → length file ≤ at → Spells (entries_of slots) file
   spells all none = (

@@ -101,18 +101,18 @@ module _ (names : List (List ℕ)) (at : ℕ) (file : List ℕ) (entry : Entry) 
   size_is : size_at at file ≡ size
   size_is = ap (λ (k : ℕ). get_or file k 0) (omega arith) ∙ sym (get_or-drop at file 0 0) ∙ ap (λ (l : List ℕ). get_or l 0 0) stands
 
-  behind_size : drop (at + 1) file ≡ entry.name ++ rest
-  behind_size = sym (drop-drop 1 at file) ∙ ap (drop 1) stands ∙ append_assoc entry.name (position_bytes entry.restart) r
+  past_size : drop (at + 1) file ≡ entry.name ++ rest
+  past_size = sym (drop-drop 1 at file) ∙ ap (drop 1) stands ∙ append_assoc entry.name (position_bytes entry.restart) r
 
-  behind_name : drop (at + 1 + size) file ≡ rest
-  behind_name = sym (drop-drop size (at + 1) file) ∙ ap (drop size) behind_size ∙ drop_at entry.name rest size refl
+  past_name : drop (at + 1 + size) file ≡ rest
+  past_name = sym (drop-drop size (at + 1) file) ∙ ap (drop size) past_size ∙ drop_at entry.name rest size refl
 
   length_holds : Holds at 1 IsNameLength file
   length_holds = (omega (arith, enough), (size, right.0.some, right.0.short, ap (take 1) stands))
 
   name_holds : Holds (at + 1) size (IsNewName names) file
   name_holds =
-      let is : field (at + 1) size file ≡ entry.name = ap (take size) behind_size ∙ take_at entry.name rest size refl in
+      let is : field (at + 1) size file ≡ entry.name = ap (take size) past_size ∙ take_at entry.name rest size refl in
       (omega (arith, enough), subst (IsNewName names) (sym is) (right.0, new))
 
   flag_told : (restart : Option ℕ) → drop (at + 1 + size) file ≡ position_bytes restart ++ r → Holds (at + 1 + size) 1 IsFlag file
@@ -134,7 +134,7 @@ module _ (names : List (List ℕ)) (at : ℕ) (file : List ℕ) (entry : Entry) 
 
   pub stands_right : (p : ℕ) → EntryStops names at file p → ⊥
   stands_right p =
-      let told = flag_told entry.restart behind_name in
+      let told = flag_told entry.restart past_name in
       entry_none names at file p length_holds
       (subst (λ (k : ℕ). Holds (at + 1) k (IsNewName names) file) (sym size_is) name_holds)
       (subst (λ (k : ℕ). Holds (at + 1 + k) 1 IsFlag file) (sym size_is) told.0)
@@ -166,9 +166,9 @@ entry_same a b x y a_fits b_fits e =
     let body = sym (append_assoc a.name (position_bytes a.restart) x) ∙ ap (drop 1) e ∙ append_assoc b.name (position_bytes b.restart) y in
     let name = sym (take_at a.name (position_bytes a.restart ++ x) (length a.name) refl) ∙ ap (take (length a.name)) body
     ∙ take_at b.name (position_bytes b.restart ++ y) (length a.name) (sym size) in
-    let behind_it = sym (drop_at a.name (position_bytes a.restart ++ x) (length a.name) refl) ∙ ap (drop (length a.name)) body
+    let past_it = sym (drop_at a.name (position_bytes a.restart ++ x) (length a.name) refl) ∙ ap (drop (length a.name)) body
     ∙ drop_at b.name (position_bytes b.restart ++ y) (length a.name) (sym size) in
-    let position = position_one a.restart b.restart x y a_fits b_fits behind_it in (
+    let position = position_one a.restart b.restart x y a_fits b_fits past_it in (
       ap (λ (n : List ℕ). record { name = n; restart = a.restart }) name
           ∙ ap (λ (p : Option ℕ). record { name = b.name; restart = p }) position.0,
       position.1,

@@ -161,7 +161,7 @@ acquired name session slot = if is_named name slot then owned_by (Some session) 
 abbrev pub without_temporary : ℕ → List Slot → List Slot
 without_temporary session slots = filter (λ slot. not (is_session session slot.temporary)) slots
 
--- the slots behind a session's end: it owns none, and those that it made for itself are gone
+-- the slots past a session's end: it owns none, and those that it made for itself are gone
 abbrev pub ended : ℕ → List Slot → List Slot
 ended session slots = map (released session) (without_temporary session slots)
 

@@ -119,7 +119,7 @@ IsNewName names bytes = IsSlotName bytes × IsNew names bytes
 abbrev pub IsFlag : List ℕ → Type 0
 IsFlag bytes = (bytes ≡ 0 ∷ []) ⊎ (bytes ≡ 1 ∷ [])
 
--- zero behind the flag 0
+-- zero after the flag 0
 abbrev pub IsPosition : ℕ → List ℕ → Type 0
 IsPosition flag bytes = flag ≡ 0 → bytes ≡ int64 0
 
@@ -145,7 +145,7 @@ pub data HeaderStops (file : List ℕ) (place : ℕ) : Type 0 where
   in_version : Holds 0 4 IsMagic file → Stops 4 2 IsVersion file place → HeaderStops file place
   in_count : Holds 0 4 IsMagic file → Holds 4 2 IsVersion file → Stops 6 2 IsCount file place → HeaderStops file place
 
--- in the slot that stands here, behind those with these names
+-- in the slot that stands here, after those with these names
 pub data EntryStops (names : List (List ℕ)) (at : ℕ) (file : List ℕ) (place : ℕ) : Type 0 where
   in_length : Stops at 1 IsNameLength file place → EntryStops names at file place
   in_name : Holds at 1 IsNameLength file → Stops (at + 1) (size_at at file) (IsNewName names) file place
@@ -157,18 +157,18 @@ pub data EntryStops (names : List (List ℕ)) (at : ℕ) (file : List ℕ) (plac
       → Stops (at + 2 + size_at at file) 8 (IsPosition (slice_index file (at + 1 + size_at at file))) file place
       → EntryStops names at file place
 
--- the file begins with a header of this count and with these slots, and the place behind them is this
+-- the file begins with a header of this count and with these slots, and the place after them is this
 pub record BeginsWith (count : ℕ) (entries : List Entry) (at : ℕ) (file : List ℕ) : Type 0 where
   pub right : AreEntries entries
   pub rest : List ℕ
   pub begins : file ≡ header_bytes count ++ entries_bytes entries ++ rest
-  pub behind : at ≡ length (header_bytes count ++ entries_bytes entries)
+  pub past : at ≡ length (header_bytes count ++ entries_bytes entries)
 
--- The file goes wrong at this place first: in its header, in the slot behind some that are right, or behind its last slot, where
+-- The file goes wrong at this place first: in its header, in the slot after some that are right, or after its last slot, where
 -- more bytes stand.
 pub data FileStops (file : List ℕ) (place : ℕ) : Type 0 where
   in_header : HeaderStops file place → FileStops file place
   in_slot : (count : ℕ) (entries : List Entry) (at : ℕ) → count ≤ SLOT_LIMIT → BeginsWith count entries at file
       → length entries < count → EntryStops (names_in entries) at file place → FileStops file place
-  behind : (count : ℕ) (entries : List Entry) → count ≤ SLOT_LIMIT → BeginsWith count entries place file → length entries ≡ count
+  past : (count : ℕ) (entries : List Entry) → count ≤ SLOT_LIMIT → BeginsWith count entries place file → length entries ≡ count
       → place < length file → FileStops file place

@@ -12,12 +12,12 @@ use repl_lsn::Lsn;
 use repl_text::{SLOT_NAME_LIMIT, Text, is_slot_name};
 use std::alloc::Global;
 
-/// The place behind the count.
+/// The place after the count.
 const HEADER: usize = 8;
 
 /// The slots that the file spells, none of them in use, each with its restart position saved. Refuses any other file at the
 /// first byte of the first field that is wrong, or at its length where it ends before a field does, or at the first byte
-/// behind the last slot where more bytes stand (`BadSlots`). Takes memory for the list and the names.
+/// after the last slot where more bytes stand (`BadSlots`). Takes memory for the list and the names.
 pub fn read_slots(alloc: Global, file: &[u8]) -> Result<Vec<Slot>, SlotFault>
     ensures read { IfOk result (λ slots. All IsMounted slots.items × Spells (entries_of slots.items) file.now) }
     ensures refused { IfErr result (IsAt (FileStops file.now)) }
@@ -81,7 +81,7 @@ fn count_at(file: &[u8]) -> Result<usize, SlotFault>
     }
 }
 
-/// The slot that stands here, behind these, and the place behind it.
+/// The slot that stands here, after these, and the place after it.
 fn slot_at(
     alloc: Global,
     file: &[u8],
@@ -109,7 +109,7 @@ fn slot_at(
     Ok((slot, at + 10 + size))
 }
 
-/// The length of the name behind this place.
+/// The length of the name after this place.
 fn size_at(file: &[u8], at: usize) -> Result<usize, SlotFault>
     requires { at ≤ length file.now }
     ensures read { IfOk result (λ size. Holds at 1 IsNameLength file.now × (field at 1 file.now ≡ size ∷ []) × (size ≡ size_at at file.now) × (size ≤ SLOT_NAME_LIMIT)) }
@@ -154,7 +154,7 @@ fn flag_at(file: &[u8], at: usize) -> Result<u8, SlotFault>
     }
 }
 
-/// The position behind such a flag.
+/// The position after such a flag.
 fn position_at(file: &[u8], at: usize, flag: u8) -> Result<Option<Lsn>, SlotFault>
     requires place { at + 8 < 2 ^ 64 }
     requires flag { flag ≤ 1 }

@@ -93,7 +93,7 @@ fn put_position(file: &mut Vec<u8>, restart: Option<Lsn>) -> Result<(), AllocErr
     }
 }
 
-/// Appends a flag and the number behind it.
+/// Appends a flag and the number after it.
 fn put_number(file: &mut Vec<u8>, flag: u8, number: u64) -> Result<(), AllocError>
     ensures { OnOk result (file.new.items ≡ file.old.items ++ flag ∷ int64 number) }
 {

@@ -1,4 +1,4 @@
--- How files go on carrying the log's bytes: where other files change, under a torn write behind their end, after a sync,
+-- How files go on carrying the log's bytes: where other files change, under a torn write past their end, after a sync,
 -- and where bytes are added or cut off.
 use Rattle.std.proofs.Common.{
   ◌≡◌,
@@ -54,7 +54,7 @@ use Rattle.repl_disk.specs.Steps.{put_at, put_other}
 use Rattle.repl_lsn.specs.History.{Path}
 use Rattle.repl_lsn.specs.Segment.{Fits}
 use Rattle.repl_store.specs.Durable.{Carries, file_at, segment_file}
-use Rattle.repl_store.proofs.Names.{HasNames, same_file, fits_at, same_segment_behind, place_behind, earlier_place}
+use Rattle.repl_store.proofs.Names.{HasNames, same_file, fits_at, same_segment_past, place_past, earlier_place}
 
 -- ---- the same files
 
@@ -114,11 +114,11 @@ torn_keeps at count k None new tears lt before = absurd (omega arith)
 torn_keeps at count k (Some old) None tears lt before = absurd tears
 torn_keeps at count k (Some old) (Some new) tears lt before = (omega (arith, tears.no_shorter), tears.outside k lt (inl before))
 
--- a write behind the bytes, in the segment of its position
+-- a write after the bytes, in the segment of its position
 pub carries_torn : (size : ℕ) (path : Path) (floor : ℕ) (bytes : List ℕ) (at count : ℕ) (old new : Folder) → HasNames size path
     → floor + length bytes ≤ at → at < 2 ^ 64 → Tears (segment_file size path (at / size)) (at % size) count old new
     → Carries size old path floor bytes → Carries size new path floor bytes
-carries_torn size path floor bytes at count old new named behind small tears carries = record {
+carries_torn size path floor bytes at count old new named past small tears carries = record {
   there = λ i lt. (each i lt).0;
   same = λ i lt. (each i lt).1 ∙ carries.same i lt;
 }
@@ -162,13 +162,13 @@ get_or-overwritten-before : (old : List ℕ) (at : ℕ) (bytes : List ℕ) (k : 
     → get_or (overwritten old at bytes) k 0 ≡ get_or old k 0
 get_or-overwritten-before old at bytes k lt below = grind (arith, places)
 
-get_or-overwritten-behind : (old : List ℕ) (at : ℕ) (bytes : List ℕ) (k : ℕ) → k < length old → at + length bytes ≤ k
+get_or-overwritten-past : (old : List ℕ) (at : ℕ) (bytes : List ℕ) (k : ℕ) → k < length old → at + length bytes ≤ k
     → get_or (overwritten old at bytes) k 0 ≡ get_or old k 0
-get_or-overwritten-behind old at bytes k lt above = grind (arith, places)
+get_or-overwritten-past old at bytes k lt above = grind (arith, places)
 
 torn : (old : List ℕ) (at : ℕ) (bytes : List ℕ) → Torn at (length bytes) old (overwritten old at bytes)
 torn old at bytes = record {
-  outside = λ i lt out. ⊎_elim (get_or-overwritten-before old at bytes i lt) (get_or-overwritten-behind old at bytes i lt) out;
+  outside = λ i lt out. ⊎_elim (get_or-overwritten-before old at bytes i lt) (get_or-overwritten-past old at bytes i lt) out;
   no_shorter = omega (arith, length-overwritten old at bytes);
   no_longer = omega (arith, length-overwritten old at bytes);
 }
@@ -190,13 +190,13 @@ get_or-overwritten-there : (old : List ℕ) (at : ℕ) (bytes : List ℕ) (k : �
     → get_or (overwritten old at bytes) (at + k) 0 ≡ get_or bytes k 0
 get_or-overwritten-there old at bytes k lt = grind (arith, places)
 
--- bytes right behind them, in one segment
+-- bytes right after them, in one segment
 pub carries_appended : (size : ℕ) (path : Path) (floor : ℕ) (bytes more : List ℕ) (at : ℕ) (folder : Folder) → HasNames size path
     → 0 < size → floor + length bytes ≡ at → at < 2 ^ 64 → at % size + length more ≤ size → Carries size folder path floor bytes
     → Carries size (written folder (segment_file size path (at / size)) (at % size) more) path floor (bytes ++ more)
 carries_appended size path floor bytes more at folder named some ends small inside carries = record {
-  there = λ i lt. ⊎_elim (λ l. kept.there i l) (λ l. (behind i l lt).0) (cases_lt i (length bytes));
-  same = λ i lt. ⊎_elim (λ l. kept.same i l ∙ sym (get_or_append_left bytes more 0 i l)) (λ l. (behind i l lt).1)
+  there = λ i lt. ⊎_elim (λ l. kept.there i l) (λ l. (past i l lt).0) (cases_lt i (length bytes));
+  same = λ i lt. ⊎_elim (λ l. kept.same i l ∙ sym (get_or_append_left bytes more 0 i l)) (λ l. (past i l lt).1)
       (cases_lt i (length bytes));
 }
   where
@@ -213,15 +213,15 @@ carries_appended size path floor bytes more at folder named some ends small insi
     kept = carries_torn size path floor bytes at (length more) folder now named (omega arith) small
         (written_tears folder name (at % size) more) carries
 
-    behind : (i : ℕ) → length bytes ≤ i → i < length (bytes ++ more)
+    past : (i : ℕ) → length bytes ≤ i → i < length (bytes ++ more)
         → ((floor + i) % size < length (file_at size now path (floor + i)))
         × (get_or (file_at size now path (floor + i)) ((floor + i) % size) 0 ≡ get_or (bytes ++ more) i 0)
-    behind i le lt =
+    past i le lt =
         let k : ℕ = i - length bytes in
         let few : k < length more = omega (arith, length-append bytes more) in
-        let place : (floor + i) % size ≡ at % size + k = ap (λ x. x % size) (the_sum i le) ∙ place_behind size at k some (omega arith) in
+        let place : (floor + i) % size ≡ at % size + k = ap (λ x. x % size) (the_sum i le) ∙ place_past size at k some (omega arith) in
         let segment : (floor + i) / size ≡ at / size = ap (λ x. x / size) (the_sum i le)
-        ∙ same_segment_behind size at k some (omega arith) in
+        ∙ same_segment_past size at k some (omega arith) in
         let there : file_at size now path (floor + i) ≡ file = ap (λ x. content (now (segment_file size path x))) segment
         ∙ ap content (put_at folder name (Some file)) in (
           subst (λ (f : List ℕ). (floor + i) % size < length f) (sym there) (omega (

@@ -39,7 +39,7 @@ wanted_comes result old new head column done some t is moments one backs = recor
   failed = λ same. let clash : (Err fault.Memory) ≡ (Err fault.DiskFault) = sym is ∙ same in absurd cc;
 }
 
--- a part behind others that are done
+-- a part after others that are done
 pub comes_after : (result : Result (Unit {0}) StoreFault) (old mid new : DiskState) (before head : Head) (column : Durable → Type 0)
     (done : State) (some : State → Type 0) → LeavesOne old mid before.size column → head.size ≡ before.size
     → Stood old.faults mid.faults → Comes result mid new head column done some → Comes result old new head column done some

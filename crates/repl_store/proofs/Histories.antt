@@ -25,7 +25,7 @@ module _ (own : ℕ) (before : List Part) (line : List ℕ) (at : ℕ) where
   not_below p q first second above below =
       let same = ap (λ (r : Part). r.tli) (one_part line p q first second) in omega (arith, same, above, below)
 
-  -- behind lines that say some parts one thing is wrong with a line
+  -- after lines that say some parts one thing is wrong with a line
   line_fault_one : (f g : HistoryFault) → IsLineFault own before line at f → IsLineFault own before line at g → f ≡ g
   line_fault_one (fault.TooLong have) g h k = absurd h
   line_fault_one fault.Memory g h k = absurd h
@@ -33,9 +33,9 @@ module _ (own : ℕ) (before : List Part) (line : List ℕ) (at : ℕ) where
   line_fault_one (fault.NotNumber a) fault.Memory h k = absurd k
   line_fault_one (fault.NotNumber a) (fault.NotNumber b) h k = ap (λ n. fault.NotNumber n) (h.0 ∙ sym k.0)
   line_fault_one (fault.NotNumber a) (fault.NotSwitch b) h k = absurd (h.2 k.1.0 k.1.1 k.1.2)
-  line_fault_one (fault.NotNumber a) (fault.NotIncreasing b) h k = absurd (h.2 (k.1.0).tli (k.1.1).behind (k.1.1).number)
-  line_fault_one (fault.NotNumber a) (fault.NotBelowOwn b) h k = absurd (h.2 (k.1.0).tli (k.1.1).behind (k.1.1).number)
-  line_fault_one (fault.NotNumber a) (fault.SwitchFalls b) h k = absurd (h.2 (k.1.0).tli (k.1.1).behind (k.1.1).number)
+  line_fault_one (fault.NotNumber a) (fault.NotIncreasing b) h k = absurd (h.2 (k.1.0).tli (k.1.1).past (k.1.1).number)
+  line_fault_one (fault.NotNumber a) (fault.NotBelowOwn b) h k = absurd (h.2 (k.1.0).tli (k.1.1).past (k.1.1).number)
+  line_fault_one (fault.NotNumber a) (fault.SwitchFalls b) h k = absurd (h.2 (k.1.0).tli (k.1.1).past (k.1.1).number)
   line_fault_one (fault.NotSwitch a) (fault.TooLong have) h k = absurd k
   line_fault_one (fault.NotSwitch a) fault.Memory h k = absurd k
   line_fault_one (fault.NotSwitch a) (fault.NotNumber b) h k = absurd (k.2 h.1.0 h.1.1 h.1.2)
@@ -45,21 +45,21 @@ module _ (own : ℕ) (before : List Part) (line : List ℕ) (at : ℕ) where
   line_fault_one (fault.NotSwitch a) (fault.SwitchFalls b) h k = absurd (h.2 k.1.0 k.1.1)
   line_fault_one (fault.NotIncreasing a) (fault.TooLong have) h k = absurd k
   line_fault_one (fault.NotIncreasing a) fault.Memory h k = absurd k
-  line_fault_one (fault.NotIncreasing a) (fault.NotNumber b) h k = absurd (k.2 (h.1.0).tli (h.1.1).behind (h.1.1).number)
+  line_fault_one (fault.NotIncreasing a) (fault.NotNumber b) h k = absurd (k.2 (h.1.0).tli (h.1.1).past (h.1.1).number)
   line_fault_one (fault.NotIncreasing a) (fault.NotSwitch b) h k = absurd (k.2 h.1.0 h.1.1)
   line_fault_one (fault.NotIncreasing a) (fault.NotIncreasing b) h k = ap (λ n. fault.NotIncreasing n) (h.0 ∙ sym k.0)
   line_fault_one (fault.NotIncreasing a) (fault.NotBelowOwn b) h k = absurd (not_rises h.1.0 k.1.0 h.1.1 k.1.1 h.1.2 k.1.2)
   line_fault_one (fault.NotIncreasing a) (fault.SwitchFalls b) h k = absurd (not_rises h.1.0 k.1.0 h.1.1 k.1.1 h.1.2 k.1.2)
   line_fault_one (fault.NotBelowOwn a) (fault.TooLong have) h k = absurd k
   line_fault_one (fault.NotBelowOwn a) fault.Memory h k = absurd k
-  line_fault_one (fault.NotBelowOwn a) (fault.NotNumber b) h k = absurd (k.2 (h.1.0).tli (h.1.1).behind (h.1.1).number)
+  line_fault_one (fault.NotBelowOwn a) (fault.NotNumber b) h k = absurd (k.2 (h.1.0).tli (h.1.1).past (h.1.1).number)
   line_fault_one (fault.NotBelowOwn a) (fault.NotSwitch b) h k = absurd (k.2 h.1.0 h.1.1)
   line_fault_one (fault.NotBelowOwn a) (fault.NotIncreasing b) h k = absurd (not_rises k.1.0 h.1.0 k.1.1 h.1.1 k.1.2 h.1.2)
   line_fault_one (fault.NotBelowOwn a) (fault.NotBelowOwn b) h k = ap (λ n. fault.NotBelowOwn n) (h.0 ∙ sym k.0)
   line_fault_one (fault.NotBelowOwn a) (fault.SwitchFalls b) h k = absurd (not_below h.1.0 k.1.0 h.1.1 k.1.1 h.1.3 k.1.3)
   line_fault_one (fault.SwitchFalls a) (fault.TooLong have) h k = absurd k
   line_fault_one (fault.SwitchFalls a) fault.Memory h k = absurd k
-  line_fault_one (fault.SwitchFalls a) (fault.NotNumber b) h k = absurd (k.2 (h.1.0).tli (h.1.1).behind (h.1.1).number)
+  line_fault_one (fault.SwitchFalls a) (fault.NotNumber b) h k = absurd (k.2 (h.1.0).tli (h.1.1).past (h.1.1).number)
   line_fault_one (fault.SwitchFalls a) (fault.NotSwitch b) h k = absurd (k.2 h.1.0 h.1.1)
   line_fault_one (fault.SwitchFalls a) (fault.NotIncreasing b) h k = absurd (not_rises k.1.0 h.1.0 k.1.1 h.1.1 k.1.2 h.1.2)
   line_fault_one (fault.SwitchFalls a) (fault.NotBelowOwn b) h k = absurd (not_below k.1.0 h.1.0 k.1.1 h.1.1 k.1.3 h.1.3)

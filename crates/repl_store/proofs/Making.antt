@@ -23,7 +23,7 @@ use Rattle.repl_store.proofs.Standing.{SameHistories, known_by}
 use Rattle.repl_lsn.specs.History.{Path}
 use Rattle.repl_lsn.specs.Segment.{history_name}
 
--- a replacement behind a call that only read
+-- a replacement after a call that only read
 pub replaced_later : (old mid new : DiskState) (folder : Folder) (name aside bytes : List ℕ)
     → ((image : Folder) → old.left_since old.moment image → old.may_leave image) → NoneNew old.may_leave mid.may_leave → Elapses old mid
     → mid.files ≡ Some folder → IfTold mid.files (λ f. LeavesOnly mid new (IsBeforeOrAfter mid.may_leave name aside bytes))

@@ -89,9 +89,9 @@ module _ (size tli segment other number : ℕ) (is_size : IsSegSize size) (small
       let apart : eight tli ++ (eight (segment / n) ++ eight (segment % n)) ≡ eight other ++ (eight (number / n) ++ eight (number % n)) =
       sym (append_assoc (eight tli) (eight (segment / n)) (eight (segment % n))) ∙ same
       ∙ append_assoc (eight other) (eight (number / n)) (eight (number % n)) in
-      let behind = (same_front tli other _ _ small small_other apart).1 in
+      let past = (same_front tli other _ _ small small_other apart).1 in
       let high = same_front (segment / n) (number / n) _ _ (high_fits size segment is_size fits)
-      (high_fits size number is_size fits_number) behind in
+      (high_fits size number is_size fits_number) past in
       let last : eight (segment % n) ++ [] ≡ eight (number % n) ++ [] = ap (λ x. x ++ []) high.1 in
       let low = same_front (segment % n) (number % n) [] [] (low_fits size tli segment is_size small fits)
       (low_fits size other number is_size small_other fits_number) last in
@@ -105,15 +105,15 @@ first_below : (own : ℕ) (p : Part) (ps : List Part) → InOrder own (p ∷ ps)
 first_below own p [] order = order
 first_below own p (q ∷ ps) order = omega (arith, order.0, first_below own q ps order.2)
 
-behind : (own : ℕ) (p : Part) (ps : List Part) → InOrder own (p ∷ ps) → InOrder own ps
-behind own p [] order = tt
-behind own p (q ∷ ps) order = order.2
+past : (own : ℕ) (p : Part) (ps : List Part) → InOrder own (p ∷ ps) → InOrder own ps
+past own p [] order = tt
+past own p (q ∷ ps) order = order.2
 
 holder_here : (own : ℕ) (p : Part) (ps : List Part) (at : ℕ) → at < p.switch → holder own (p ∷ ps) at ≡ p.tli
 holder_here own p ps at h = grind (arith, nat_tests)
 
-holder_behind : (own : ℕ) (p : Part) (ps : List Part) (at : ℕ) → p.switch ≤ at → holder own (p ∷ ps) at ≡ holder own ps at
-holder_behind own p ps at h = grind (arith, nat_tests)
+holder_past : (own : ℕ) (p : Part) (ps : List Part) (at : ℕ) → p.switch ≤ at → holder own (p ∷ ps) at ≡ holder own ps at
+holder_past own p ps at h = grind (arith, nat_tests)
 
 pub holder_most : (own : ℕ) (ps : List Part) (at : ℕ) → InOrder own ps → holder own ps at ≤ own
 holder_most own [] at order = omega arith
@@ -121,8 +121,8 @@ holder_most own (p ∷ ps) at order =
     ⊎_elim (λ (here : at < p.switch). omega (arith, holder_here own p ps at here, first_below own p ps order))
     (λ (later : p.switch ≤ at). omega (
       arith,
-      holder_behind own p ps at later,
-      holder_most own ps at (behind own p ps order),
+      holder_past own p ps at later,
+      holder_most own ps at (past own p ps order),
     ))
     (cases_lt at p.switch)
 
@@ -163,13 +163,13 @@ module _ (size at more : ℕ) (some : 0 < size) (inside : at % size + more < siz
   as_sum = omega (arith, div-add-mod' at size)
 
   -- so many bytes on the segment is the same
-  pub same_segment_behind : (at + more) / size ≡ at / size
-  same_segment_behind = ap (λ x. x / size) as_sum ∙ div-mul-add (at / size) size (at % size + more) inside
+  pub same_segment_past : (at + more) / size ≡ at / size
+  same_segment_past = ap (λ x. x / size) as_sum ∙ div-mul-add (at / size) size (at % size + more) inside
 
-  pub place_behind : (at + more) % size ≡ at % size + more
-  place_behind = ap (λ x. x % size) as_sum ∙ mod-mul-add (at / size) size (at % size + more) inside
+  pub place_past : (at + more) % size ≡ at % size + more
+  place_past = ap (λ x. x % size) as_sum ∙ mod-mul-add (at / size) size (at % size + more) inside
 
--- a position behind another, and before the end of its segment, is in that segment
+-- a position after another, and before the end of its segment, is in that segment
 pub segment_of_later : (size at later : ℕ) → 0 < size → at ≤ later → later < at / size * size + size → later / size ≡ at / size
 segment_of_later size at later some le lt =
     ap (λ x. x / size) (the_sum (omega (arith, div-add-mod' at size)))

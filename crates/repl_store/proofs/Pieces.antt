@@ -47,7 +47,7 @@ pub idle : (disk : DiskState) (head : Head) (s : State) → ((image : Folder) �
 idle disk head s only_now backs = started disk (λ image. (d : Durable) × Before s d × StandsFor head.size image d)
     (λ image left. (s.durable, refl, (backs.images image (only_now image left)).stands))
 
--- a state with these bytes behind it
+-- a state with these bytes after it
 with_bytes : (s : State) (a b : List ℕ) → a ≡ b → appended s a ≡ appended s b
 with_bytes s a b same = ap (appended s) same
 

@@ -158,7 +158,7 @@ failed_as f old new head other column done some apart same comes = record {
   failed = comes.failed;
 }
 
--- the removal comes behind the raised floor
+-- the removal comes past the raised floor
 pub removal_comes : (result : Result (Unit {0}) StoreFault) (old mid new : DiskState) (head : Head) (s : State) (floor : ℕ)
     → Comes {A = Unit {0}} (Ok tt) old mid head (Either s.durable (raised s.durable floor)) (raised_state s floor) (λ t. t ≡ s)
     → Stood old.faults mid.faults

@@ -42,7 +42,7 @@ carried_at size folder path floor bytes file at j some carries from below inside
           ∙ carries.same i short,
     )
 
--- the file goes on behind a position that it carries
+-- the file goes on past a position that it carries
 pub carried_first : (size : ℕ) (folder : Folder) (path : Path) (floor : ℕ) (bytes : List ℕ) (at : ℕ)
     → Carries size folder path floor bytes → floor ≤ at → at < floor + length bytes → at % size < length (file_at size folder path at)
 carried_first size folder path floor bytes at carries from below =
@@ -194,7 +194,7 @@ module _ (old now new : DiskState) (head : Head) (s : State) (at filled : ℕ) (
     failed = λ same. let P : ℕ → Type 0 = λ n. Rose n new.faults in subst P so_far.faults (reads.failed same);
   }
 
-  -- a piece was read behind what was filled
+  -- a piece was read after what was filled
   pub filled_more : (end : ℕ) (part : List ℕ) → filled ≤ end → end ≤ length before → length piece ≡ end - filled → length part ≡ end - filled
       → head.control.floor ≤ at → Reads {A = Unit {0}} (Ok tt) now new head s (at + filled) part piece → Stood now.faults new.faults
       → Filled old new head s at end (put_mid filled (end - filled) before piece)

@@ -166,12 +166,12 @@ module _ (size : ℕ) (folder : Folder) where
     abbrev OfSegment : StoreFault → Type 0
     OfSegment e = (path : Path) × HasPath size folder control path × IsLackOf size folder control path e
 
-    -- behind the control
-    behind_once : (e f : StoreFault) → OfHistory e ⊎ OfSegment e → OfHistory f ⊎ OfSegment f → IsOfDisk e ⊎ IsOfDisk f ⊎ (e ≡ f)
-    behind_once e f (inl a) (inl b) = inr (inr (history_once e f a b))
-    behind_once e f (inl a) (inr b) = absurd (history_refuted e b.0 b.1 a)
-    behind_once e f (inr a) (inl b) = absurd (history_refuted f a.0 a.1 b)
-    behind_once e f (inr a) (inr b) =
+    -- after the control
+    past_once : (e f : StoreFault) → OfHistory e ⊎ OfSegment e → OfHistory f ⊎ OfSegment f → IsOfDisk e ⊎ IsOfDisk f ⊎ (e ≡ f)
+    past_once e f (inl a) (inl b) = inr (inr (history_once e f a b))
+    past_once e f (inl a) (inr b) = absurd (history_refuted e b.0 b.1 a)
+    past_once e f (inr a) (inl b) = absurd (history_refuted f a.0 a.1 b)
+    past_once e f (inr a) (inr b) =
         let P : Path → Type 0 = λ path. IsLackOf size folder control path e in
         lacks_once b.0 e f (subst P (path_one size folder control a.0 b.0 a.1 b.1) a.2) b.2
 
@@ -243,7 +243,7 @@ module _ (size : ℕ) (folder : Folder) where
   cause_once e f (inr a) (inl b) = absurd (control_refuted f a.0 a.1 b)
   cause_once e f (inr a) (inr b) =
       let P : Control → Type 0 = λ control. OfHistory control e ⊎ OfSegment control e in
-      behind_once b.0 e f (subst P (one_control_in size folder a.0 b.0 a.1 b.1) a.2) b.2
+      past_once b.0 e f (subst P (one_control_in size folder a.0 b.0 a.1 b.1) a.2) b.2
 
   pub refused_once : (e f : StoreFault) → IsRefusal size folder e → IsRefusal size folder f → IsOfDisk e ⊎ IsOfDisk f ⊎ (e ≡ f)
   refused_once e f a b = ⊎_elim
@@ -287,9 +287,9 @@ module _ (size : ℕ) (folder : Folder) (d : Durable) (some : 0 < size) (is : St
       let full = subst Q (mod-mul-add segment size (n - 1) inside) (subst P (div-mul-add segment size (n - 1) inside) there) in
       enough_in (folder (segment_file size d.path segment)) n any (omega (arith, full, any))
 
-  behind_refuted : (e : StoreFault) → OfHistory size folder d.control e ⊎ OfSegment size folder d.control e → IsOfDisk e
-  behind_refuted e (inl cause) = absurd (history_refuted size folder d.control e d.path is.path cause)
-  behind_refuted e (inr cause) =
+  past_refuted : (e : StoreFault) → OfHistory size folder d.control e ⊎ OfSegment size folder d.control e → IsOfDisk e
+  past_refuted e (inl cause) = absurd (history_refuted size folder d.control e d.path is.path cause)
+  past_refuted e (inr cause) =
       let P : Path → Type 0 = λ path. IsLackOf size folder d.control path e in
       let lack = subst P (path_one size folder d.control cause.0 d.path cause.1 is.path) cause.2 in
       enough_refutes size folder d.control d.path lack.0 e (enough_there lack.0 lack.1.held) lack.2
@@ -299,7 +299,7 @@ module _ (size : ℕ) (folder : Folder) (d : Durable) (some : 0 < size) (is : St
   cause_refuted e (inr cause) =
       let P : Control → Type 0 = λ control. OfHistory size folder control e ⊎ OfSegment size folder control e in
       let own = one_control_in size folder cause.0 d.control cause.1 (has_control_of size folder d is) in
-      behind_refuted e (subst P own cause.2)
+      past_refuted e (subst P own cause.2)
 
   pub unrefused : (e : StoreFault) → IsRefusal size folder e → IsOfDisk e
   unrefused e refusal = ⊎_elim

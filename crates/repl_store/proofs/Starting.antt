@@ -22,7 +22,7 @@ pub either_way : (result : Result (Unit {0}) StoreFault) (A : Type 0) → OnOk r
 either_way (Ok x) A done refused = done
 either_way (Err e) A done refused = refused
 
--- the cause of an answer behind calls that were done
+-- the cause of an answer after calls that were done
 pub caused_after : (result : Result (Unit {0}) StoreFault) (old mid new : DiskState) → Stood old.faults mid.faults
     → Stood old.wants mid.wants → DidNotFall old.lacks mid.lacks → IsCaused result mid new → IsCaused result old new
 caused_after result old mid new faults wants lacks caused = record {

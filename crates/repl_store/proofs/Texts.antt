@@ -10,8 +10,8 @@ text_digit : (c : ℕ) → IsDigit c → (0 < c) × (c < 256)
 text_digit zero is = absurd (omega (arith, is.0))
 text_digit (suc c) is = (omega arith, omega (arith, is.1))
 
-text_of : (count : ℕ) (behind name : List ℕ) → IsText behind → HasDigitsAnd count behind name → IsText name
-text_of count behind name is has = subst IsText (sym has.parts) (All-append (λ c. (0 < c) × (c < 256)) has.digits behind
+text_of : (count : ℕ) (past name : List ℕ) → IsText past → HasDigitsAnd count past name → IsText name
+text_of count past name is has = subst IsText (sym has.parts) (All-append (λ c. (0 < c) × (c < 256)) has.digits past
     (λ k d lt. text_digit (get_or has.digits k d) (has.are k d lt)) is)
 
 pub text_of_form : (name : List ℕ) → HasForm name → IsText name

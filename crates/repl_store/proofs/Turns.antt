@@ -91,7 +91,7 @@ module _ (disk : DiskState) (head : Head) (s : State) (is : IsHead head) (backs 
   small : head.written < 2 ^ 64
   small = omega (arith, is.written)
 
-  -- more of a file behind the written end
+  -- more of a file past the written end
   pub tear_keeps : (count : ℕ) (before image : Folder) → Keeps head s before
       → Tears (end_file head) (head.written % head.size) count before image → Keeps head s image
   tear_keeps count before image keeps tears = record {
@@ -145,13 +145,13 @@ module _ (disk : DiskState) (head : Head) (s : State) (is : IsHead head) (backs 
       file : List ℕ
       file = segment_file head.size head.path segment
 
-      behind : (i : ℕ) → head.synced - head.control.floor ≤ i → i < length (log s) → (head.control.floor + i) / head.size ≡ segment
-      behind i le lt = segment_of_later head.size head.synced (head.control.floor + i) (omega (arith, is.size.least)) (omega arith)
+      past : (i : ℕ) → head.synced - head.control.floor ≤ i → i < length (log s) → (head.control.floor + i) / head.size ≡ segment
+      past i le lt = segment_of_later head.size head.synced (head.control.floor + i) (omega (arith, is.size.least)) (omega arith)
           (omega (arith, log_end disk head s backs))
 
       all : Carries head.size image head.path head.control.floor (log s)
       all = carries_synced head.size head.path head.control.floor (log s) (head.synced - head.control.floor) segment backs.folder before
-          image backs.reads keeps.synced behind syncs
+          image backs.reads keeps.synced past syncs
 
   -- the file of that segment is there
   pub tail_there : head.synced < head.written → backs.folder (segment_file head.size head.path (head.synced / head.size)) ≢ None
@@ -185,7 +185,7 @@ module _ (disk : DiskState) (head : Head) (s : State) (is : IsHead head) (backs 
     pub idle : LeavesOne disk disk head.size (Before s)
     idle = begun.any_moment
 
-    -- ---- a write behind the written end
+    -- ---- a write past the written end
 
     module _ (new : DiskState) (piece : List ℕ) (time : Elapses disk new) where
       abbrev Tearing : Folder → Folder → Folder → Type 0

@@ -18,7 +18,7 @@ use Rattle.repl_store.specs.Head.{Head}
 use Rattle.repl_store.specs.declared.fault.StoreFault.{StoreFault}
 use Rattle.repl_store.specs.declared.fault.StoreFault.TheVariants as fault
 
--- a store's state: what it keeps over a crash, and what was written behind that
+-- a store's state: what it keeps over a crash, and what was written after that
 pub record State : Type 0 where
   pub durable : Durable
   pub unflushed : List ℕ
@@ -27,7 +27,7 @@ pub record State : Type 0 where
 abbrev pub log : State → List ℕ
 log s = s.durable.bytes ++ s.unflushed
 
--- the image stands for the durable part, and has the bytes that were synced behind it
+-- the image stands for the durable part, and has the bytes that were synced after it
 pub record Keeps (head : Head) (s : State) (image : Folder) : Type 0 where
   pub stands : StandsFor head.size image s.durable
   pub synced : Carries head.size image head.path head.control.floor (take (head.synced - head.control.floor) (log s))

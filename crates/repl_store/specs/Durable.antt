@@ -33,7 +33,7 @@ segment_file size path segment = segment_name size (segment_timeline size path s
 abbrev pub file_at : ℕ → Folder → Path → ℕ → List ℕ
 file_at size folder path at = content (folder (segment_file size path (at / size)))
 
--- From the floor on the files carry these bytes, each at its position in the file of its segment. A file may go on behind
+-- From the floor on the files carry these bytes, each at its position in the file of its segment. A file may go on after
 -- them.
 pub record Carries (size : ℕ) (folder : Folder) (path : Path) (floor : ℕ) (bytes : List ℕ) : Type 0 where
   pub there : (i : ℕ) → i < length bytes → (floor + i) % size < length (file_at size folder path (floor + i))

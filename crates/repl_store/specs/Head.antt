@@ -60,7 +60,7 @@ pub record Stands (head : Head) (size : ℕ) (control : Control) (path : Path) (
 abbrev pub IsAt : Head → Head → ℕ → Type 0
 IsAt old new written = Stands new old.size old.control old.path written
 
--- the store that was just mounted: nothing is written behind the flushed end
+-- the store that was just mounted: nothing is written past the flushed end
 pub record IsMounted (head : Head) (size : ℕ) (d : Durable) : Type 0 where
   pub same_size : head.size ≡ size
   pub same_control : head.control ≡ d.control

@@ -15,7 +15,7 @@ heard_state s tli = record { durable = heard s.durable tli; unflushed = s.unflus
 abbrev pub switched_state : State → Path → Role → ℕ → ℕ → State
 switched_state s child role whole prev = record { durable = switched s.durable child role whole prev; unflushed = [] }
 
--- nothing is written behind the switch point
+-- nothing is written past the switch point
 abbrev pub switched_head : Head → Path → Role → ℕ → ℕ → Head
 switched_head head child role whole prev = record {
   size = head.size;

@@ -25,7 +25,7 @@ SyncsAll old new = IsAt old new old.written × (new.synced ≡ old.written)
 abbrev pub Grows : Head → Head → ℕ → Type 0
 Grows old new count = IsAt old new (old.written + count) × (new.synced ≡ old.synced)
 
--- bytes behind this position are forgotten
+-- bytes past this position are forgotten
 abbrev pub PutsBack : Head → Head → ℕ → Type 0
 PutsBack old new written = IsAt old new written × (new.synced ≡ min old.synced written)
 

@@ -49,7 +49,7 @@ impl Head {
         (u64::from(self.size.bytes()) - self.place_in_segment(at)) as usize
     }
 
-    /// Forgets the bytes behind this position.
+    /// Forgets the bytes past this position.
     pub(crate) fn put_back(&mut self, written: Lsn)
         requires flushed { self.old.control.flushed ≤ written }
         requires below { written ≤ self.old.written }

@@ -28,13 +28,13 @@ use std::alloc::Global;
 
 impl<D: Disk> Store<D> {
     /// Opens the store that stands on the disk: reads its control and the history of its timeline, and looks how long the
-    /// files of its segments are. What the files say is refused at the first that is wrong, in this order. Bytes behind the
+    /// files of its segments are. What the files say is refused at the first that is wrong, in this order. Bytes after the
     /// flushed end, and files of other timelines, are passed over.
     pub fn mount(alloc: Global, disk: D) -> Result<Store<D>, (StoreFault, D)>
         // What is mounted is what the files stand for.
         ensures mounted { IfOk result (λ store. (store.broken ≡ false) × IfTold (D.state disk).files (λ folder.
             (d : Durable) × StandsFor VERSION_1_SIZE folder d × IsMounted store.head VERSION_1_SIZE d)) }
-        // Nothing is written behind the flushed end, whatever the disk tells.
+        // Nothing is written past the flushed end, whatever the disk tells.
         ensures no_more { IfOk result (λ store. (store.broken ≡ false) × (store.head.written ≡ store.head.control.flushed)) }
         // Where a crash leaves nothing else, the store and its files hang together from here on.
         ensures backs { IfOk result (λ store. (folder : Folder) (d : Durable) → (D.state disk).files ≡ Some folder → StandsFor VERSION_1_SIZE folder d

@@ -25,7 +25,7 @@ use std::alloc::Global;
 
 impl<D: Disk> Store<D> {
     /// Leaves the own timeline at the last switch point of a history that goes on from the store's path, in this role.
-    /// Bytes behind that position are gone. It writes the history, then the first segment of the new timeline, where the
+    /// Bytes past that position are gone. It writes the history, then the first segment of the new timeline, where the
     /// position is no segment's start, and then the control. Takes memory for the history's text and a piece of a segment.
     pub fn switch(
         &mut self,
@@ -179,7 +179,7 @@ fn begin<D: Disk>(
     put_first(disk, head, child, &name, &room)
 }
 
-/// Puts these bytes into the front of the child's first segment, and makes them certain. What stands there behind them, as
+/// Puts these bytes into the front of the child's first segment, and makes them certain. What stands there after them, as
 /// an earlier crash may leave it, means nothing.
 fn put_first<D: Disk>(
     disk: &mut D,

@@ -1,4 +1,4 @@
-//! Appending bytes behind the written end.
+//! Appending bytes past the written end.
 ghost use Rattle.std.specs.Prelude.{◌≡◌, ◌≢◌, ◌≤◌, ◌+◌, ◌%◌, ◌^◌, ◌↔◌, length, true, Err, OnOk, IfErr};
 ghost use Rattle.repl_store.specs.Apart.{StaysApart};
 ghost use Rattle.repl_store.specs.Backing.{Backs, Before, Breaks, Comes, IsCaused, State, appended};
@@ -16,7 +16,7 @@ use repl_lsn::{Lsn, seg_of};
 use std::alloc::{AllocError, Global};
 
 impl<D: Disk> Store<D> {
-    /// Appends the bytes behind the written end. They are certain on the disk from the next `flush` on; a segment is
+    /// Appends the bytes past the written end. They are certain on the disk from the next `flush` on; a segment is
     /// synced before the next one is begun. Takes memory for the name of a segment. After a refusal the written end is
     /// where it was.
     pub fn write(&mut self, alloc: Global, bytes: &[u8]) -> Result<(), StoreFault>

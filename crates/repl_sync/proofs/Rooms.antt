@@ -222,13 +222,13 @@ left_more olds nows i new left k d m = off_set nows i k new d (λ same. absurd (
 refitted_itself : (count longest : ℕ) (h : Holding) → Refitted count longest h h
 refitted_itself count longest h = record { ticket = refl; number = refl; progress = refl; in_force = refl; places = inl refl }
 
--- where a loop over tickets ends early, those behind are as they were
+-- where a loop over tickets ends early, those after are as they were
 pub refitted_all : (count longest : ℕ) (olds nows : List Holding) (i : ℕ) → ((k : ℕ) (d : Holding) → k < i
     → Refitted count longest (get_or olds k d) (get_or nows k d))
     → ((k : ℕ) (d : Holding) → i ≤ k → get_or nows k d ≡ get_or olds k d) → EachRefitted count longest olds nows
 refitted_all count longest olds nows i done left k d m = ⊎_elim
     (λ less. done k d less)
-    (λ behind. subst (λ y. Refitted count longest (get_or olds k d) y) (sym (left k d behind)) (refitted_itself count longest (get_or olds
+    (λ past. subst (λ y. Refitted count longest (get_or olds k d) y) (sym (left k d past)) (refitted_itself count longest (get_or olds
     k d)))
     (cases_lt k i)
 

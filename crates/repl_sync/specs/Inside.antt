@@ -42,9 +42,9 @@ abbrev pub SameByTests : List Candidate → List Candidate → Type 0
 SameByTests cs ds = (p : Candidate → Bool) → IsPermutation (filter p cs) (filter p ds)
 
 -- it goes before the one at the place, and before none that stands earlier
-pub record IsFirstBehind (c : Candidate) (order : List Candidate) (place : ℕ) : Type 0 where
+pub record IsFirstPast (c : Candidate) (order : List Candidate) (place : ℕ) : Type 0 where
   pub within : place < length order
-  pub behind : (d : Candidate) → goes_before c (slice_index_or order place d) ≡ true
+  pub past : (d : Candidate) → goes_before c (slice_index_or order place d) ≡ true
   pub before : (k : ℕ) (d : Candidate) → k < place → goes_before c (slice_index_or order k d) ≡ false
 
 -- the list is met exactly up to there

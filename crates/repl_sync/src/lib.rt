@@ -3,11 +3,11 @@
 //!
 //! A `SyncState` has the sessions of standbys with what they have reported, the list in force, and a ticket for each
 //! commit that waits. Each call is one event, and its contract is one case of `SyncStep` (`specs/Sync.antt`): a refusal
-//! changes nothing, and behind any other event exactly those waits are released at whose end the list is met by the
+//! changes nothing, and after any other event exactly those waits are released at whose end the list is met by the
 //! sessions that stream. A ticket that was released has a certificate: the list of that moment, and those who met it.
 //! `prepare`, `connect` and `set_names` take all memory that later releases need, so that no other call takes any. The
 //! laws of steps stand on functions of their own: certificates are sound, a released ticket stays so until it is
-//! answered, once, nobody waits without names, a new timeline leaves no report behind, and no ticket is given twice.
+//! answered, once, nobody waits without names, a new timeline leaves no report after, and no ticket is given twice.
 //! Stands on `repl_names`.
 //!
 //! ```text

@@ -22,11 +22,11 @@ truth false = inr refl
 abbrev Reading : (ℕ → Class) → ℕ → List ℕ → Type 0
 Reading class_of at bytes = (tokens : List RawToken) × Reads class_of at bytes tokens
 
-token_first : (class_of : ℕ → Class) (at : ℕ) (spelled behind : List ℕ) (k : Kind) (text : List ℕ) → IsToken class_of k text spelled behind
-    → Reading class_of (at + length spelled) behind → Reading class_of at (spelled ++ behind)
-token_first class_of at spelled behind k text is rest =
+token_first : (class_of : ℕ → Class) (at : ℕ) (spelled past : List ℕ) (k : Kind) (text : List ℕ) → IsToken class_of k text spelled past
+    → Reading class_of (at + length spelled) past → Reading class_of at (spelled ++ past)
+token_first class_of at spelled past k text is rest =
     let token : RawToken = record { kind = k; place = at; text = text } in
-    let next : IsNext class_of at (spelled ++ behind) token behind =
+    let next : IsNext class_of at (spelled ++ past) token past =
     record {
       blanks = [];
       spelled = spelled;
@@ -35,14 +35,14 @@ token_first class_of at spelled behind k text is rest =
       place = omega arith;
       is = is;
     } in
-    let total : at + length spelled + length behind ≡ at + length (spelled ++ behind) = omega (arith, length-append spelled behind) in
-    (token ∷ rest.0, (behind, at + length spelled, next, total, rest.1))
+    let total : at + length spelled + length past ≡ at + length (spelled ++ past) = omega (arith, length-append spelled past) in
+    (token ∷ rest.0, (past, at + length spelled, next, total, rest.1))
 
 blank_first : (class_of : ℕ → Class) (at c : ℕ) (cs : List ℕ) (tokens : List RawToken) → is_blank (class_of c) ≡ true
     → Reads class_of (at + 1) cs tokens → Reads class_of at (c ∷ cs) tokens
 blank_first class_of at c cs [] e reads = All-cons (λ b. is_blank (class_of b) ≡ true) c cs e reads
-blank_first class_of at c cs (token ∷ tokens) e (behind, place, next, total, reads) = (
-  behind,
+blank_first class_of at c cs (token ∷ tokens) e (past, place, next, total, reads) = (
+  past,
   place,
   record {
     blanks = c ∷ next.blanks;
@@ -64,12 +64,12 @@ token_whole class_of at bytes k is =
 
 -- ---- quotes
 
--- a text, the quote that ends it, and what is behind that
+-- a text, the quote that ends it, and what is after that
 record Closed (quote : ℕ) (bytes : List ℕ) : Type 0 where
   text : List ℕ
-  behind : List ℕ
-  parts : bytes ≡ flat_map (doubled quote) text ++ quote ∷ behind
-  ends : EndsBefore (λ c. c == quote) behind
+  past : List ℕ
+  parts : bytes ≡ flat_map (doubled quote) text ++ quote ∷ past
+  ends : EndsBefore (λ c. c == quote) past
 
 abbrev Quotes : ℕ → List ℕ → Type 0
 Quotes quote bytes = Closed quote bytes ⊎ ((text : List ℕ) × (bytes ≡ flat_map (doubled quote) text))
@@ -86,8 +86,8 @@ quote_spelled quote text = ap (λ piece. piece ++ flat_map (doubled quote) text)
 plain_more : (quote c : ℕ) (cs : List ℕ) → (c == quote) ≡ false → Quotes quote cs → Quotes quote (c ∷ cs)
 plain_more quote c cs e (inl h) = inl (record {
   text = c ∷ h.text;
-  behind = h.behind;
-  parts = ap (λ bs. c ∷ bs) h.parts ∙ ap (λ bs. bs ++ quote ∷ h.behind) (sym (plain_spelled quote c h.text e));
+  past = h.past;
+  parts = ap (λ bs. c ∷ bs) h.parts ∙ ap (λ bs. bs ++ quote ∷ h.past) (sym (plain_spelled quote c h.text e));
   ends = h.ends;
 })
 plain_more quote c cs e (inr h) = inr (c ∷ h.0, ap (λ bs. c ∷ bs) h.1 ∙ sym (plain_spelled quote c h.0 e))
@@ -95,14 +95,14 @@ plain_more quote c cs e (inr h) = inr (c ∷ h.0, ap (λ bs. c ∷ bs) h.1 ∙ s
 pair_more : (quote : ℕ) (cs : List ℕ) → Quotes quote cs → Quotes quote (quote ∷ quote ∷ cs)
 pair_more quote cs (inl h) = inl (record {
   text = quote ∷ h.text;
-  behind = h.behind;
-  parts = ap (λ bs. quote ∷ quote ∷ bs) h.parts ∙ ap (λ bs. bs ++ quote ∷ h.behind) (sym (quote_spelled quote h.text));
+  past = h.past;
+  parts = ap (λ bs. quote ∷ quote ∷ bs) h.parts ∙ ap (λ bs. bs ++ quote ∷ h.past) (sym (quote_spelled quote h.text));
   ends = h.ends;
 })
 pair_more quote cs (inr h) = inr (quote ∷ h.0, ap (λ bs. quote ∷ quote ∷ bs) h.1 ∙ sym (quote_spelled quote h.0))
 
-closes : (quote c : ℕ) (behind : List ℕ) → (c == quote) ≡ true → EndsBefore (λ b. b == quote) behind → Quotes quote (c ∷ behind)
-closes quote c behind e ends = inl (record { text = []; behind = behind; parts = ap (λ b. b ∷ behind) (eqb-true c quote e); ends = ends })
+closes : (quote c : ℕ) (past : List ℕ) → (c == quote) ≡ true → EndsBefore (λ b. b == quote) past → Quotes quote (c ∷ past)
+closes quote c past e ends = inl (record { text = []; past = past; parts = ap (λ b. b ∷ past) (eqb-true c quote e); ends = ends })
 
 quotes : (quote : ℕ) (bytes : List ℕ) → Quotes quote bytes
 quotes quote [] = inr ([], refl)
@@ -131,33 +131,33 @@ quoted_first : (class_of : ℕ → Class) (n : ℕ) → Shorter class_of n → (
 quoted_first class_of n shorter at quote cs is l = elim (quotes quote cs) [
   | inl h ↦
       let spelled = quoted quote h.text in
-      let parts : quote ∷ cs ≡ spelled ++ h.behind = ap (λ bs. quote ∷ bs)
-      (h.parts ∙ sym (append_assoc (flat_map (doubled quote) h.text) (quote ∷ []) h.behind)) in
-      let below : length h.behind < n = omega (
+      let parts : quote ∷ cs ≡ spelled ++ h.past = ap (λ bs. quote ∷ bs)
+      (h.parts ∙ sym (append_assoc (flat_map (doubled quote) h.text) (quote ∷ []) h.past)) in
+      let below : length h.past < n = omega (
         arith,
         ap length h.parts,
         length-append (flat_map (doubled quote) h.text)
-            (quote ∷ h.behind),
+            (quote ∷ h.past),
       ) in
       subst (Reading class_of at) (sym parts)
-      (token_first class_of at spelled h.behind (kind.Quoted quote) h.text (is, record { spelled = refl; ends = h.ends })
-      (shorter (at + length spelled) h.behind below))
+      (token_first class_of at spelled h.past (kind.Quoted quote) h.text (is, record { spelled = refl; ends = h.ends })
+      (shorter (at + length spelled) h.past below))
   | inr h ↦ token_whole class_of at (quote ∷ cs) (kind.Unclosed quote) (refl, refl, is, (h.0, ap (λ bs. quote ∷ bs) h.1))
 ]
 
 run_first : (class_of : ℕ → Class) (n : ℕ) → Shorter class_of n
     → (at c : ℕ) (cs : List ℕ) (begins : Class) (goes_on : Class → Bool) (k : Kind)
-    → ((bytes behind : List ℕ) → IsRun class_of begins goes_on bytes behind → IsToken class_of k bytes bytes behind) → goes_on begins ≡ true
+    → ((bytes past : List ℕ) → IsRun class_of begins goes_on bytes past → IsToken class_of k bytes bytes past) → goes_on begins ≡ true
     → class_of c ≡ begins → length cs < n → Reading class_of at (c ∷ cs)
 run_first class_of n shorter at c cs begins goes_on k token e is l =
     let run = run_front class_of begins goes_on (c ∷ cs) e (omega arith) is in
     let m : ℕ = prefix_len (λ b. goes_on (class_of b)) (c ∷ cs) in
     let front : List ℕ = take m (c ∷ cs) in
-    let behind : List ℕ = drop m (c ∷ cs) in
+    let past : List ℕ = drop m (c ∷ cs) in
     let some : 0 < m = run_some (λ b. goes_on (class_of b)) (c ∷ cs) (omega arith) (ap goes_on is ∙ e) in
-    let below : length behind < n = omega (arith, length-drop m (c ∷ cs)) in
+    let below : length past < n = omega (arith, length-drop m (c ∷ cs)) in
     subst (Reading class_of at) (take-append-drop m (c ∷ cs))
-    (token_first class_of at front behind k front (token front behind run) (shorter (at + length front) behind below))
+    (token_first class_of at front past k front (token front past run) (shorter (at + length front) past below))
 
 by_class : (class_of : ℕ → Class) (n : ℕ) → Shorter class_of n → (at c : ℕ) (cs : List ℕ) (k : Class) → class_of c ≡ k → length cs < n
     → Reading class_of at (c ∷ cs)
@@ -168,9 +168,9 @@ by_class class_of n shorter at c cs class.Alone e l = token_first class_of at (c
     (shorter (at + length (c ∷ [])) cs l)
 by_class class_of n shorter at c cs class.Quote e l = quoted_first class_of n shorter at c cs e l
 by_class class_of n shorter at c cs class.Letter e l = run_first class_of n shorter at c cs class.Letter is_inside kind.Word
-    (λ bytes behind h. (refl, h)) refl e l
+    (λ bytes past h. (refl, h)) refl e l
 by_class class_of n shorter at c cs class.Digit e l = run_first class_of n shorter at c cs class.Digit is_digit kind.Number
-    (λ bytes behind h. (refl, h)) refl e l
+    (λ bytes past h. (refl, h)) refl e l
 by_class class_of n shorter at c cs class.Inner e l = token_whole class_of at (c ∷ cs) kind.Wrong
     (refl, refl, (c, cs, refl, ap begins_nothing e))
 by_class class_of n shorter at c cs class.Nothing e l = token_whole class_of at (c ∷ cs) kind.Wrong

@@ -4,10 +4,10 @@ use Rattle.std.proofs.lemmas.Bool.{cases_eq, eq-eqb, ne_eqb, cond-true, cond-fal
 use Rattle.repl_token.specs.Token.{EndsBefore}
 use Rattle.repl_token.specs.Token.{doubled}
 
--- what stands behind the bytes of a text in quotes: nothing, or a quote that no other follows
+-- what stands after the bytes of a text in quotes: nothing, or a quote that no other follows
 abbrev pub Closes : ℕ → List ℕ → Type 0
 Closes quote [] = Unit {0}
-Closes quote (c ∷ behind) = (c ≡ quote) × EndsBefore (λ b. eqb b quote) behind
+Closes quote (c ∷ past) = (c ≡ quote) × EndsBefore (λ b. eqb b quote) past
 
 pair_spelled : (quote c : ℕ) (cs tail : List ℕ) → c ≡ quote
     → flat_map (doubled quote) (c ∷ cs) ++ tail ≡ quote ∷ quote ∷ (flat_map (doubled quote) cs ++ tail)
@@ -19,8 +19,8 @@ byte_spelled : (quote c : ℕ) (cs tail : List ℕ) → c ≢ quote
 byte_spelled quote c cs tail e = ap (λ piece. (piece ++ flat_map (doubled quote) cs) ++ tail)
     (cond-false (eqb c quote) (quote ∷ quote ∷ []) (c ∷ []) (ne_eqb c quote e))
 
-no_pair : (quote : ℕ) (behind rest : List ℕ) → EndsBefore (λ b. eqb b quote) behind → behind ≡ quote ∷ rest → ⊥
-no_pair quote behind rest ends e = true≢false (sym (eq-eqb quote quote refl) ∙ subst (EndsBefore (λ b. eqb b quote)) e ends)
+no_pair : (quote : ℕ) (past rest : List ℕ) → EndsBefore (λ b. eqb b quote) past → past ≡ quote ∷ rest → ⊥
+no_pair quote past rest ends e = true≢false (sym (eq-eqb quote quote refl) ∙ subst (EndsBefore (λ b. eqb b quote)) e ends)
 
 -- what closes a text is not more of it
 no_more : (quote : ℕ) (tail : List ℕ) (c : ℕ) (cs other : List ℕ) → Closes quote tail → tail ≡ flat_map (doubled quote) (c ∷ cs) ++ other
@@ -29,9 +29,9 @@ no_more quote [] c cs other closes e = ⊎_elim
     (λ q. let p = e ∙ pair_spelled quote c cs other q in cc)
     (λ q. let p = e ∙ byte_spelled quote c cs other q in cc)
     (cases_eq c quote)
-no_more quote (q ∷ behind) c cs other closes e = ⊎_elim
-    (λ is. let p = e ∙ pair_spelled quote c cs other is in let rest : behind ≡ quote ∷
-    (flat_map (doubled quote) cs ++ other) = cc in no_pair quote behind _ closes.1 rest)
+no_more quote (q ∷ past) c cs other closes e = ⊎_elim
+    (λ is. let p = e ∙ pair_spelled quote c cs other is in let rest : past ≡ quote ∷
+    (flat_map (doubled quote) cs ++ other) = cc in no_pair quote past _ closes.1 rest)
     (λ no. let p = e ∙ byte_spelled quote c cs other no in let same : c ≡ q = cc in no (same ∙ closes.0))
     (cases_eq c quote)
 

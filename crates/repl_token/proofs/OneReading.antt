@@ -14,9 +14,9 @@ blanks_len class_of at bytes t b h =
     ap (prefix_len (λ c. is_blank (class_of c))) (h.parts ∙ append_assoc h.blanks h.spelled b)
     ∙ run_len (λ c. is_blank (class_of c)) h.blanks (h.spelled ++ b) h.blank (token_begins class_of t.kind t.text h.spelled b h.is).1
 
-behind_blanks : (class_of : ℕ → Class) (at : ℕ) (bytes : List ℕ) (t : RawToken) (b : List ℕ) → (h : IsNext class_of at bytes t b)
+past_blanks : (class_of : ℕ → Class) (at : ℕ) (bytes : List ℕ) (t : RawToken) (b : List ℕ) → (h : IsNext class_of at bytes t b)
     → drop (prefix_len (λ c. is_blank (class_of c)) bytes) bytes ≡ h.spelled ++ b
-behind_blanks class_of at bytes t b h =
+past_blanks class_of at bytes t b h =
     let n : ℕ = prefix_len (λ c. is_blank (class_of c)) bytes in
     ap (drop n) (h.parts ∙ append_assoc h.blanks h.spelled b)
     ∙ drop_at h.blanks (h.spelled ++ b) n (sym (blanks_len class_of at bytes t b h))
@@ -25,7 +25,7 @@ one_next : (class_of : ℕ → Class) (at : ℕ) (bytes : List ℕ) (t u : RawTo
     → IsNext class_of at bytes u d
     → (t ≡ u) × (b ≡ d)
 one_next class_of at bytes t u b d g h =
-    let whole : g.spelled ++ b ≡ h.spelled ++ d = sym (behind_blanks class_of at bytes t b g) ∙ behind_blanks class_of at bytes u d h in
+    let whole : g.spelled ++ b ≡ h.spelled ++ d = sym (past_blanks class_of at bytes t b g) ∙ past_blanks class_of at bytes u d h in
     let size : length g.blanks ≡ length h.blanks = sym (blanks_len class_of at bytes t b g) ∙ blanks_len class_of at bytes u d h in
     let place : t.place ≡ u.place = g.place ∙ ap (λ n. at + n) size ∙ sym h.place in
     let same = one_token class_of t.kind u.kind t.text u.text g.spelled b h.spelled d g.is h.is whole in

@@ -11,14 +11,14 @@ use Rattle.repl_token.specs.Token.{IsToken, IsRun, IsQuoted, IsUnclosed, IsWrong
 use Rattle.repl_token.proofs.OneQuoted.{Closes, one_text}
 use Rattle.repl_token.proofs.Runs.{run_size}
 
--- what is read of a token: its kind, what it says and what is behind it
+-- what is read of a token: its kind, what it says and what is after it
 record Outcome : Type 0 where
   kind : Kind
   text : List ℕ
-  behind : List ℕ
+  past : List ℕ
 
 abbrev outcome : Kind → List ℕ → List ℕ → Outcome
-outcome k x b = record { kind = k; text = x; behind = b }
+outcome k x b = record { kind = k; text = x; past = b }
 
 -- ---- what is read, by the class of the first byte
 
@@ -29,9 +29,9 @@ run_read k test w = outcome k (take (prefix_len test w) w) (drop (prefix_len tes
 -- a text in quotes, and what closes it
 abbrev quoted_outcome : ℕ → List ℕ → List ℕ → Outcome
 quoted_outcome quote text [] = outcome (kind.Unclosed quote) [] []
-quoted_outcome quote text (c ∷ behind) = outcome (kind.Quoted quote) text behind
+quoted_outcome quote text (c ∷ past) = outcome (kind.Quoted quote) text past
 
--- what is read behind the opening quote
+-- what is read after the opening quote
 record QuotedAs (quote : ℕ) (rest : List ℕ) (o : Outcome) : Type 0 where
   text : List ℕ
   tail : List ℕ
@@ -182,4 +182,4 @@ pub one_token : (class_of : ℕ → Class) (k l : Kind) (x y s b r d : List ℕ)
 one_token class_of k l x y s b r d g h e =
     let same = one_start class_of s b r d (outcome k x b) (outcome l y d) (token_starts class_of k x s b g)
     (token_starts class_of l y r d h) e in
-    (ap (λ o. o.kind) same, ap (λ o. o.text) same, ap (λ o. o.behind) same)
+    (ap (λ o. o.kind) same, ap (λ o. o.text) same, ap (λ o. o.past) same)

@@ -35,13 +35,13 @@ run_some test [] some e = absurd (omega arith)
 run_some test (c ∷ cs) some e = omega (arith, run_more test c cs e)
 
 -- a run is as long as it can be
-pub run_len : (test : ℕ → Bool) (front behind : List ℕ) → All (λ c. test c ≡ true) front → EndsBefore test behind
-    → prefix_len test (front ++ behind) ≡ length front
+pub run_len : (test : ℕ → Bool) (front past : List ℕ) → All (λ c. test c ≡ true) front → EndsBefore test past
+    → prefix_len test (front ++ past) ≡ length front
 run_len test [] [] passes ends = refl
 run_len test [] (c ∷ cs) passes ends = cond-false (test c) (1 + prefix_len test cs) 0 ends
-run_len test (c ∷ cs) behind passes ends =
-    run_more test c (cs ++ behind) (All-head (λ b. test b ≡ true) c cs passes)
-    ∙ ap suc (run_len test cs behind (All-tail (λ b. test b ≡ true) c cs passes) ends)
+run_len test (c ∷ cs) past passes ends =
+    run_more test c (cs ++ past) (All-head (λ b. test b ≡ true) c cs passes)
+    ∙ ap suc (run_len test cs past (All-tail (λ b. test b ≡ true) c cs passes) ends)
 
 -- ---- words and numbers
 
@@ -63,24 +63,24 @@ run_front class_of begins goes_on (c ∷ cs) e some is =
     }
 
 -- all the bytes of a run go on
-pub run_all : (class_of : ℕ → Class) (begins : Class) (goes_on : Class → Bool) (bytes behind : List ℕ) → goes_on begins ≡ true
-    → IsRun class_of begins goes_on bytes behind → All (λ c. goes_on (class_of c) ≡ true) bytes
-run_all class_of begins goes_on bytes behind e h =
+pub run_all : (class_of : ℕ → Class) (begins : Class) (goes_on : Class → Bool) (bytes past : List ℕ) → goes_on begins ≡ true
+    → IsRun class_of begins goes_on bytes past → All (λ c. goes_on (class_of c) ≡ true) bytes
+run_all class_of begins goes_on bytes past e h =
     subst (All (λ c. goes_on (class_of c) ≡ true)) (sym h.parts)
     (All-cons (λ c. goes_on (class_of c) ≡ true) h.first h.others (ap goes_on h.starts ∙ e) h.continues)
 
 -- where a text begins with a run, that is its longest front
-pub run_size : (class_of : ℕ → Class) (begins : Class) (goes_on : Class → Bool) (bytes behind : List ℕ) → goes_on begins ≡ true
-    → IsRun class_of begins goes_on bytes behind → length bytes ≡ prefix_len (λ c. goes_on (class_of c)) (bytes ++ behind)
-run_size class_of begins goes_on bytes behind e h = sym (run_len (λ c. goes_on (class_of c)) bytes behind
-    (run_all class_of begins goes_on bytes behind e h) h.ends)
+pub run_size : (class_of : ℕ → Class) (begins : Class) (goes_on : Class → Bool) (bytes past : List ℕ) → goes_on begins ≡ true
+    → IsRun class_of begins goes_on bytes past → length bytes ≡ prefix_len (λ c. goes_on (class_of c)) (bytes ++ past)
+run_size class_of begins goes_on bytes past e h = sym (run_len (λ c. goes_on (class_of c)) bytes past
+    (run_all class_of begins goes_on bytes past e h) h.ends)
 
 -- bytes that go on, the first of them of the class
-pub run_of : (class_of : ℕ → Class) (begins : Class) (goes_on : Class → Bool) (bytes behind : List ℕ) → 0 < length bytes
-    → class_of (get_or bytes 0 0) ≡ begins → All (λ c. goes_on (class_of c) ≡ true) bytes → EndsBefore (λ c. goes_on (class_of c)) behind
-    → IsRun class_of begins goes_on bytes behind
-run_of class_of begins goes_on [] behind some is passes ends = absurd (omega arith)
-run_of class_of begins goes_on (c ∷ cs) behind some is passes ends = record {
+pub run_of : (class_of : ℕ → Class) (begins : Class) (goes_on : Class → Bool) (bytes past : List ℕ) → 0 < length bytes
+    → class_of (get_or bytes 0 0) ≡ begins → All (λ c. goes_on (class_of c) ≡ true) bytes → EndsBefore (λ c. goes_on (class_of c)) past
+    → IsRun class_of begins goes_on bytes past
+run_of class_of begins goes_on [] past some is passes ends = absurd (omega arith)
+run_of class_of begins goes_on (c ∷ cs) past some is passes ends = record {
   first = c;
   others = cs;
   parts = refl;

@@ -1,4 +1,4 @@
--- A token behind blanks, where the reader finds it, and the token that a copied run is.
+-- A token after blanks, where the reader finds it, and the token that a copied run is.
 use Rattle.std.proofs.Common.{◌≡◌, ℕ, ◌+◌, ◌-◌, ◌<◌, ◌≤◌, true, false, List, [], ◌++◌, length, get_or, take, drop, refl, sym, ap, subst, ◌∙◌, arith}
 use Rattle.std.specs.List.{All, prefix_len}
 use Rattle.std.proofs.lemmas.List.{append_assoc, take-append-drop, take_all, take_rest, get_or-drop, drop-drop, length-drop, length-take-le}
@@ -18,7 +18,7 @@ all_blank class_of text at place within e past =
     subst (All (λ c. is_blank (class_of c) ≡ true)) (take_all (prefix_len (λ c. is_blank (class_of c)) (drop at text)) (drop at text)
     (omega (arith, length-drop at text))) (run_passes (λ c. is_blank (class_of c)) (drop at text))
 
--- the byte behind the blanks, in the form that the reader has it
+-- the byte after the blanks, in the form that the reader has it
 pub no_blank : (class_of : ℕ → Class) (text : List ℕ) (at place : ℕ) → at ≤ length text
     → place ≡ at + prefix_len (λ c. is_blank (class_of c)) (drop at text) → place < length text
     → is_blank (class_of (get_or (take (length text - place) (drop place text)) 0 0)) ≡ false
@@ -30,7 +30,7 @@ no_blank class_of text at place within e inside =
     ∙ sym (get_or-drop at text n 0))
     ∙ prefix_len_stops (λ c. is_blank (class_of c)) (drop at text) 0 (omega (arith, length-drop at text))
 
--- behind the blanks a token of this size
+-- after the blanks a token of this size
 pub next_from : (class_of : ℕ → Class) (text : List ℕ) (at : ℕ) (token : RawToken) (place size : ℕ)
     → place ≡ at + prefix_len (λ c. is_blank (class_of c)) (drop at text) → token.place ≡ place
     → IsToken class_of token.kind token.text (take size (take (length text - place) (drop place text)))
@@ -49,7 +49,7 @@ next_from class_of text at token place size e token_place is =
       blank = run_passes (λ c. is_blank (class_of c)) (drop at text);
       place = token_place ∙ e ∙ ap (λ k. at + k) (sym (length-take-le n (drop at text)
           (prefix_len-le-length (λ c. is_blank (class_of c)) (drop at text))));
-      is = subst (λ (behind : List ℕ). IsToken class_of token.kind token.text (take size (drop place text)) behind) ends
+      is = subst (λ (past : List ℕ). IsToken class_of token.kind token.text (take size (drop place text)) past) ends
           (subst (λ (rest : List ℕ). IsToken class_of token.kind token.text (take size rest) (drop size rest)) (take_rest text place) is);
     }
 

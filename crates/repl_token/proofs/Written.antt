@@ -9,26 +9,26 @@ use Rattle.repl_token.specs.Class.{is_blank}
 use Rattle.repl_token.specs.Token.{RawToken, ReadsAs, IsToken}
 
 -- these bytes spell a language's own token, which depends on its place
-pub record IsTokenAs {A : Type 0} (class_of : ℕ → Class) (meaning : RawToken → A) (token : ℕ → A) (spelled behind : List ℕ) : Type 0 where
+pub record IsTokenAs {A : Type 0} (class_of : ℕ → Class) (meaning : RawToken → A) (token : ℕ → A) (spelled past : List ℕ) : Type 0 where
   pub kind : Kind
   pub text : List ℕ
-  pub is : IsToken class_of kind text spelled behind
+  pub is : IsToken class_of kind text spelled past
   pub means : (place : ℕ) → meaning (record { kind = kind; place = place; text = text }) ≡ token place
 
 -- a token in front of those that were read
-pub read_next : {A : Type 0} (class_of : ℕ → Class) (meaning : RawToken → A) (at : ℕ) (blanks spelled behind : List ℕ) (token : ℕ → A)
+pub read_next : {A : Type 0} (class_of : ℕ → Class) (meaning : RawToken → A) (at : ℕ) (blanks spelled past : List ℕ) (token : ℕ → A)
     (tokens : List A)
-    → All (λ c. is_blank (class_of c) ≡ true) blanks → IsTokenAs class_of meaning token spelled behind
-    → ReadsAs class_of meaning (at + length blanks + length spelled) behind tokens
-    → ReadsAs class_of meaning at (blanks ++ spelled ++ behind) (token (at + length blanks) ∷ tokens)
-read_next class_of meaning at blanks spelled behind token tokens blank h reads =
+    → All (λ c. is_blank (class_of c) ≡ true) blanks → IsTokenAs class_of meaning token spelled past
+    → ReadsAs class_of meaning (at + length blanks + length spelled) past tokens
+    → ReadsAs class_of meaning at (blanks ++ spelled ++ past) (token (at + length blanks) ∷ tokens)
+read_next class_of meaning at blanks spelled past token tokens blank h reads =
     let raw : RawToken = record { kind = h.kind; place = at + length blanks; text = h.text } in (
       raw ∷ reads.0,
       (
-        behind,
+        past,
         at + length blanks + length spelled,
         record { blanks = blanks; spelled = spelled; parts = refl; blank = blank; place = refl; is = h.is },
-        omega (arith, length-append (blanks ++ spelled) behind, length-append blanks spelled),
+        omega (arith, length-append (blanks ++ spelled) past, length-append blanks spelled),
         reads.1,
       ),
       ap (λ others. token (at + length blanks) ∷ others) reads.2

@@ -7,7 +7,7 @@
 //! ```text
 //! let mut at = 0;
 //! while let Some((token, end)) = next_token::<ListLexicon>(alloc, text, at)? {
-//!     at = end; // behind the token, which stands at `token.place`
+//!     at = end; // after the token, which stands at `token.place`
 //! }
 //! ```
 #![tactic(auto)]

@@ -13,7 +13,7 @@ use std::marker::Model;
 /// What a token is.
 #[derive(Clone, Copy, Debug, PartialEq, Eq)]
 pub enum Kind {
-    /// A letter, and the letters, digits and inner bytes behind it.
+    /// A letter, and the letters, digits and inner bytes after it.
     Word,
     /// Digits.
     Number,
@@ -21,9 +21,9 @@ pub enum Kind {
     Alone(u8),
     /// A text in this quote.
     Quoted(u8),
-    /// A byte that begins no token. Nothing is read behind it.
+    /// A byte that begins no token. Nothing is read after it.
     Wrong,
-    /// This quote, and what stands behind it, which it never closes.
+    /// This quote, and what stands after it, which it never closes.
     Unclosed(u8),
 }
 
@@ -45,7 +45,7 @@ impl Model for Token {
     ghost view = { λ t. record { kind = t.kind; place = t.place; text = t.text.items } };
 }
 
-/// The first token from this place on, and the place behind it, or `None` where only blanks are left. Takes memory for
+/// The first token from this place on, and the place after it, or `None` where only blanks are left. Takes memory for
 /// what the token says.
 pub fn next_token<L: Lexicon>(
     alloc: Global,

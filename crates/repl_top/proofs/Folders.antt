@@ -8,8 +8,8 @@ use Rattle.std.specs.declared.alloc.Global.{Global}
 use Rattle.repl_args.specs.Words.{texts}
 use Rattle.repl_top.specs.Words.{IsFolder}
 
--- the word behind a first word `-D`
+-- the word after a first word `-D`
 pub led_folder : (words : List (String Global)) (first folder : List ℕ) → 1 < length words → first ≡ get_or (texts words) 0 []
     → true ≡ bytes_eq first (codes "-D") → folder ≡ get_or (texts words) 1 [] → IsFolder (texts words) folder
-led_folder words first folder long is named behind =
-    inl ((subst (λ (n : ℕ). 1 < n) (sym (length-map words string_bytes)) long, sym is ∙ (bytes_eq-Decides first (codes "-D")).0 (sym named)), behind)
+led_folder words first folder long is named past =
+    inl ((subst (λ (n : ℕ). 1 < n) (sym (length-map words string_bytes)) long, sym is ∙ (bytes_eq-Decides first (codes "-D")).0 (sym named)), past)

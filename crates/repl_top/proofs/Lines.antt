@@ -87,14 +87,14 @@ history_line words line own read is =
 
 -- the tail of `init`
 pub init_tail : (words : List (List ℕ)) (line : Line Command) → IsReadOf IsWordOf the_table init_form words line
-    → IsTail IsWordOf (tail_maybe kind.Magic) (drop line.behind words)
+    → IsTail IsWordOf (tail_maybe kind.Magic) (drop line.past words)
 init_tail words line read =
     subst (λ w. IsTail IsWordOf (tail_maybe kind.Magic) w) (sym (rest_that_was_read IsWordOf the_table init_form words line read))
     read.is_line.rest_is
 
 pub init_line : (words : List (List ℕ)) (line : Line Command) (role : Role) (sysid magic : ℕ)
     → IsReadOf IsWordOf the_table init_form words line → IsRole (get_or words (line.first + 1) []) role
-    → IsSystem (get_or words (line.first + 2) []) sysid → SaysMagic (drop line.behind words) magic
+    → IsSystem (get_or words (line.first + 2) []) sysid → SaysMagic (drop line.past words) magic
     → IsTask words (task.Init role sysid magic)
 init_line words line role sysid magic read role_is system magic_is =
     let l = read.is_line in

@@ -6,7 +6,7 @@ use Rattle.repl_args.specs.Lines.{IsTail}
 use Rattle.repl_top.specs.declared.kinds.Word.TheVariants as kind
 use Rattle.repl_top.specs.Words.{IsMagic, IsWordOf, SaysMagic}
 
--- of one word, and of that with others behind it, the first is the same
+-- of one word, and of that with others after it, the first is the same
 first_is_one : (a b : List ℕ) (rest : List (List ℕ)) → a ∷ rest ≡ b ∷ [] → a ≡ b
 first_is_one a b rest same = ap (λ (words : List (List ℕ)). get_or words 0 []) same
 

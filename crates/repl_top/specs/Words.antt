@@ -107,7 +107,7 @@ the_table = record {
 abbrev pub LineOf : Command → List (List ℕ) → Type 0
 LineOf c words = IsLineOf IsWordOf the_table (form_of c) words
 
--- the magic number that stands behind the arguments, or else that of PostgreSQL 17
+-- the magic number that stands after the arguments, or else that of PostgreSQL 17
 abbrev pub SaysMagic : List (List ℕ) → ℕ → Type 0
 SaysMagic rest magic = ((rest ≡ []) × (magic ≡ MAGIC)) ⊎ ((word : List ℕ) × (rest ≡ word ∷ []) × IsMagic word magic)
 
@@ -139,7 +139,7 @@ UsesDisk words asked = ((t : Task) × IsTask words t × (asked ≡ disk_use t)) 
 
 -- ---- the folder
 
--- a word stands behind a first word `-D`
+-- a word stands after a first word `-D`
 abbrev pub IsLed : List (List ℕ) → Type 0
 IsLed words = (1 < length words) × (get_or words 0 [] ≡ codes "-D")
 

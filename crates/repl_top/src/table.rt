@@ -16,7 +16,7 @@ pub(crate) enum Command {
     Check,
 }
 
-/// The forms of the commands, each behind `[-D DIR]`.
+/// The forms of the commands, each after `[-D DIR]`.
 pub(crate) const TABLE: Table<'static, Word, Command> = Table {
     lead: Some(OptionForm {
         name: "-D",

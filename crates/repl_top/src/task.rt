@@ -65,7 +65,7 @@ pub(crate) fn read_task(words: &[String]) -> Result<Task<'_>, usize>
         Command::Init => Ok(Task::Init {
             role: role_at(words, first + 1),
             sysid: system_at(words, first + 2),
-            magic: magic_behind(words, line.behind),
+            magic: magic_past(words, line.past),
         }),
         Command::Status => Ok(Task::Status),
         Command::Check => Ok(Task::Check),
@@ -128,7 +128,7 @@ fn role_at(words: &[String], place: usize) -> Role
 }
 
 /// The magic number that stands there, or that of PostgreSQL 17 where the words end.
-fn magic_behind(words: &[String], place: usize) -> u16
+fn magic_past(words: &[String], place: usize) -> u16
     requires { IsTail IsWordOf (tail_maybe kind.Magic) (drop place (texts words.now)) }
     ensures { SaysMagic (drop place (texts words.now)) result }
 {

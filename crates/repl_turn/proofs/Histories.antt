@@ -166,7 +166,7 @@ module _ {E R : Type 0} where
     others = no_more ns b.rest (e ∷ []) b.others (calls_of_other ns e other);
   }
 
-  -- what stands between two beginnings, and behind the longer
+  -- what stands between two beginnings, and after the longer
   pub between : (ns : List ℕ) (xs ys log : List (Entry E R)) → Begins ns xs log → (p : IsPrefix xs ys) → (q : IsPrefix ys log)
       → (calls_by ns p.0 ≡ []) × (calls_by ns q.0 ≡ [])
   between ns xs ys log b p q =

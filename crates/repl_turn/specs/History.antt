@@ -88,7 +88,7 @@ module _ {S E R : Type 0} where
       pub turn : q.turn ≡ p.turn
       pub numbers : q.numbers ≡ p.numbers
 
-    -- What the pass has seen, and what other passes made behind it, led from the opening state to this one
+    -- What the pass has seen, and what other passes made after it, led from the opening state to this one
     pub record Ends (p : Known S E R) (y : S) : Type 0 where
       pub opening : S
       pub opened : p.turn.opening ≡ Some opening

@@ -2,7 +2,7 @@
 //
 // No wake-up is missed, where who waits calls `listen`, then looks whether what it waits for has come, and only if not
 // calls `sleep`, and who makes it come does so first and then calls `ring`. Each step is sequentially consistent.
-// If it comes before that look, the look finds it. If it comes behind it, `ring` reads the word behind `listen`, so it
+// If it comes before that look, the look finds it. If it comes after it, `ring` reads the word after `listen`, so it
 // finds it odd, or higher than `listen` left it: in the first case it raises the word and then wakes all sleepers, in
 // the second another ring has raised it since. So the word differs from what `sleep` was given, and the thread does
 // not fall asleep, or it slept before the word was raised and the wake reaches it. The comparison takes the low half of
@@ -18,7 +18,7 @@ const LOW_HALF: u64 = 1 << 32;
 
 // How long who waits for the turn looks, and finds nothing new, before it sleeps, counted in pauses of the processor, of
 // some 10 to 50 nanoseconds. That is about what a sleep and its wake-up cost, so who sleeps in the end has lost as much
-// again. With less, one event that is late puts all to sleep who wait, and each event behind it waits for a wake-up.
+// again. With less, one event that is late puts all to sleep who wait, and each event after it waits for a wake-up.
 pub(crate) const FOR_TURN: u32 = 400;
 
 // The same of who waits for a change, which is seldom near.

@@ -106,7 +106,7 @@ impl<M: Machine> Turn<M> {
         self.table.shared.fetch_add::<Give<J>>(token, SERVED, 1)
     }
 
-    // Wakes who waits with this ticket, which is served now. Where events are short it wakes the one behind it too, so
+    // Wakes who waits with this ticket, which is served now. Where events are short it wakes the one after it too, so
     // that it is awake when its turn comes: else, once all are asleep, each event would wait for a wake-up. It tries that
     // now and then, and goes on with it as long as it is of use. Where the event before was not quiet, it wakes all who
     // wait for a change.
@@ -132,7 +132,7 @@ impl<M: Machine> Turn<M> {
         ensures watched { Watched M.steps token.old.me result token.new.me }
     {
         for _ in rt.forever() {
-            self.sleep_behind(rt, count);
+            self.sleep_past(rt, count);
             let found = self.table.shared.load::<Watch>(token, SERVED);
             if found > count {
                 return found;
@@ -141,8 +141,8 @@ impl<M: Machine> Turn<M> {
         unreachable!()
     }
 
-    // Sleeps until a loud event is made behind the first `count`.
-    fn sleep_behind<R: Wait>(&self, rt: &R, count: u64) {
+    // Sleeps until a loud event is made after the first `count`.
+    fn sleep_past<R: Wait>(&self, rt: &R, count: u64) {
         let mut patience = Patience::new(FOR_CHANGE);
         for _ in rt.forever() {
             let loud = self.loud.load(SeqCst);

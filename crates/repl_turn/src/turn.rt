@@ -24,7 +24,7 @@ pub struct Turn<M: Machine> {
     pub(crate) early: AtomicU64,
     // Who waits for a change sleeps on this one.
     pub(crate) change: Bell,
-    // How long the history was behind the last event that was not quiet.
+    // How long the history was after the last event that was not quiet.
     pub(crate) loud: AtomicU64,
 }
 

@@ -25,7 +25,7 @@ some_bytes head is =
     let below = div-mul-le_self head.control.whole head.size in
     omega (arith, length-replicate {A = ℕ} (head.control.flushed - head.control.floor) 0, is.right.floor.2, is.right.whole.2, below)
 
--- a walker that has gone through what is flushed behind the whole end, and found no further record
+-- a walker that has gone through what is flushed past the whole end, and found no further record
 pub fresh_runs : (head : Head) (w : Walker) (n : LogState) → IsSegSize head.size → IsControl head.size head.control → head.written ≡ head.control.flushed
     → BeginsAs head n
     → identity w ≡ ident_of n → HasWalked w (timeline_of n) (whole_end n) (start_kept n) (tail_of n) → last_end w ≡ whole_end n → Runs head w n
@@ -76,7 +76,7 @@ fresh_runs head w n size_is right written begins of_log walked ends =
           omega (arith, ends, whole, flushed, all, same));
     }
 
--- where nothing is flushed behind the whole end, a new walker has gone through that
+-- where nothing is flushed past the whole end, a new walker has gone through that
 pub begun_runs : (head : Head) (w : Walker) (n : LogState) (status : StoreStatus) → IsSegSize head.size → IsControl head.size head.control
     → head.written ≡ head.control.flushed → head.control.whole ≡ head.control.flushed → BeginsAs head n → status ≡ status_of head
     → ((timeline : ℕ → ℕ) → Stands w timeline status.whole status.prev []) → identity w ≡ status.ident → Runs head w n

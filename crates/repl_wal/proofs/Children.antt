@@ -32,9 +32,9 @@ one_more_by path child last long is own =
       front = take count child.parents;
       last = last;
       parts = sym (take-append-drop count child.parents)
-          ∙ ap (λ (behind : List Part). take count child.parents ++ behind) (drop_more child.parents count last (omega (arith, long))
+          ∙ ap (λ (past : List Part). take count child.parents ++ past) (drop_more child.parents count last (omega (arith, long))
           ∙ ap (λ (p : Part). p ∷ drop (count + 1) child.parents) (sym is)
-          ∙ ap (λ (behind : List Part). last ∷ behind) none);
+          ∙ ap (λ (past : List Part). last ∷ past) none);
       own = own;
       count = length-take-le count child.parents (omega (arith, long));
     }

@@ -89,7 +89,7 @@ module _ {A D E : Type 0} (disk new : DiskState) (old : HeldLog E) (now : Held E
         moments = left_moments disk new old n (Err copy.SourceFault) holds none lasts;
       }
 
-  left_behind : (f : CopyFault) (d : D) (before : StoreStatus) → Holds disk old n → old.stopped ≡ None → before ≡ status_of old.store.head
+  left_past : (f : CopyFault) (d : D) (before : StoreStatus) → Holds disk old n → old.stopped ≡ None → before ≡ status_of old.store.head
       → now.head ≡ old.store.head → BreaksSource {A = Unit {0}} (Err f) old.store.broken now.broken
       → ((s : State) → Backs disk old.store.head s → Lasts {A = Unit {0}} (Err f) disk new old.store.head s)
       → LeavesSource {A = A} (Err (of_copy f, d)) disk new (record {
@@ -97,17 +97,17 @@ module _ {A D E : Type 0} (disk new : DiskState) (old : HeldLog E) (now : Held E
         walker = old.walker;
         stopped = source_stopped f old.stopped before;
       }) n
-  left_behind copy.SourceFault d before holds none told same breaks lasts = left_broken d before holds none told same lasts
-  left_behind copy.Exists d before holds none told same breaks lasts =
+  left_past copy.SourceFault d before holds none told same breaks lasts = left_broken d before holds none told same lasts
+  left_past copy.Exists d before holds none told same breaks lasts =
       left_as_it_was (Err (fault.Exists, d)) (Err copy.Exists) (λ e. cc) holds none same breaks lasts
-  left_behind copy.DiskFault d before holds none told same breaks lasts =
+  left_past copy.DiskFault d before holds none told same breaks lasts =
       left_as_it_was (Err (fault.DiskFault, d)) (Err copy.DiskFault) (λ e. cc) holds none same breaks lasts
-  left_behind (copy.HistoryTooLong have) d before holds none told same breaks lasts =
+  left_past (copy.HistoryTooLong have) d before holds none told same breaks lasts =
       left_as_it_was (Err (fault.HistoryFull have, d)) (Err (copy.HistoryTooLong have)) (λ e. cc) holds none same breaks lasts
-  left_behind copy.Memory d before holds none told same breaks lasts =
+  left_past copy.Memory d before holds none told same breaks lasts =
       left_as_it_was (Err (fault.Memory, d)) (Err copy.Memory) (λ e. cc) holds none same breaks lasts
 
-  -- behind a copy that was refused
+  -- after a copy that was refused
   pub left_refused : (f : CopyFault) (d : D) (before : StoreStatus) (e : NodeFault) (stopped : Option StoreStatus) → Holds disk old n
       → old.stopped ≡ None → before ≡ status_of old.store.head → now.head ≡ old.store.head
       → BreaksSource {A = Unit {0}} (Err f) old.store.broken now.broken
@@ -121,7 +121,7 @@ module _ {A D E : Type 0} (disk new : DiskState) (old : HeldLog E) (now : Held E
         stopped = s;
       }) n in
       subst (λ (e : NodeFault). Left e stopped) (sym answer)
-      (subst (Left (of_copy f)) (sym is) (left_behind f d before holds none told same breaks lasts))
+      (subst (Left (of_copy f)) (sym is) (left_past f d before holds none told same breaks lasts))
 
 -- a source that was not called
 pub left_untouched : {A D E : Type 0} (answer : Result A (NodeFault × D)) (disk : DiskState) (old : HeldLog E) (n : LogState)
@@ -153,7 +153,7 @@ of_long copy.SourceFault e have answer is = absurd cc
 of_long copy.DiskFault e have answer is = absurd cc
 of_long copy.Memory e have answer is = absurd cc
 
--- the folder that is told behind some calls
+-- the folder that is told after some calls
 pub told_on : (old new : ToldFiles) → is_some new ≡ is_some old → IsSome old → (folder : Folder) × (new ≡ Some folder)
 told_on None new same some = absurd (let k = some in cc)
 told_on (Some f) None same some = absurd cc
@@ -163,7 +163,7 @@ told_on (Some f) (Some folder) same some = (folder, refl)
 abbrev pub AllStand : ℕ → Durable → DiskState → Folder → Type 0
 AllStand size d disk folder = StandsFor size folder d × ((image : Folder) → disk.may_leave image → StandsFor size image d)
 
--- ---- behind a copy that was made
+-- ---- after a copy that was made
 
 pub if_ok : {A E : Type 0} (result : Result A E) (P Q : A → Type 0) → ((x : A) → P x → Q x) → IfOk result P → IfOk result Q
 if_ok (Ok x) P Q leads h = leads x h
@@ -202,7 +202,7 @@ all_stand source old before mid n known holds none told size heard stand =
     subst (λ (k : ℕ). IfTold mid.files (AllStand k (copied n.kept.durable known) mid)) (runs.2.size ∙ size)
     (stand n.kept known (holds.backs told runs.0) own)
 
--- the folder behind the copy of a known source
+-- the folder after the copy of a known source
 pub known_copy : {E : Type 0} (source : DiskState) (old : HeldLog E) (before mid : DiskState) (n : LogState) (known : ℕ)
     → IsKnownSource source old before n known → old.stopped ≡ None → is_some mid.files ≡ is_some before.files
     → ((s : State) (known : ℕ) → Backs source old.store.head s

@@ -7,7 +7,7 @@ use Rattle.repl_control.specs.declared.control.Role.{Role}
 use Rattle.repl_control.specs.declared.control.Role.TheVariants.{Primary, Standby}
 use Rattle.repl_disk.specs.State.{DiskState}
 use Rattle.repl_lsn.specs.History.{Path, last_switch}
-use Rattle.repl_record.specs.Walker.{Stands as StandsBehind, identity}
+use Rattle.repl_record.specs.Walker.{Stands as StandsPast, identity}
 use Rattle.repl_record.specs.declared.walker.Walker.{Walker}
 use Rattle.repl_store.specs.Backing.{Backs, Breaks, CanSwitch, IsCaused, LeavesOne, State, heard, switched, switched_control, Comes as StoreComes}
 use Rattle.repl_store.specs.Durable.{Durable}
@@ -61,7 +61,7 @@ can_switch head w n child is runs can =
       short = can.short;
     }
 
--- ---- behind it
+-- ---- after it
 
 -- what the store's call comes to
 abbrev pub Switches : Result (Unit {0}) StoreFault → DiskState → DiskState → Head → Head → Path → ℕ → ℕ → Type 0
@@ -122,7 +122,7 @@ followed_at : {D : Type 0} (disk new : DiskState) (old : HeldLog D) (now : Held 
     (last_switch child.parents)
     → Breaks {A = Unit {0}} (Ok tt) old.store.broken now.broken
     → Switches (Ok tt) disk new old.store.head now.head child (whole_end n) (start_kept n) → IsHead now.head → after ≡ status_of now.head
-    → ((timeline : ℕ → ℕ) → StandsBehind next timeline after.whole after.prev []) → identity next ≡ after.ident
+    → ((timeline : ℕ → ℕ) → StandsPast next timeline after.whole after.prev []) → identity next ≡ after.ident
     → Comes {A = Unit {0}} (Ok tt) disk new (record { store = now; walker = next; stopped = old.stopped }) n (Follows n child (Ok tt))
     (FollowLeaves n child)
 followed_at disk new old now next n child after holds none is can stands breaks comes is_new told begun of_log =
@@ -158,7 +158,7 @@ pub followed_comes : {D : Type 0} (disk new : DiskState) (old : HeldLog D) (now 
     (last_switch child.parents)
     → Breaks {A = Unit {0}} (Ok tt) old.store.broken now.broken
     → Switches (Ok tt) disk new old.store.head now.head child status.whole status.prev → IsHead now.head → after ≡ status_of now.head
-    → ((timeline : ℕ → ℕ) → StandsBehind next timeline after.whole after.prev []) → identity next ≡ after.ident
+    → ((timeline : ℕ → ℕ) → StandsPast next timeline after.whole after.prev []) → identity next ≡ after.ident
     → Comes {A = Unit {0}} (Ok tt) disk new (record { store = now; walker = next; stopped = old.stopped }) n (Follows n child (Ok tt))
     (FollowLeaves n child)
 followed_comes {D} disk new old now next n child status after holds none is told can stands breaks comes is_new told_new begun of_log =

@@ -1,4 +1,4 @@
--- A floor that a trim raises is right, and the log goes on behind it.
+-- A floor that a trim raises is right, and the log goes on after it.
 use Rattle.std.proofs.Common.{◌≡◌, ℕ, ◌+◌, ◌-◌, ◌*◌, ◌/◌, ◌%◌, ◌<◌, ◌≤◌, max, min, Option, Some, None, List, length, take, drop, sym, ap, ◌∙◌, subst, inl, inr, arith, length-drop}
 use Rattle.std.proofs.Math.Nat.{div-mul-le_self, mod_self, mul-le-mul_right, mul-mod_left}
 use Rattle.std.proofs.lemmas.Bool.{cases_lt}
@@ -82,7 +82,7 @@ can_raise head w n restart keep is runs =
       },
     )
 
--- ---- the log behind it
+-- ---- the log after it
 
 raised_tail : (n : LogState) (floor : ℕ) → floor_of n ≤ floor → floor ≤ whole_end n → whole_end n ≤ flushed_end n
     → floor_of n + length n.kept.durable.bytes ≡ flushed_end n → tail_of (raised_log n floor) ≡ tail_of n

@@ -3,15 +3,15 @@ use Rattle.std.proofs.Common.{◌≡◌, ℕ, ◌+◌, ◌-◌, ◌%◌, ◌<◌
 use Rattle.std.specs.Int.{next_multiple_of}
 use Rattle.repl_lsn.specs.Segment.{IsSegSize}
 use Rattle.repl_page.specs.declared.ident.Ident.{Ident}
-use Rattle.repl_record.specs.Length.{image_end, position_behind}
+use Rattle.repl_record.specs.Length.{image_end, position_past}
 use Rattle.repl_record.specs.Log.{RecordEnd, IsWholeEnd, origin, next}
 use Rattle.repl_record.specs.Record.{start_of}
-use Rattle.repl_record.proofs.ImageLength.{position_behind-least, same_image_end}
+use Rattle.repl_record.proofs.ImageLength.{position_past-least, same_image_end}
 use Rattle.repl_record.proofs.LogChains.{same_last}
 
-start_behind : (size at n : ℕ) → start_of size at < position_behind size at (suc n)
-unfolding position_behind
-start_behind size at n = let least = position_behind-least size (start_of size at + 1) n in omega (arith, least)
+start_past : (size at n : ℕ) → start_of size at < position_past size at (suc n)
+unfolding position_past
+start_past size at n = let least = position_past-least size (start_of size at + 1) n in omega (arith, least)
 
 rounded_least : (position : ℕ) → position ≤ next_multiple_of position 8
 rounded_least position = omega arith
@@ -20,9 +20,9 @@ rounded_least position = omega arith
 pub start_before : (size at body : ℕ) → start_of size at < image_end size at body
 start_before size at body =
     let more : suc (23 + body) ≡ 24 + body = omega arith in
-    let behind : start_of size at < position_behind size at (24 + body) = subst (λ (k : ℕ). start_of size at
-    < position_behind size at k) more (start_behind size at (23 + body)) in
-    omega (arith, behind, rounded_least (position_behind size at (24 + body)))
+    let past : start_of size at < position_past size at (24 + body) = subst (λ (k : ℕ). start_of size at
+    < position_past size at k) more (start_past size at (23 + body)) in
+    omega (arith, past, rounded_least (position_past size at (24 + body)))
 
 pub starts_before : (ident : Ident) (timeline : ℕ → ℕ) (from prev : ℕ) (log : List ℕ) (end last : ℕ) → IsSegSize ident.size → prev < from
     → RecordEnd ident timeline from prev log end last → last < end

@@ -1,4 +1,4 @@
--- Going through what is flushed behind the whole end.
+-- Going through what is flushed past the whole end.
 use Rattle.std.proofs.Common.{◌≡◌, ℕ, ◌+◌, ◌-◌, ◌%◌, ◌≤◌, List, [], ◌++◌, length, take, drop, replicate, false, refl, sym, ap, ◌∙◌, subst, inl, inr, arith, append-nil, length-append, length-drop}
 use Rattle.std.proofs.Math.Nat.{div-mul-le_self}
 use Rattle.std.proofs.Math.Seq.{drop-append_seam, take-add}
@@ -23,7 +23,7 @@ use Rattle.repl_store.specs.declared.fault.StoreFault.{StoreFault}
 use Rattle.repl_store.specs.declared.fault.StoreFault.TheVariants as store
 use Rattle.repl_store.specs.declared.store.StoreStatus.{StoreStatus}
 use Rattle.repl_wal.specs.Holding.{Runs}
-use Rattle.repl_wal.specs.Making.{BeginsAs, HasTaken, IsWrongBehind, IsWrongTail, TakenOf, mounted_log}
+use Rattle.repl_wal.specs.Making.{BeginsAs, HasTaken, IsWrongPast, IsWrongTail, TakenOf, mounted_log}
 use Rattle.repl_wal.specs.State.{LogState, ident_of, tail_of}
 use Rattle.repl_wal.specs.declared.fault.NodeFault.{NodeFault}
 use Rattle.repl_wal.specs.declared.fault.NodeFault.TheVariants as fault
@@ -38,8 +38,8 @@ of_disk f (inr (inl failed)) sound = subst IsOfDisk (sym failed) tt
 of_disk f (inr (inr memory)) sound = subst IsOfDisk (sym memory) tt
 
 -- what is wrong stays wrong where more bytes follow
-wrong_more : (ident : Ident) (timeline : ℕ → ℕ) (whole prev : ℕ) (log more : List ℕ) (e : NodeFault) → IsWrongBehind ident timeline whole prev log e
-    → IsWrongBehind ident timeline whole prev (log ++ more) e
+wrong_more : (ident : Ident) (timeline : ℕ → ℕ) (whole prev : ℕ) (log more : List ℕ) (e : NodeFault) → IsWrongPast ident timeline whole prev log e
+    → IsWrongPast ident timeline whole prev (log ++ more) e
 wrong_more ident timeline whole prev log more (fault.BadControl place) is = (
   is.0,
   (is.1.0, is.1.1, is.1.2, kept_by_more ident timeline whole prev log more is.1.0 is.1.1 is.1.3),
@@ -51,7 +51,7 @@ wrong_more ident timeline whole prev log more e is = absurd is
 
 pub on_path : (head : Head) (status : StoreStatus) (at count : ℕ) → IsHead head → status ≡ status_of head → head.control.whole ≤ at
     → AreOn (timeline_at head.path) status.tli at count
-on_path head status at count is told behind page is_page from below = own_from head page is (omega (arith, behind, from))
+on_path head status at count is told past page is_page from below = own_from head page is (omega (arith, past, from))
     ∙ sym (ap (λ (s : StoreStatus). s.tli) told)
 
 pub taken_on : (head : Head) (status : StoreStatus) (w next : Walker) (piece : List ℕ) → HasTaken head w → IsHead head → status ≡ status_of head
@@ -59,12 +59,12 @@ pub taken_on : (head : Head) (status : StoreStatus) (w next : Walker) (piece : L
     → HasWalked next timeline from prev (log ++ piece))
     → position next ≡ position w + length piece → last_end next ≡ status.whole → identity next ≡ identity w → HasTaken head next
 taken_on head status w next piece has is told goes on none same =
-    let behind : head.control.whole ≤ position w = omega (arith, has.behind) in
+    let past : head.control.whole ≤ position w = omega (arith, has.past) in
     record {
       taken = has.taken ++ piece;
       walked = goes (timeline_at head.path) head.control.whole head.control.prev has.taken has.walked (on_path head status (position w)
-          (length piece) is told behind);
-      behind = omega (arith, on, has.behind, length-append has.taken piece);
+          (length piece) is told past);
+      past = omega (arith, on, has.past, length-append has.taken piece);
       none = none ∙ ap (λ (s : StoreStatus). s.whole) told;
       ident = same ∙ has.ident;
     }
@@ -80,16 +80,16 @@ piece_next : (head : Head) (s : State) (at : ℕ) (piece : List ℕ) → head.co
     → piece ≡ take (length piece) (drop (at - head.control.floor) (log s))
     → take (at - head.control.whole) (drop (head.control.whole - head.control.floor) (log s)) ++ piece
     ≡ take (at + length piece - head.control.whole) (drop (head.control.whole - head.control.floor) (log s))
-piece_next head s at piece low behind is =
+piece_next head s at piece low past is =
     let whole = head.control.whole in
     let floor = head.control.floor in
     let tail = drop (whole - floor) (log s) in
     let m = at - whole in
     let n = length piece in
-    let way : (whole - floor) + m ≡ at - floor = omega (arith, low, behind) in
+    let way : (whole - floor) + m ≡ at - floor = omega (arith, low, past) in
     let rest : drop m tail ≡ drop (at - floor) (log s) = drop-drop m (whole - floor) (log s) ∙ ap (λ (k : ℕ). drop k (log s)) (omega (arith, way)) in
     let next : piece ≡ take n (drop m tail) = is ∙ ap (take n) (sym rest) in
-    let all : at + n - whole ≡ m + n = omega (arith, behind) in
+    let all : at + n - whole ≡ m + n = omega (arith, past) in
     ap (λ (l : List ℕ). take m tail ++ l) next ∙ sym (ap (λ (k : ℕ). take k tail) all ∙ take-add m n tail)
 
 pub taken_of_on : (head : Head) (status : StoreStatus) (w next : Walker) (s : State) (piece : List ℕ) → HasTaken head w → IsHead head
@@ -99,51 +99,51 @@ pub taken_of_on : (head : Head) (status : StoreStatus) (w next : Walker) (s : St
     → position next ≡ position w + length piece → piece ≡ take (length piece) (drop (position w - head.control.floor) (log s)) → TakenOf s head w
     → TakenOf s head next
 taken_of_on head status w next s piece has is told goes on read taken =
-    let behind : head.control.whole ≤ position w = omega (arith, has.behind) in
+    let past : head.control.whole ≤ position w = omega (arith, has.past) in
     let below = div-mul-le_self head.control.whole head.size in
     let low : head.control.floor ≤ head.control.whole = omega (arith, is.right.floor.2, below) in
     let tl = timeline_at head.path in
     let tail = drop (head.control.whole - head.control.floor) (log s) in
     let walked = goes tl head.control.whole head.control.prev (take (position w - head.control.whole) tail) taken (on_path head status (position w)
-    (length piece) is told behind) in
+    (length piece) is told past) in
     subst (λ (p : ℕ). HasWalked next tl head.control.whole head.control.prev (take (p - head.control.whole) tail)) (sym on)
-    (subst (HasWalked next tl head.control.whole head.control.prev) (piece_next head s (position w) piece low behind read) walked)
+    (subst (HasWalked next tl head.control.whole head.control.prev) (piece_next head s (position w) piece low past read) walked)
 
 -- what is wrong in the log is wrong in what is flushed
 pub wrong_on : (disk : DiskState) (head : Head) (status : StoreStatus) (w : Walker) (s : State) (piece : List ℕ) (e : NodeFault) → HasTaken head w
     → IsHead head → status ≡ status_of head → Backs disk head s → position w + length piece ≤ head.control.flushed
     → ((timeline : ℕ → ℕ) (prev : ℕ) (log : List ℕ) → HasWalked w timeline status.whole prev log
-    → AreOn timeline status.tli (position w) (length piece) → IsWrongBehind (identity w) timeline status.whole prev (log ++ piece) e)
+    → AreOn timeline status.tli (position w) (length piece) → IsWrongPast (identity w) timeline status.whole prev (log ++ piece) e)
     → piece ≡ take (length piece) (drop (position w - head.control.floor) (log s)) → TakenOf s head w → IsWrongTail head.size s.durable e
 wrong_on disk head status w s piece e has is told backs within wrong read taken =
     let whole = head.control.whole in
     let floor = head.control.floor in
-    let behind : whole ≤ position w = omega (arith, has.behind) in
+    let past : whole ≤ position w = omega (arith, has.past) in
     let below = div-mul-le_self whole head.size in
     let low : floor ≤ whole = omega (arith, is.right.floor.2, below) in
     let tl = timeline_at head.path in
     let tail = drop (whole - floor) (log s) in
     let flushed = drop (whole - floor) s.durable.bytes in
     let same : status.whole ≡ whole = ap (λ (t : StoreStatus). t.whole) told in
-    let first : IsWrongBehind (identity w) tl status.whole head.control.prev (take (position w - whole) tail ++ piece) e = wrong tl head.control.prev
+    let first : IsWrongPast (identity w) tl status.whole head.control.prev (take (position w - whole) tail ++ piece) e = wrong tl head.control.prev
     (take (position w - whole) tail) (subst (λ (a : ℕ). HasWalked w tl a head.control.prev (take (position w - whole) tail)) (sym same) taken)
-    (on_path head status (position w) (length piece) is told behind) in
-    let here : IsWrongBehind (identity w) tl whole head.control.prev (take (position w - whole) tail ++ piece) e = subst (λ (a : ℕ).
-    IsWrongBehind (identity w) tl a head.control.prev (take (position w - whole) tail ++ piece) e) same first in
+    (on_path head status (position w) (length piece) is told past) in
+    let here : IsWrongPast (identity w) tl whole head.control.prev (take (position w - whole) tail ++ piece) e = subst (λ (a : ℕ).
+    IsWrongPast (identity w) tl a head.control.prev (take (position w - whole) tail ++ piece) e) same first in
     let k = position w + length piece - whole in
-    let front : take (position w - whole) tail ++ piece ≡ take k tail = piece_next head s (position w) piece low behind read in
+    let front : take (position w - whole) tail ++ piece ≡ take k tail = piece_next head s (position w) piece low past read in
     let parts : tail ≡ flushed ++ s.unflushed = drop-append-le (whole - floor) s.durable.bytes s.unflushed (omega (
       arith,
       backs.counted,
       is.right.whole.2,
       low,
     )) in
-    let enough : k ≤ length flushed = omega (arith, length-drop (whole - floor) s.durable.bytes, backs.counted, within, low, behind) in
+    let enough : k ≤ length flushed = omega (arith, length-drop (whole - floor) s.durable.bytes, backs.counted, within, low, past) in
     let cut : take k tail ≡ take k flushed = ap (take k) parts ∙ take-append-le k flushed s.unflushed enough in
-    let At : List ℕ → Type 0 = λ l. IsWrongBehind (identity w) tl whole head.control.prev l e in
+    let At : List ℕ → Type 0 = λ l. IsWrongPast (identity w) tl whole head.control.prev l e in
     let full : At flushed = subst At (take-append-drop k flushed) (wrong_more (identity w) tl whole head.control.prev (take k flushed)
     (drop k flushed) e (subst At (front ∙ cut) here)) in
-    let Of : Ident → Path → Control → Type 0 = λ i. λ p. λ c. IsWrongBehind i (timeline_at p) c.whole c.prev (drop (c.whole - c.floor)
+    let Of : Ident → Path → Control → Type 0 = λ i. λ p. λ c. IsWrongPast i (timeline_at p) c.whole c.prev (drop (c.whole - c.floor)
     s.durable.bytes) e in
     subst (λ (c : Control). Of (record { sysid = c.sysid; magic = c.magic; size = head.size }) s.durable.path c) (sym backs.control)
     (subst (λ (p : Path). Of (record { sysid = head.control.sysid; magic = head.control.magic; size = head.size }) p head.control) (sym backs.path)
@@ -170,20 +170,20 @@ module _ (head : Head) (status : StoreStatus) (w : Walker) (is : IsHead head) (t
       record {
         taken = [];
         walked = walked_none w (timeline_at head.path) head.control.whole head.control.prev is.right.whole.0 here;
-        behind = here.keeps.behind;
+        past = here.keeps.past;
         none = here.keeps.begins;
         ident = of_log ∙ ap (λ (s : StoreStatus). s.ident) told;
       }
 
   pub stood_at : position w ≡ head.control.whole
   stood_at =
-      let at : position w ≡ head.control.whole + length {A = ℕ} [] = (stood (timeline_at head.path)).keeps.behind in
+      let at : position w ≡ head.control.whole + length {A = ℕ} [] = (stood (timeline_at head.path)).keeps.past in
       omega (arith, at)
 
   pub taken_of_none : (s : State) → TakenOf s head w
   taken_of_none s =
       let here = stood (timeline_at head.path) in
-      let at : position w ≡ head.control.whole + length {A = ℕ} [] = here.keeps.behind in
+      let at : position w ≡ head.control.whole + length {A = ℕ} [] = here.keeps.past in
       let zero : position w - head.control.whole ≡ 0 = omega (arith, at) in
       let tail = drop (head.control.whole - head.control.floor) (log s) in
       let walked = walked_none w (timeline_at head.path) head.control.whole head.control.prev is.right.whole.0 here in
@@ -212,7 +212,7 @@ walked_state head w is has all written =
       size = refl;
       control = refl;
       path = refl;
-      counted = omega (arith, length-append front has.taken, long, has.behind, all, low);
+      counted = omega (arith, length-append front has.taken, long, has.past, all, low);
       flushed = refl;
       sound = refl;
     } in

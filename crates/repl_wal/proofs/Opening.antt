@@ -24,7 +24,7 @@ failed_of f e told is = absurd cc
 
 -- ---- counts
 
--- behind calls that did not fail
+-- after calls that did not fail
 pub opened_on : {A : Type 0} (result : Result A NodeFault) (old mid new : DiskState) → Stood old.faults mid.faults → Stood old.wants mid.wants
     → old.lacks ≤ mid.lacks → IsOpened result mid new → IsOpened result old new
 opened_on {A} result old mid new faults wants lacks more = record {
@@ -44,7 +44,7 @@ opened_on {A} result old mid new faults wants lacks more = record {
     others (Ok x) either = tt
     others (Err e) either = ⊎_elim inl (λ stood. inr (stood ∙ faults)) either
 
--- behind calls that only read and did not fail
+-- after calls that only read and did not fail
 pub opened_reads : {A B : Type 0} (x : B) (result : Result A NodeFault) (old mid new : DiskState) → Asks {A = B} (Ok x) old mid
     → IsOpened result mid new → IsOpened result old new
 opened_reads x result old mid new asks more = opened_on result old mid new asks.ok.0 asks.ok.1 asks.lacks more

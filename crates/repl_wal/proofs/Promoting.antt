@@ -133,8 +133,8 @@ module _ {D : Type 0} (disk mid : DiskState) (old : HeldLog D) (now : Held D) (n
         )
 
     -- the path was left last before the last whole record ended
-    pub behind : (path : Path) (whole : ℕ) → path ≡ now.head.path → whole ≡ last_end old.walker → last_switch path.parents ≤ whole
-    behind path whole path_is whole_is =
+    pub past : (path : Path) (whole : ℕ) → path ≡ now.head.path → whole ≡ last_end old.walker → last_switch path.parents ≤ whole
+    past path whole path_is whole_is =
         let m = marks old.store.head old.walker n begun.is runs_of.2 in
         let head = old.store.head in
         let ends : head.control.whole ≡ whole_end n = ap (λ (c : Control). c.whole) runs_of.2.control in

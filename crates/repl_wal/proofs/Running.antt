@@ -77,7 +77,7 @@ marks head w n is runs =
       starts = starts;
       counted = count;
       limit = omega (arith, is.written, runs.written);
-      position = omega (arith, runs.walked.stands.keeps.behind, length-drop (last_end w - whole_end n) (tail_of n), after, inside, count);
+      position = omega (arith, runs.walked.stands.keeps.past, length-drop (last_end w - whole_end n) (tail_of n), after, inside, count);
     }
 
 -- ---- the greatest record end
@@ -112,7 +112,7 @@ can_flush head w n role is runs ends =
       between_on head.size head.control.whole (last_end w) head.path.parents (omega (arith, m.after, same)) is.between,
     )
 
--- the log behind the new whole end
+-- the log past the new whole end
 flush_tail : (n : LogState) (role : Role) (end last : ℕ) → floor_of n ≤ whole_end n → whole_end n ≤ end
     → tail_of (flushed_log n role end last) ≡ drop (end - whole_end n) (tail_of n)
 flush_tail n role end last floor after =

@@ -63,7 +63,7 @@ module _ (head : Head) (role : Role) (tli switch : ℕ) (right : IsControl head.
     short = short;
   }
 
--- ---- the log behind it
+-- ---- the log after it
 
 -- a number that was heard of changes nothing in memory
 pub heard_runs : (head : Head) (w : Walker) (n : LogState) (tli : ℕ) → Runs head w n → Runs head w (heard_log n tli)

@@ -37,19 +37,19 @@ use Rattle.repl_wal.proofs.Running.{marks, walked_last}
 
 -- ---- timelines
 
--- behind all switch points a position is on the own timeline
-own_behind : (own : ℕ) (parts : List Part) (least most at : ℕ) → AreBetween least most parts → most ≤ at → holder own parts at ≡ own
-own_behind own [] least most at are behind = refl
-own_behind own (p ∷ ps) least most at are behind =
+-- past all switch points a position is on the own timeline
+own_past : (own : ℕ) (parts : List Part) (least most at : ℕ) → AreBetween least most parts → most ≤ at → holder own parts at ≡ own
+own_past own [] least most at are past = refl
+own_past own (p ∷ ps) least most at are past =
     let here = All-head (IsBetween least most) p ps are in
-    let low : p.switch ≤ at = omega (arith, here.1, behind) in
+    let low : p.switch ≤ at = omega (arith, here.1, past) in
     cond-false (nat_lt at p.switch) p.tli (holder own ps at) (le-ltb at p.switch low)
-    ∙ own_behind own ps least most at (All-tail (IsBetween least most) p ps are) behind
+    ∙ own_past own ps least most at (All-tail (IsBetween least most) p ps are) past
 
 pub own_from : (head : Head) (at : ℕ) → IsHead head → head.control.whole ≤ at → timeline_at head.path at ≡ head.control.tli
-own_from head at is behind = own_behind head.path.own head.path.parents head.size head.control.whole at is.between behind ∙ is.own
+own_from head at is past = own_past head.path.own head.path.parents head.size head.control.whole at is.between past ∙ is.own
 
--- ---- a piece behind the written end
+-- ---- a piece past the written end
 
 -- the log from the whole end on, with the piece
 tail_more : (n : LogState) (bytes : List ℕ) → floor_of n ≤ whole_end n → whole_end n ≤ flushed_end n
@@ -124,7 +124,7 @@ pub spelled_alike : (ident : Ident) (n : LogState) (tli total at : ℕ) (bytes :
     → HeadersAreSpelled ident (λ _. tli) total at bytes → HeadersAreSpelled ident (timeline_of n) total at bytes
 spelled_alike ident n tli total at bytes own spelled = λ page is from below. rw (own page from) (spelled page is from below)
 
--- a walker that begins behind a record's image has gone through the log with it
+-- a walker that begins after a record's image has gone through the log with it
 pub appended_walk : (head : Head) (w next : Walker) (n : LogState) (item : RecordIn) (bytes : List ℕ) → IsHead head → Runs head w n
     → last_end w ≡ written_end n → identity next ≡ ident_of n
     → IsImage (ident_of n) (timeline_of n) (written_end n) (last_start w) item bytes
@@ -172,10 +172,10 @@ appended_comes {D} disk new old now next n item status prev start end bytes give
     let m = marks head w n is runs.2 in
     let as_log : status ≡ status_of_log n = told ∙ same_status head w n runs.2 in
     let tli = own_timeline n in
-    let behind : head.control.whole ≡ whole_end n = ap (λ (k : Control). k.whole) runs.2.control in
+    let past : head.control.whole ≡ whole_end n = ap (λ (k : Control). k.whole) runs.2.control in
     let own : (page : ℕ) → written_end n ≤ page → timeline_of n page ≡ tli = λ page after.
     ap (λ (p : Path). timeline_at p page) (sym runs.2.path)
-    ∙ own_from head page is (omega (arith, behind, m.flushed, after))
+    ∙ own_from head page is (omega (arith, past, m.flushed, after))
     ∙ ap (λ (k : Control). k.tli) runs.2.control in
     let laid : IsImage (ident_of n) (λ _. tli) (written_end n) (last_start w) item bytes = subst (λ (p : ℕ). IsImage (ident_of n) (λ _. tli)
     (written_end n) p item bytes) prev_is (subst (λ (s : StoreStatus). IsImage s.ident (λ _. s.tli) s.written prev item bytes) as_log image) in
@@ -194,7 +194,7 @@ appended_comes {D} disk new old now next n item status prev start end bytes give
     subst (λ (e : ℕ). Stands next (timeline_of n) e (start_of n.size (written_end n)) []) ends
     (subst (λ (b : ℕ). Stands next (timeline_of n) end b []) starts (stands (timeline_of n))) in
     let walked = appended_walk head w next n item bytes is runs.2 last identified put stood in
-    let behind_last : EndsRecord n (written_end n) (last_start w) = subst (λ (e : ℕ). EndsRecord n e (last_start w)) last
+    let past_last : EndsRecord n (written_end n) (last_start w) = subst (λ (e : ℕ). EndsRecord n e (last_start w)) last
     (walked_last head w n is runs.2).is_end in
     let Given : List ℕ → Type 0 = λ l.
     IsAt head now.head (head.written + length l)
@@ -204,7 +204,7 @@ appended_comes {D} disk new old now next n item status prev start end bytes give
     bytes holds none is (primary, short, room) (record {
       bytes = bytes;
       last = last_start w;
-      behind = behind_last;
+      past = past_last;
       image = put;
       spelled = headed;
       ends = ends;
@@ -225,14 +225,14 @@ unlaid n item status e told sound primary is = absurd is
 
 -- ---- bytes of another node's log
 
--- the pages that begin in a piece behind the written end are on the own timeline
+-- the pages that begin in a piece past the written end are on the own timeline
 pub on_own : (head : Head) (w : Walker) (n : LogState) (tli count : ℕ) → IsHead head → Runs head w n → tli ≡ own_timeline n
     → AreOn (timeline_of n) tli (position w) count
 on_own head w n tli count is runs own page is_page from below =
     let m = marks head w n is runs in
-    let behind : head.control.whole ≡ whole_end n = ap (λ (k : Control). k.whole) runs.control in
+    let past : head.control.whole ≡ whole_end n = ap (λ (k : Control). k.whole) runs.control in
     ap (λ (p : Path). timeline_at p page) (sym runs.path)
-    ∙ own_from head page is (omega (arith, behind, m.flushed, m.position, from))
+    ∙ own_from head page is (omega (arith, past, m.flushed, m.position, from))
     ∙ ap (λ (k : Control). k.tli) runs.control
     ∙ sym own
 

@@ -16,7 +16,7 @@ of_store (store.ShortFile name have needed) = fault.ShortFile name have needed
 of_store store.DiskFault = fault.DiskFault
 of_store store.Memory = fault.Memory
 
--- what is remembered of a log behind a call that was refused so: all, where the disk failed
+-- what is remembered of a log after a call that was refused so: all, where the disk failed
 abbrev pub stopped_by : StoreFault → Option StoreStatus → StoreStatus → Option StoreStatus
 stopped_by store.DiskFault was before = Some before
 stopped_by e was before = was

@@ -32,7 +32,7 @@ pub record DifferFirst (path child : Path) (at : ℕ) (own theirs : Part) : Type
   pub same : take at (steps path) ≡ take at (steps child)
   pub differ : step own ≢ step theirs
 
--- the child leaves the path behind its own timeline
+-- the child leaves the path after its own timeline
 abbrev pub Leaves : Path → Path → Type 0
 Leaves path child = steps child ≡ steps path ++ record { tli = path.own; switch = last_switch child.parents } ∷ []
 
@@ -69,7 +69,7 @@ pub record CanFollow (n : LogState) (child : Path) : Type 0 where
   pub at_whole : last_switch child.parents ≡ whole_end n
   pub short : length (canonical child) ≤ HISTORY_LIMIT
 
--- the log goes on with the child; what was written or flushed behind the switch point, where whole records end, goes
+-- the log goes on with the child; what was written or flushed past the switch point, where whole records end, goes
 abbrev pub followed : LogState → Path → LogState
 followed n child = switched_log n child (role_of n) (whole_end n) (last_start n)
 

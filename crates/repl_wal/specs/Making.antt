@@ -5,7 +5,7 @@ use Rattle.repl_disk.specs.Folder.{Folder, ToldFiles}
 use Rattle.repl_disk.specs.State.{DiskState}
 use Rattle.repl_lsn.specs.Path.{timeline_at}
 use Rattle.repl_page.specs.declared.ident.Ident.{Ident}
-use Rattle.repl_walk.specs.Faults.{IsFaultBehind}
+use Rattle.repl_walk.specs.Faults.{IsFaultPast}
 use Rattle.repl_walk.specs.Walks.{HasWalked}
 use Rattle.repl_record.specs.Log.{RecordEnd}
 use Rattle.repl_record.specs.Walker.{identity, last_end, position}
@@ -41,7 +41,7 @@ pub record IsMadeOf {A : Type 0} (result : Result A NodeFault) (old new : DiskSt
   pub failed : result ≡ Err fault.DiskFault → Rose old.faults new.faults ⊎ ((old.files ≡ None) × Rose old.lacks new.lacks)
   pub others : IfErr result (λ e. (e ≡ fault.DiskFault) ⊎ Stood old.faults new.faults)
 
--- the state of a log that has nothing behind its last whole record, in such a store. Private clauses cite this.
+-- the state of a log that has nothing after its last whole record, in such a store. Private clauses cite this.
 pub record BeginsAs (head : Head) (n : LogState) : Type 0 where
   pub size : head.size ≡ n.size
   pub control : head.control ≡ n.kept.durable.control
@@ -55,23 +55,23 @@ pub record BeginsAs (head : Head) (n : LogState) : Type 0 where
 abbrev pub ident_in : ℕ → Durable → Ident
 ident_in size d = record { sysid = d.control.sysid; magic = d.control.magic; size = size }
 
--- what is flushed behind the whole end
+-- what is flushed past the whole end
 abbrev pub flushed_tail : Durable → List ℕ
 flushed_tail d = drop (d.control.whole - d.control.floor) d.bytes
 
--- In these bytes behind the whole end another record ends, so that the control is wrong there; or right behind it stands what is
+-- In these bytes past the whole end another record ends, so that the control is wrong there; or right after it stands what is
 -- no record.
-abbrev pub IsWrongBehind : Ident → (ℕ → ℕ) → ℕ → ℕ → List ℕ → NodeFault → Type 0
-IsWrongBehind ident timeline whole prev log (fault.BadControl place) = (place ≡ 32) × ((end : ℕ) × (last : ℕ) × (whole < end)
+abbrev pub IsWrongPast : Ident → (ℕ → ℕ) → ℕ → ℕ → List ℕ → NodeFault → Type 0
+IsWrongPast ident timeline whole prev log (fault.BadControl place) = (place ≡ 32) × ((end : ℕ) × (last : ℕ) × (whole < end)
     × RecordEnd ident timeline whole prev log end last)
-IsWrongBehind ident timeline whole prev log (fault.Damaged at why) = IsFaultBehind ident timeline whole prev log whole prev at why
-IsWrongBehind ident timeline whole prev log e = ⊥
+IsWrongPast ident timeline whole prev log (fault.Damaged at why) = IsFaultPast ident timeline whole prev log whole prev at why
+IsWrongPast ident timeline whole prev log e = ⊥
 
 abbrev pub IsWrongTail : ℕ → Durable → NodeFault → Type 0
-IsWrongTail size d e = IsWrongBehind (ident_in size d) (timeline_at d.path) d.control.whole d.control.prev (flushed_tail d) e
+IsWrongTail size d e = IsWrongPast (ident_in size d) (timeline_at d.path) d.control.whole d.control.prev (flushed_tail d) e
 
 -- The files stand for no store, or a call of the disk failed or memory was wanting, which may come over any files; or what is
--- flushed behind the whole end is wrong. What stands there is known where a crash leaves nothing else than the files that read so.
+-- flushed past the whole end is wrong. What stands there is known where a crash leaves nothing else than the files that read so.
 abbrev pub IsMountRefusal : ℕ → Folder → (Folder → Type 0) → NodeFault → Type 0
 IsMountRefusal size folder leaves e = ((f : StoreFault) × (e ≡ of_store f) × IsRefusal size folder f)
     ⊎ ((d : Durable) × StandsFor size folder d × (((image : Folder) → leaves image → StandsFor size image d) → IsWrongTail size d e))
@@ -93,7 +93,7 @@ pub record IsOpened {A : Type 0} (result : Result A NodeFault) (old new : DiskSt
   pub failed : result ≡ Err fault.DiskFault → Rose old.faults new.faults ⊎ Rose old.lacks new.lacks
   pub others : IfErr result (λ e. (e ≡ fault.DiskFault) ⊎ Stood old.faults new.faults)
 
--- Where a crash leaves nothing but what the files stand for, it only reads: a crash in it leaves that, and behind it too, and a
+-- Where a crash leaves nothing but what the files stand for, it only reads: a crash in it leaves that, and after it too, and a
 -- failure was counted as one.
 pub record OnlyOpens {A : Type 0} (result : Result A NodeFault) (old new : DiskState) (size : ℕ) (d : Durable) : Type 0 where
   pub moments : LeavesOne old new size (Only d)
@@ -106,7 +106,7 @@ pub record OnlyOpens {A : Type 0} (result : Result A NodeFault) (old new : DiskS
 pub record HasTaken (head : Head) (w : Walker) : Type 0 where
   pub taken : List ℕ
   pub walked : HasWalked w (timeline_at head.path) head.control.whole head.control.prev taken
-  pub behind : position w ≡ head.control.whole + length taken
+  pub past : position w ≡ head.control.whole + length taken
   pub none : last_end w ≡ head.control.whole
   pub ident : identity w ≡ record { sysid = head.control.sysid; magic = head.control.magic; size = head.size }
 

@@ -1,4 +1,4 @@
--- A promotion (PostgreSQL 17 manual, section "Timelines"): a standby begins a timeline of its own behind its last whole record.
+-- A promotion (PostgreSQL 17 manual, section "Timelines"): a standby begins a timeline of its own after its last whole record.
 use Rattle.std.specs.Prelude.{◌≡◌, ℕ, ◌+◌, ◌-◌, ◌^◌, ◌<◌, ◌≤◌, ◌⊎◌, max, true, [], ◌∷◌, ◌++◌, length, codes, Result}
 use Rattle.repl_control.specs.declared.control.Role.TheVariants.{Primary, Standby}
 use Rattle.repl_lsn.specs.declared.history.TheConstants.{HISTORY_LIMIT}
@@ -50,7 +50,7 @@ flushed_first n switch last = flushed_log n (role_of n) switch last
 abbrev pub promoted : LogState → ℕ → ℕ → ℕ → LogState
 promoted n tli switch last = switched_log (flushed_first n switch last) (child_of (path_of n) tli switch) Primary switch last
 
--- it is a primary's on the new timeline, which begins behind the last whole record; what was written behind that goes
+-- it is a primary's on the new timeline, which begins after the last whole record; what was written after that goes
 pub record IsPromoted (n : LogState) (at_least : ℕ) (answer : ℕ × ℕ) (m : LogState) : Type 0 where
   pub last : ℕ
   pub can : CanBegin n at_least answer.0 answer.1 last

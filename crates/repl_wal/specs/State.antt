@@ -18,7 +18,7 @@ use Rattle.repl_wal.specs.declared.wal.Identity.{Identity}
 pub record LogState : Type 0 where
   -- how many bytes a segment has
   pub size : ℕ
-  -- what a crash leaves, and the bytes that were written behind it
+  -- what a crash leaves, and the bytes that were written after it
   pub kept : State
   -- a call of the disk failed since the mount
   pub broken : Bool
@@ -70,11 +70,11 @@ timeline_of n = timeline_at n.kept.durable.path
 abbrev pub EndsRecord : LogState → ℕ → ℕ → Type 0
 EndsRecord n end last = RecordEnd (ident_of n) (timeline_of n) (whole_end n) (last_start n) (tail_of n) end last
 
--- the greatest record end in the log and in these bytes behind it
+-- the greatest record end in the log and in these bytes after it
 abbrev pub EndsLast : LogState → ℕ → ℕ → Type 0
 EndsLast n end last = IsWholeEnd (ident_of n) (timeline_of n) (whole_end n) (last_start n) (tail_of n) end last
 
--- with these bytes behind its written end the log is still a prefix of records
+-- with these bytes past its written end the log is still a prefix of records
 abbrev pub AreRecordsOn : LogState → List ℕ → Type 0
 AreRecordsOn n bytes = IsPrefixOfRecords (ident_of n) (timeline_of n) (whole_end n) (last_start n) (tail_of n ++ bytes)
 
@@ -90,7 +90,7 @@ pub record IsLog (n : LogState) : Type 0 where
   pub between : AreBetween n.size (whole_end n) n.kept.durable.path.parents
   pub counted : floor_of n + length n.kept.durable.bytes ≡ flushed_end n
   pub limit : written_end n ≤ 2 ^ 63
-  -- behind the whole end no record ends that is flushed, and all that is written is a prefix of records
+  -- past the whole end no record ends that is flushed, and all that is written is a prefix of records
   pub unended : IsWholeEnd (ident_of n) (timeline_of n) (whole_end n) (last_start n) (take (flushed_end n - whole_end n) (tail_of n))
       (whole_end n) (last_start n)
   pub records : IsPrefixOfRecords (ident_of n) (timeline_of n) (whole_end n) (last_start n) (tail_of n)

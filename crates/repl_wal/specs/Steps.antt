@@ -7,7 +7,7 @@ use Rattle.repl_wal.specs.declared.fault.NodeFault.TheVariants as fault
 
 -- From a log the call comes to this answer and to another log. `Refuses` says why it is refused, each exactly; `Passes`
 -- that it is not; `Done` what it answers and leaves then; and `Partly` what it may leave where memory was wanting, which
--- may be at any place behind `Broken`. What is refused changes nothing.
+-- may be at any place after `Broken`. What is refused changes nothing.
 abbrev pub Step : {A : Type 0} → (NodeFault → Type 0) → Type 0 → (A → LogState → Type 0) → (LogState → Type 0) → LogState → Result A NodeFault
     → LogState → Type 0
 Step Refuses Passes Done Partly n (Ok a) m = (n.broken ≡ false) × Passes × Done a m

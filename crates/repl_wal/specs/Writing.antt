@@ -40,11 +40,11 @@ IsUnlaid status item e = ⊥
 abbrev pub CanAppend : LogState → RecordIn → Type 0
 CanAppend n item = (role_of n ≡ Primary) × (length item.body ≤ BODY_LIMIT) × (append_end n item ≤ LOG_LIMIT)
 
--- The record's image, with its headers in their one spelling, is added at the written end, behind the record that ends there.
+-- The record's image, with its headers in their one spelling, is added at the written end, past the record that ends there.
 pub record IsAppended (n : LogState) (item : RecordIn) (end : ℕ) (m : LogState) : Type 0 where
   pub bytes : List ℕ
   pub last : ℕ
-  pub behind : EndsRecord n (written_end n) last
+  pub past : EndsRecord n (written_end n) last
   pub image : IsImage (ident_of n) (timeline_of n) (written_end n) last item bytes
   pub spelled : HeadersAreSpelled (ident_of n) (timeline_of n) (total_length item) (written_end n) bytes
   pub ends : end ≡ written_end n + length bytes
@@ -61,7 +61,7 @@ pub record GoesOn (n : LogState) (tli start : ℕ) : Type 0 where
   pub own : tli ≡ own_timeline n
   pub at_end : start ≡ written_end n
 
--- what is no record in the log or in these bytes behind it
+-- what is no record in the log or in these bytes after it
 abbrev pub HasFaultWith : LogState → List ℕ → NodeFault → Type 0
 HasFaultWith n bytes (fault.BadRecord at why) = HasFault (ident_of n) (timeline_of n) (whole_end n) (last_start n) (tail_of n ++ bytes) at why
 HasFaultWith n bytes e = ⊥

@@ -18,7 +18,7 @@ use repl_store::StoreStatus;
 use std::alloc::Global;
 
 impl<D: Disk> Wal<D> {
-    /// Appends a record behind the last one, and answers where it ends. It is certain on the disk from the next `flush` on.
+    /// Appends a record after the last one, and answers where it ends. It is certain on the disk from the next `flush` on.
     /// Takes memory for the record's image, once.
     pub fn append(&mut self, alloc: Global, item: &RecordIn) -> Result<Lsn, NodeFault>
         ensures steps { (n : LogState) → Holds (D.state self.old.store.disk) self.old n →
@@ -34,7 +34,7 @@ impl<D: Disk> Wal<D> {
         if is_standby(before.role) {
             return Err(NodeFault::NotPrimary);
         }
-        let laid = match lay_behind(alloc, &before, self.walker.last_start(), item) {
+        let laid = match lay_past(alloc, &before, self.walker.last_start(), item) {
             Ok(laid) => laid,
             Err(fault) => return Err(fault),
         };
@@ -48,8 +48,8 @@ impl<D: Disk> Wal<D> {
     }
 }
 
-/// The record laid out behind the written end, where one ends that starts at `prev`.
-fn lay_behind(
+/// The record laid out past the written end, where one ends that starts at `prev`.
+fn lay_past(
     alloc: Global,
     status: &StoreStatus,
     prev: Lsn,

@@ -26,7 +26,7 @@ pub enum NodeFault {
     BadHistory { tli: Tli, fault: HistoryFault },
     /// The file of a segment has fewer bytes than are flushed of it.
     ShortFile { name: Text, have: u64, needed: u64 },
-    /// Behind the whole end stands what is no record.
+    /// Past the whole end stands what is no record.
     Damaged { at: Lsn, why: WalkReason },
     /// The node is a standby.
     NotPrimary,
@@ -44,9 +44,9 @@ pub enum NodeFault {
     BadRecord { at: Lsn, why: WalkReason },
     /// The timeline is not on the path.
     NotInHistory(Tli),
-    /// The position is behind the one at which the timeline was left.
+    /// The position is after the one at which the timeline was left.
     AfterSwitch { next: Tli, switch: Lsn },
-    /// The position is behind the flushed end.
+    /// The position is past the flushed end.
     Ahead { flushed: Lsn },
     /// The bytes at the position are gone.
     Removed { floor: Lsn },

@@ -10,7 +10,7 @@ ghost use Rattle.repl_store.specs.Backing.{Backs, OnlyReads, State};
 ghost use Rattle.repl_store.specs.Durable.{Durable, StandsFor};
 ghost use Rattle.repl_store.specs.Head.{IsHead, IsMounted, status_of};
 ghost use Rattle.repl_wal.specs.Holding.{Holds, Remembers};
-ghost use Rattle.repl_wal.specs.Making.{HasTaken, IsFailure, IsMountRefusal, IsOfMount, IsOpened, IsWalkRefusal, IsWrongBehind, IsWrongTail, OnlyOpens, TakenOf, mounted_log};
+ghost use Rattle.repl_wal.specs.Making.{HasTaken, IsFailure, IsMountRefusal, IsOfMount, IsOpened, IsWalkRefusal, IsWrongPast, IsWrongTail, OnlyOpens, TakenOf, mounted_log};
 ghost use Rattle.repl_wal.specs.State.{LogState};
 ghost use Rattle.repl_wal.specs.declared.fault.NodeFault.TheVariants as NodeFault;
 
@@ -27,11 +27,11 @@ use std::alloc::Global;
 const PIECE: usize = 65_536;
 
 impl<D: Disk> Wal<D> {
-    /// Opens the log that stands on the disk. After the store's refusals it walks what is flushed behind the whole end: what is
+    /// Opens the log that stands on the disk. After the store's refusals it walks what is flushed past the whole end: what is
     /// no record there is `Damaged`, and where a further record ends, the control is wrong (`BadControl` at its whole end). Takes
     /// memory for a piece of the log.
     pub fn mount(alloc: Global, disk: D) -> Result<Wal<D>, (NodeFault, D)>
-        // What is mounted is what the files stand for, and nothing is written behind it.
+        // What is mounted is what the files stand for, and nothing is written after it.
         ensures mounted { IfOk result (λ wal. (wal.stopped ≡ None) × IfTold (D.state disk).files (λ folder.
             (d : Durable) × StandsFor VERSION_1_SIZE folder d × IsMounted wal.store.head VERSION_1_SIZE d)) }
         // There is always a log that it remembers.
@@ -66,7 +66,7 @@ impl<D: Disk> Wal<D> {
     }
 }
 
-/// The log of a store that was just mounted, once what is flushed behind the whole end is walked.
+/// The log of a store that was just mounted, once what is flushed past the whole end is walked.
 fn walk_on<D: Disk>(alloc: Global, store: Store<D>) -> Result<Wal<D>, (NodeFault, D)>
     requires unbroken { store.broken ≡ false }
     requires written { store.head.written ≡ store.head.control.flushed }
@@ -219,7 +219,7 @@ fn judge(walker: &mut Walker, status: &StoreStatus, piece: &[u8]) -> Result<(), 
     ensures ident { identity walker.new ≡ identity walker.old }
     ensures refused { IfErr result (λ e. (timeline : ℕ → ℕ) (prev : ℕ) (log : List ℕ) → HasWalked walker.old timeline status.now.whole prev log
         → AreOn timeline status.now.tli (position walker.old) (length piece.now)
-        → IsWrongBehind (identity walker.old) timeline status.now.whole prev (log ++ piece.now) e) }
+        → IsWrongPast (identity walker.old) timeline status.now.whole prev (log ++ piece.now) e) }
     ensures answers { IfErr result (λ e. IsOfMount e × (e ≢ NodeFault.DiskFault)) }
 {
     let _size = walker.ident().size.bytes();

@@ -17,7 +17,7 @@ use repl_record::Walker;
 use std::alloc::Global;
 
 impl<D: Disk> Wal<D> {
-    /// Makes the standby a primary, on a new timeline behind its last whole record, and answers both. Its number is at least the
+    /// Makes the standby a primary, on a new timeline after its last whole record, and answers both. Its number is at least the
     /// given one and above every one that was heard of. What is written of a further record goes. Takes memory for the history
     /// and a piece of a segment.
     pub fn promote(&mut self, alloc: Global, at_least: u32) -> Result<(Tli, Lsn), NodeFault>
@@ -74,7 +74,7 @@ fn child_for(
     switch: Lsn,
 ) -> Result<History, NodeFault>
     requires own { path.now.own ≤ known }
-    requires behind { last_switch path.now.parents ≤ switch }
+    requires past { last_switch path.now.parents ≤ switch }
     ensures made { IfOk result (λ child. (known < 2 ^ 32 - 1) × (child ≡ child_of path.now (next_number at_least known) switch)) }
     ensures short { IfOk result (λ child. length (canonical child) ≤ HISTORY_LIMIT) }
     ensures refused { IfErr result (IsChildless path.now known at_least switch) }

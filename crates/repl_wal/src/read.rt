@@ -43,7 +43,7 @@ enum Range {
 impl<D: Disk> Wal<D> {
     /// Reads the log's bytes from the position on into the front of the room, as far as they are of this timeline or of those
     /// before it, and are flushed. Where there is more than room, it ends with the last page's start in the room, if one is
-    /// behind the position. Takes memory for the names of segments.
+    /// past the position. Takes memory for the names of segments.
     pub fn read(
         &mut self,
         alloc: Global,
@@ -88,7 +88,7 @@ fn range_of(path: &History, status: &StoreStatus, tli: Tli, at: Lsn) -> Result<R
         Err(fault) => return Err(fault),
     };
     if end < at {
-        return Err(behind(next, end));
+        return Err(past(next, end));
     }
     if at < status.floor {
         return Err(NodeFault::Removed {
@@ -119,8 +119,8 @@ fn end_of(path: &History, flushed: Lsn, tli: Tli) -> Result<(Lsn, Option<Tli>), 
     }
 }
 
-/// Why nothing is read behind where the timeline ends, which the next one goes on from, or behind the flushed end.
-fn behind(next: Option<Tli>, end: Lsn) -> NodeFault
+/// Why nothing is read after where the timeline ends, which the next one goes on from, or past the flushed end.
+fn past(next: Option<Tli>, end: Lsn) -> NodeFault
     ensures { MatchOption next (result ≡ NodeFault.Ahead end) (λ tli. result ≡ NodeFault.AfterSwitch tli end) }
 {
     match next {

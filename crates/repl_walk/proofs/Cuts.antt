@@ -18,7 +18,7 @@ front_begins ident timeline from prev log n k opened before m below =
     subst (λ (t : List ℕ). (¬ IsOver ident.size from t) × IsRight ident timeline from prev t) (sym (take-take m k log within))
     (opened m (before m within (omega (arith, length-take k log))))
 
--- what stands behind a record end in the log that is cut
+-- what stands past a record end in the log that is cut
 cut_begins : (ident : Ident) (timeline : ℕ → ℕ) (from c end last n : ℕ) (log : List ℕ) → from ≤ end → end ≤ from + c
     → IsOpenBefore ident timeline end last (drop (end - from) log) n
     → ((m : ℕ) → m ≤ c - (end - from) → m ≤ length (drop (end - from) log) → m < n)

@@ -35,7 +35,7 @@ use Rattle.repl_record.proofs.LogChains.{greatest_end, in_line}
 use Rattle.repl_record.proofs.LogEnds.{from_le, kept_by_more}
 use Rattle.repl_record.proofs.WalkerAtEnds.{nothing_begins}
 
--- no record ends behind the log
+-- no record ends after the log
 pub ends_within : (ident : Ident) (timeline : ℕ → ℕ) (from prev : ℕ) (log : List ℕ) (end last : ℕ)
     → RecordEnd ident timeline from prev log end last → end ≤ from + length log
 ends_within ident timeline from prev log end last origin = omega arith
@@ -47,7 +47,7 @@ ends_within ident timeline from prev log _ _ (next end last item n before fits i
 -- the rest of the rest of the log
 rest_of_rest : (from end later : ℕ) (log : List ℕ) → from ≤ end → end ≤ later
     → drop (later - end) (drop (end - from) log) ≡ drop (later - from) log
-rest_of_rest from end later log above behind = drop-drop (later - end) (end - from) log ∙ ap (λ (k : ℕ). drop k log) (omega arith)
+rest_of_rest from end later log above past = drop-drop (later - end) (end - from) log ∙ ap (λ (k : ℕ). drop k log) (omega arith)
 
 pub joined : (ident : Ident) (timeline : ℕ → ℕ) (from prev : ℕ) (log : List ℕ) (end last later start : ℕ)
     → RecordEnd ident timeline from prev log end last → RecordEnd ident timeline end last (drop (end - from) log) later start
@@ -55,24 +55,24 @@ pub joined : (ident : Ident) (timeline : ℕ → ℕ) (from prev : ℕ) (log : L
 joined ident timeline from prev log end last later start first origin = first
 joined ident timeline from prev log end last _ _ first (next later start item n before fits image) =
     let above = from_le ident timeline from prev log end last first in
-    let behind = from_le ident timeline end last (drop (end - from) log) later start before in
+    let past = from_le ident timeline end last (drop (end - from) log) later start before in
     next later start item n (joined ident timeline from prev log end last later start first before) (omega (
       arith,
       length-drop (end - from) log,
       ends_within ident timeline from prev log end last first,
-    )) (subst (λ (t : List ℕ). IsImage ident timeline later start item (take n t)) (rest_of_rest from end later log above behind) image)
+    )) (subst (λ (t : List ℕ). IsImage ident timeline later start item (take n t)) (rest_of_rest from end later log above past) image)
 
 pub prefix_joined : (ident : Ident) (timeline : ℕ → ℕ) (from prev : ℕ) (log : List ℕ) (end last : ℕ)
     → RecordEnd ident timeline from prev log end last → IsPrefixOfRecords ident timeline end last (drop (end - from) log)
     → IsPrefixOfRecords ident timeline from prev log
 prefix_joined ident timeline from prev log end last first records =
     let above = from_le ident timeline from prev log end last first in
-    let behind = from_le ident timeline end last (drop (end - from) log) records.end records.last records.records in
+    let past = from_le ident timeline end last (drop (end - from) log) records.end records.last records.records in
     record {
       end = records.end;
       last = records.last;
       records = joined ident timeline from prev log end last records.end records.last first records.records;
-      beginning = subst (IsBeginning ident timeline records.end records.last) (rest_of_rest from end records.end log above behind)
+      beginning = subst (IsBeginning ident timeline records.end records.last) (rest_of_rest from end records.end log above past)
           records.beginning;
     }
 
@@ -81,12 +81,12 @@ pub prefix_split : (ident : Ident) (timeline : ℕ → ℕ) (from prev : ℕ) (l
     → IsPrefixOfRecords ident timeline end last (drop (end - from) log)
 prefix_split ident timeline from prev log end last size_is eight first records =
     let above = from_le ident timeline from prev log end last first in
-    let behind = (greatest_end ident timeline from prev log size_is eight records).greatest end last first in
+    let past = (greatest_end ident timeline from prev log size_is eight records).greatest end last first in
     record {
       end = records.end;
       last = records.last;
-      records = in_line ident timeline from prev log end last records.end records.last size_is eight first records.records behind;
-      beginning = subst (IsBeginning ident timeline records.end records.last) (sym (rest_of_rest from end records.end log above behind))
+      records = in_line ident timeline from prev log end last records.end records.last size_is eight first records.records past;
+      beginning = subst (IsBeginning ident timeline records.end records.last) (sym (rest_of_rest from end records.end log above past))
           records.beginning;
     }
 
@@ -98,7 +98,7 @@ whole_joined ident timeline from prev log end last whole start size_is eight fir
   is_end = joined ident timeline from prev log end last whole start first is.is_end;
   greatest = λ other begun ends. elim (cases_lt other end) [
     | inl before ↦ omega (arith, from_le ident timeline end last (drop (end - from) log) whole start is.is_end)
-    | inr behind ↦ is.greatest other begun (in_line ident timeline from prev log end last other begun size_is eight first ends behind)
+    | inr past ↦ is.greatest other begun (in_line ident timeline from prev log end last other begun size_is eight first ends past)
   ];
 }
 
@@ -111,7 +111,7 @@ whole_split ident timeline from prev log end last whole start size_is eight firs
   greatest = λ other begun ends. is.greatest other begun (joined ident timeline from prev log end last other begun first ends);
 }
 
--- ---- behind the log
+-- ---- after the log
 
 pub image_goes_on : (ident : Ident) (timeline : ℕ → ℕ) (from prev : ℕ) (log bytes : List ℕ) (last : ℕ) (item : RecordIn)
     → RecordEnd ident timeline from prev log (from + length log) last → IsImage ident timeline (from + length log) last item bytes

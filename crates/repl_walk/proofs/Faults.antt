@@ -12,7 +12,7 @@ use Rattle.repl_record.specs.Log.{RecordEnd, IsPrefixOfRecords, IsWholeEnd}
 use Rattle.repl_record.proofs.LogAnswers.{answered, same_answer}
 use Rattle.repl_record.proofs.LogChains.{first_record, greatest_end, in_line, placed, same_last}
 use Rattle.repl_record.proofs.LogEnds.{from_le, kept_by_more}
-use Rattle.repl_walk.specs.Faults.{HasFault, IsFaultBehind}
+use Rattle.repl_walk.specs.Faults.{HasFault, IsFaultPast}
 use Rattle.repl_walk.proofs.Ends.{ends_within}
 
 -- ---- more bytes
@@ -32,11 +32,11 @@ first_fault_more ident timeline from prev log more at reason is =
     }
 
 pub fault_more : (ident : Ident) (timeline : ℕ → ℕ) (from prev : ℕ) (log more : List ℕ) (end last at : ℕ) (reason : WalkReason)
-    → IsFaultBehind ident timeline from prev log end last at reason
-    → IsFaultBehind ident timeline from prev (log ++ more) end last at reason
+    → IsFaultPast ident timeline from prev log end last at reason
+    → IsFaultPast ident timeline from prev (log ++ more) end last at reason
 fault_more ident timeline from prev log more end last at reason is =
     let above = from_le ident timeline from prev log end last is.records in
-    let behind = ends_within ident timeline from prev log end last is.records in
+    let past = ends_within ident timeline from prev log end last is.records in
     record {
       records = kept_by_more ident timeline from prev log more end last is.records;
       fault = subst (λ (t : List ℕ). IsFirstFault ident timeline end last t at reason)
@@ -44,7 +44,7 @@ fault_more ident timeline from prev log more end last at reason is =
           (first_fault_more ident timeline end last (drop (end - from) log) more at reason is.fault);
     }
 
--- ---- no record ends behind a fault
+-- ---- no record ends after a fault
 
 fault_has_no_end : (ident : Ident) (timeline : ℕ → ℕ) (from prev : ℕ) (log : List ℕ) (at end last : ℕ) (reason : WalkReason)
     → IsSegSize ident.size → from % 8 ≡ 0 → IsFirstFault ident timeline from prev log at reason
@@ -60,18 +60,18 @@ fault_has_no_end ident timeline from prev log at end last reason size_is eight f
 
 pub fault_greatest : (ident : Ident) (timeline : ℕ → ℕ) (from prev : ℕ) (log : List ℕ) (end last at : ℕ) (reason : WalkReason)
     → IsSegSize ident.size → from % 8 ≡ 0
-    → IsFaultBehind ident timeline from prev log end last at reason → IsWholeEnd ident timeline from prev log end last
+    → IsFaultPast ident timeline from prev log end last at reason → IsWholeEnd ident timeline from prev log end last
 fault_greatest ident timeline from prev log end last at reason size_is eight is =
     let place = placed ident timeline from prev log end last eight is.records in
     record {
       is_end = is.records;
       greatest = λ other start ends. elim (cases_lt end other) [
         | inl below ↦
-            let behind = in_line ident timeline from prev log end last other start size_is eight is.records ends (omega arith) in
+            let past = in_line ident timeline from prev log end last other start size_is eight is.records ends (omega arith) in
             omega (
               arith,
               fault_has_no_end ident timeline end last (drop (end - from) log) at other start reason size_is place.1 is.fault
-                  behind,
+                  past,
             )
         | inr above ↦ above
       ];
@@ -79,28 +79,28 @@ fault_greatest ident timeline from prev log end last at reason size_is eight is 
 
 -- ---- one fault
 
--- two greatest ends are one, and what stands behind the one stands behind the other
+-- two greatest ends are one, and what stands after the one stands after the other
 one_greatest : (ident : Ident) (timeline : ℕ → ℕ) (from prev : ℕ) (log : List ℕ) (end last whole start : ℕ)
     → IsWholeEnd ident timeline from prev log end last → IsWholeEnd ident timeline from prev log whole start → whole ≡ end
 one_greatest ident timeline from prev log end last whole start a b =
     omega (arith, a.greatest whole start b.is_end, b.greatest end last a.is_end)
 
-behind_one : (ident : Ident) (timeline : ℕ → ℕ) (from prev : ℕ) (log : List ℕ) (end last whole start : ℕ)
-    → (Behind : ℕ → ℕ → Type 0) → IsSegSize ident.size → from % 8 ≡ 0
-    → IsWholeEnd ident timeline from prev log end last → IsWholeEnd ident timeline from prev log whole start → Behind whole start
-    → Behind end last
-behind_one ident timeline from prev log end last whole start Behind size_is eight a b is =
+past_one : (ident : Ident) (timeline : ℕ → ℕ) (from prev : ℕ) (log : List ℕ) (end last whole start : ℕ)
+    → (Past : ℕ → ℕ → Type 0) → IsSegSize ident.size → from % 8 ≡ 0
+    → IsWholeEnd ident timeline from prev log end last → IsWholeEnd ident timeline from prev log whole start → Past whole start
+    → Past end last
+past_one ident timeline from prev log end last whole start Past size_is eight a b is =
     let same = one_greatest ident timeline from prev log end last whole start a b in
     let ends = subst (λ (e : ℕ). RecordEnd ident timeline from prev log e start) same b.is_end in
     let alike = same_last ident timeline from prev log end start last size_is eight ends a.is_end in
-    subst (Behind end) alike (subst (λ (e : ℕ). Behind e start) same is)
+    subst (Past end) alike (subst (λ (e : ℕ). Past e start) same is)
 
 pub fault_refutes : (ident : Ident) (timeline : ℕ → ℕ) (from prev : ℕ) (log : List ℕ) (end last at : ℕ) (reason : WalkReason)
     → IsSegSize ident.size → from % 8 ≡ 0
-    → IsFaultBehind ident timeline from prev log end last at reason → ¬ IsPrefixOfRecords ident timeline from prev log
+    → IsFaultPast ident timeline from prev log end last at reason → ¬ IsPrefixOfRecords ident timeline from prev log
 fault_refutes ident timeline from prev log end last at reason size_is eight is records =
     let place = placed ident timeline from prev log end last eight is.records in
-    let begun = behind_one ident timeline from prev log end last records.end records.last (λ e l. IsBeginning ident timeline e l
+    let begun = past_one ident timeline from prev log end last records.end records.last (λ e l. IsBeginning ident timeline e l
     (drop (e - from) log)) size_is eight (fault_greatest ident timeline from prev log end last at reason size_is eight is)
     (greatest_end ident timeline from prev log size_is eight records) records.beginning in
     same_answer ident timeline end last (drop (end - from) log) step.Short (step.Bad at reason) size_is place.1 begun is.fault
@@ -110,9 +110,9 @@ pub same_fault : (ident : Ident) (timeline : ℕ → ℕ) (from prev : ℕ) (log
     → HasFault ident timeline from prev log at reason → HasFault ident timeline from prev log other another → (at ≡ other)
     × (reason ≡ another)
 same_fault ident timeline from prev log at other reason another size_is eight a b =
-    let place = placed ident timeline from prev log a.end a.last eight a.behind.records in
-    let second = behind_one ident timeline from prev log a.end a.last b.end b.last (λ e l. IsFirstFault ident timeline e l (drop (e - from)
-    log) other another) size_is eight (fault_greatest ident timeline from prev log a.end a.last at reason size_is eight a.behind)
-    (fault_greatest ident timeline from prev log b.end b.last other another size_is eight b.behind) b.behind.fault in
+    let place = placed ident timeline from prev log a.end a.last eight a.past.records in
+    let second = past_one ident timeline from prev log a.end a.last b.end b.last (λ e l. IsFirstFault ident timeline e l (drop (e - from)
+    log) other another) size_is eight (fault_greatest ident timeline from prev log a.end a.last at reason size_is eight a.past)
+    (fault_greatest ident timeline from prev log b.end b.last other another size_is eight b.past) b.past.fault in
     same_answer ident timeline a.end a.last (drop (a.end - from) log) (step.Bad at reason) (step.Bad other another) size_is place.1
-    a.behind.fault second
+    a.past.fault second

@@ -1,10 +1,10 @@
--- where records end, and what is wrong behind the last
+-- where records end, and what is wrong after the last
 pub mod Ends
 pub mod Faults
 pub mod Cuts
 pub mod Timelines
--- a log behind a record that is not known
-pub mod BehindAny
+-- a log after a record that is not known
+pub mod PastAny
 -- the rest of a record, page by page
 pub mod RestPages
 pub mod RestWalks

@@ -71,16 +71,16 @@ ends_all ident rest from k log within all =
     )
 
 ends_wrong : (ident : Ident) (timeline : ℕ → ℕ) (rest from : ℕ) (log : List ℕ) → (is : IsWrongGap ident timeline rest from log)
-    → EndsAt ident rest from log (length is.front) × (drop (length is.front) log ≡ is.behind)
+    → EndsAt ident rest from log (length is.front) × (drop (length is.front) log ≡ is.past)
 ends_wrong ident timeline rest from log is =
     let n = length is.front in
-    let front : take n log ≡ is.front = ap (take n) is.parts ∙ take_at is.front is.behind n refl in (
+    let front : take n log ≡ is.front = ap (take n) is.parts ∙ take_at is.front is.past n refl in (
       record {
-        within = omega (arith, ap length is.parts, length-append is.front is.behind);
+        within = omega (arith, ap length is.parts, length-append is.front is.past);
         bytes = ap (λ (t : List ℕ). length (content ident.size from t)) front ∙ is.bytes;
         last = subst (LastIsContent ident.size from) (sym front) is.last;
       },
-      ap (drop n) is.parts ∙ drop_at is.front is.behind n refl,
+      ap (drop n) is.parts ∙ drop_at is.front is.past n refl,
     )
 
 -- what is begun has its bytes where all are there
@@ -110,7 +110,7 @@ zeros_are_zero : (n i : ℕ) → let zeros : List ℕ = replicate n 0 in get_or 
 zeros_are_zero n i =
     elim (cases_lt i n) [
       | inl inside ↦ get_or-replicate n i 0 0 inside
-      | inr behind ↦ let zeros : List ℕ = replicate n 0 in let counted : length zeros ≡ n = length-replicate n 0 in
+      | inr past ↦ let zeros : List ℕ = replicate n 0 in let counted : length zeros ≡ n = length-replicate n 0 in
           get_or_past zeros i 0 (omega arith)
     ]
 
@@ -180,8 +180,8 @@ fault_not_begun ident timeline rest from log at why.Padding size_is is begun =
       | inr gap ↦
           let two = begun_all ident rest from log gap in
           let same = one_place ident rest from log (length wrong.front) (length gap.all.front) one.0 two.0 in
-          let behind : wrong.behind ≡ replicate gap.all.gap 0 = sym one.1 ∙ ap (λ (k : ℕ). drop k log) same ∙ two.2 in
-          wrong.wrong (ap (λ (t : List ℕ). get_or t wrong.place 0) behind ∙ zeros_are_zero gap.all.gap wrong.place)
+          let past : wrong.past ≡ replicate gap.all.gap 0 = sym one.1 ∙ ap (λ (k : ℕ). drop k log) same ∙ two.2 in
+          wrong.wrong (ap (λ (t : List ℕ). get_or t wrong.place 0) past ∙ zeros_are_zero gap.all.gap wrong.place)
     ]
 fault_not_begun ident timeline rest from log at (why.Length found) size_is is begun = is
 fault_not_begun ident timeline rest from log at (why.Prev found expected) size_is is begun = is
@@ -226,7 +226,7 @@ fault_not_whole ident timeline rest from log at end why.Padding size_is is whole
       whole.rest_is.rounded,
       whole.after,
     ) in
-    let read : get_or wrong.behind wrong.place 0 ≡ 0 = ap (λ (t : List ℕ). get_or t wrong.place 0) (sym one.1)
+    let read : get_or wrong.past wrong.place 0 ≡ 0 = ap (λ (t : List ℕ). get_or t wrong.place 0) (sym one.1)
     ∙ get_or-drop (length wrong.front) log wrong.place 0
     ∙ ap (λ (j : ℕ). get_or log (j + wrong.place) 0) same
     ∙ sym (get_or-take k log (n + wrong.place) 0 inside)

@@ -20,13 +20,13 @@ use Rattle.repl_walk.specs.Rest.{HeadersFit, IsRest, header_at, left_of}
 page_inside : (ident : Ident) (timeline : ℕ → ℕ) (from prev page : ℕ) (item : RecordIn) (log : List ℕ) → from % 8 ≡ 0
     → (is : IsImage ident timeline from prev item log) → IsPage page → from < page → page < from + length log
     → page - from < length is.front
-page_inside ident timeline from prev page item log eight is is_page behind below =
+page_inside ident timeline from prev page item log eight is is_page past below =
     omega (arith, image_length ident timeline from prev item log is, is.few, is.rounded)
 
--- how many of the record's bytes are to come at a page behind its beginning
+-- how many of the record's bytes are to come at a page after its beginning
 left_is : (size total from page : ℕ) (log : List ℕ) → from < page
     → remaining size total from log page ≡ total - length (content size from (take (page - from) log))
-left_is size total from page log behind = cond-false (page == from) 0 (total - length (content size from (take (page
+left_is size total from page log past = cond-false (page == from) 0 (total - length (content size from (take (page
     - from) log))) (ne_eqb page from (λ (same : page ≡ from). absurd (omega arith)))
 
 -- the record's bytes on both sides of a page's start
@@ -46,7 +46,7 @@ two_sides size from page k log above below =
 headers_of_rest : (ident : Ident) (timeline : ℕ → ℕ) (from prev page : ℕ) (item : RecordIn) (log : List ℕ) → from < page
     → page < from + length log → IsImage ident timeline from prev item log
     → HeadersFit ident timeline (remaining ident.size (total_length item) from log page) page (drop (page - from) log)
-headers_of_rest ident timeline from prev page item log behind below is next is_page above whole =
+headers_of_rest ident timeline from prev page item log past below is next is_page above whole =
     let size = ident.size in
     let total = total_length item in
     let n = page - from in
@@ -54,7 +54,7 @@ headers_of_rest ident timeline from prev page item log behind below is next is_p
     let counted = length-drop n log in
     let inside : next < from + length log = omega (arith, header_is size next) in
     let k = next - page in
-    let here = left_is size total from page log behind in
+    let here = left_is size total from page log past in
     let there = left_is size total from next log (omega arith) in
     let sides = two_sides size from page k log (omega arith) (omega arith) in
     let place : n + k ≡ next - from = omega arith in
@@ -81,22 +81,22 @@ headers_of_rest ident timeline from prev page item log behind below is next is_p
 pub rest_is : (ident : Ident) (timeline : ℕ → ℕ) (from prev : ℕ) (item : RecordIn) (log : List ℕ) (page : ℕ) → IsSegSize ident.size
     → from % 8 ≡ 0 → IsImage ident timeline from prev item log → IsPage page → from < page → page < from + length log
     → IsRest ident timeline (remaining ident.size (total_length item) from log page) page (drop (page - from) log)
-rest_is ident timeline from prev item log page size_is eight is is_page behind below =
+rest_is ident timeline from prev item log page size_is eight is is_page past below =
     let size = ident.size in
     let total = total_length item in
     let n = page - from in
-    let inside = page_inside ident timeline from prev page item log eight is is_page behind below in
+    let inside = page_inside ident timeline from prev page item log eight is is_page past below in
     let front = is.front in
     let counted = length-drop n front in
     let long = image_length ident timeline from prev item log is in
     let same : take n log ≡ take n front = ap (take n) is.parts ∙ take-append-le n front (replicate is.gap 0) (omega arith) in
-    let here = left_is size total from page log behind in
+    let here = left_is size total from page log past in
     let sides = two_sides size from page (length front - n) front (omega arith) (omega arith) in
     let all : length (content size from front) ≡ total = ap length is.bytes ∙ length-record_bytes prev item in
     let whole : take (n + (length front - n)) front ≡ front = take_all (n + (length front - n)) front (omega arith) in
-    let behind_it : take (length front - n) (drop n front) ≡ drop n front = take_all (length front - n) (drop n front) (omega arith) in
+    let past_it : take (length front - n) (drop n front) ≡ drop n front = take_all (length front - n) (drop n front) (omega arith) in
     record {
-      headers = headers_of_rest ident timeline from prev page item log behind below is;
+      headers = headers_of_rest ident timeline from prev page item log past below is;
       all = record {
         front = drop n front;
         gap = is.gap;
@@ -108,7 +108,7 @@ rest_is ident timeline from prev item log page size_is eight is is_page behind b
           all,
           ap (λ (t : List ℕ). length (content size from t)) same,
           ap (λ (t : List ℕ). length (content size from t)) whole,
-          ap (λ (t : List ℕ). length (content size page t)) behind_it,
+          ap (λ (t : List ℕ). length (content size page t)) past_it,
         );
         last = subst (λ (p : ℕ). in_header size p ≡ false) (omega arith) is.last;
         few = is.few;
@@ -119,15 +119,15 @@ rest_is ident timeline from prev item log page size_is eight is is_page behind b
 pub rest_some : (ident : Ident) (timeline : ℕ → ℕ) (from prev : ℕ) (item : RecordIn) (log : List ℕ) (page : ℕ) → IsSegSize ident.size
     → from % 8 ≡ 0 → IsImage ident timeline from prev item log → IsPage page → from < page → page < from + length log
     → 0 < remaining ident.size (total_length item) from log page
-rest_some ident timeline from prev item log page size_is eight is is_page behind below =
+rest_some ident timeline from prev item log page size_is eight is is_page past below =
     let size = ident.size in
     let n = page - from in
-    let inside = page_inside ident timeline from prev page item log eight is is_page behind below in
+    let inside = page_inside ident timeline from prev page item log eight is is_page past below in
     let front = is.front in
     let same : take n log ≡ take n front = ap (take n) is.parts ∙ take-append-le n front (replicate is.gap 0) (omega arith) in
     omega (
       arith,
-      left_is size (total_length item) from page log behind,
+      left_is size (total_length item) from page log past,
       ap (λ (t : List ℕ). length (content size from t)) same,
       length-content-short size from n front inside is.last,
       ap length is.bytes,
@@ -137,9 +137,9 @@ rest_some ident timeline from prev item log page size_is eight is is_page behind
 pub rest_limit : (ident : Ident) (timeline : ℕ → ℕ) (from prev : ℕ) (item : RecordIn) (log : List ℕ) (page : ℕ) → IsSegSize ident.size
     → from % 8 ≡ 0 → IsImage ident timeline from prev item log → IsPage page → from < page → page < from + length log
     → remaining ident.size (total_length item) from log page ≤ 1048592
-rest_limit ident timeline from prev item log page size_is eight is is_page behind below = omega (
+rest_limit ident timeline from prev item log page size_is eight is is_page past below = omega (
   arith,
-  left_is ident.size (total_length item) from page log behind,
+  left_is ident.size (total_length item) from page log past,
   eight_before_page ident.size from page log size_is is_page (omega arith) (omega arith),
   is.item_is.short,
 )

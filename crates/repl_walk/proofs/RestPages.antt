@@ -78,14 +78,14 @@ pub due_next : (r : Rest) (timeline : ℕ → ℕ) (rest from tli : ℕ) (log pa
 due_next r timeline rest from tli log page passed on P p =
     let size = r.ident.size in
     let n = r.at - from in
-    let counted : length log ≡ n = omega (arith, passed.behind) in
+    let counted : length log ≡ n = omega (arith, passed.past) in
     let front : take n (log ++ page) ≡ log = take_at log page n counted in
-    let behind : drop n (log ++ page) ≡ page = drop_at log page n counted in
+    let past : drop n (log ++ page) ≡ page = drop_at log page n counted in
     let left : r.left ≡ left_of size rest from (log ++ page) r.at =
     omega (arith, passed.left, ap (λ (t : List ℕ). length (content size from t)) front) in
     subst (λ (t : ℕ). P t (left_of size rest from (log ++ page) r.at) (header_at size from (log ++ page) r.at)) (sym on)
     (subst (λ (k : ℕ). P tli k (header_at size from (log ++ page) r.at)) left
-    (subst (λ (t : List ℕ). P tli r.left (take (header_length size r.at) t)) (sym behind) p))
+    (subst (λ (t : List ℕ). P tli r.left (take (header_length size r.at) t)) (sym past) p))
 
 -- the headers fit with a page more, or with the first bytes of it
 pub headers_fit : (r : Rest) (timeline : ℕ → ℕ) (rest from tli : ℕ) (log page : List ℕ) → HasPassed r timeline rest from log
@@ -98,15 +98,15 @@ headers_fit r timeline rest from tli log page passed on few agrees at is_page ab
     elim (cases_lt at r.at) [
       | inl before ↦ fits_more r.ident timeline rest from log page at above (omega (
         arith,
-        passed.behind,
+        passed.past,
         passed.on_page,
         is_page,
         header_is r.ident.size at,
-      )) (passed.headers at is_page above (omega (arith, passed.behind, passed.on_page, is_page, header_is r.ident.size at)))
-      | inr behind ↦
-          let same : r.at ≡ at = omega (arith, passed.behind, passed.on_page, is_page, header_is r.ident.size at, counted) in
+      )) (passed.headers at is_page above (omega (arith, passed.past, passed.on_page, is_page, header_is r.ident.size at)))
+      | inr past ↦
+          let same : r.at ≡ at = omega (arith, passed.past, passed.on_page, is_page, header_is r.ident.size at, counted) in
           let enough : header_length r.ident.size r.at ≤ length page =
-          omega (arith, passed.behind, counted, same, ap (header_length r.ident.size) same) in
+          omega (arith, passed.past, counted, same, ap (header_length r.ident.size) same) in
           subst (λ (p : ℕ). Agrees (due_on r.ident timeline rest from (log ++ page) p) (header_at r.ident.size from (log ++ page) p)) same
           (due_next r timeline rest from tli log page passed on (λ t k h. Agrees (header_of r.ident t r.at k) h) (agrees enough))
     ]
@@ -118,12 +118,12 @@ pub content_short : (r : Rest) (timeline : ℕ → ℕ) (rest from : ℕ) (log p
     → IsSegSize r.ident.size → length page ≤ header_length r.ident.size r.at
     → content r.ident.size from (log ++ page) ≡ content r.ident.size from log
 content_short r timeline rest from log page passed size_is within =
-    content-append-header r.ident.size from r.at log page size_is passed.behind (omega (arith, passed.on_page))
+    content-append-header r.ident.size from r.at log page size_is passed.past (omega (arith, passed.on_page))
 
 -- the page in two parts
 record IsCut (r : Rest) (from : ℕ) (log page : List ℕ) : Type 0 where
   parts : log ++ page ≡ (log ++ take (header_length r.ident.size r.at) page) ++ drop (header_length r.ident.size r.at) page
-  behind : r.at + header_length r.ident.size r.at ≡ from + length (log ++ take (header_length r.ident.size r.at) page)
+  past : r.at + header_length r.ident.size r.at ≡ from + length (log ++ take (header_length r.ident.size r.at) page)
   outside : header_length r.ident.size (r.at + header_length r.ident.size r.at) ≤ (r.at + header_length r.ident.size r.at) % 8192
   on_page : (r.at + header_length r.ident.size r.at) % 8192 + length (drop (header_length r.ident.size r.at) page) ≤ 8192
 
@@ -137,12 +137,12 @@ cut_page r timeline rest from log page passed size_is enough few =
     let place = place_on_page r.at n within in
     record {
       parts = ap (λ (t : List ℕ). log ++ t) (sym (take-append-drop n page)) ∙ sym (append_assoc log (take n page) (drop n page));
-      behind = omega (arith, passed.behind, length-append log (take n page), length-take n page);
+      past = omega (arith, passed.past, length-append log (take n page), length-take n page);
       outside = omega (arith, place, passed.on_page, same_header_length size r.at n size_is within);
       on_page = omega (arith, place, passed.on_page, length-drop n page);
     }
 
--- behind the header all are
+-- after the header all are
 pub content_on_page : (r : Rest) (timeline : ℕ → ℕ) (rest from : ℕ) (log page : List ℕ) → HasPassed r timeline rest from log
     → IsSegSize r.ident.size → header_length r.ident.size r.at ≤ length page → length page ≤ 8192
     → length (content r.ident.size from (log
@@ -154,7 +154,7 @@ content_on_page r timeline rest from log page passed size_is enough few =
     let head = take n page in
     let body = drop n page in
     let whole : content size from (log ++ page) ≡ content size from log ++ body =
-    ap (content size from) cut.parts ∙ content-more size (r.at + n) from (log ++ head) body size_is cut.behind cut.outside cut.on_page
+    ap (content size from) cut.parts ∙ content-more size (r.at + n) from (log ++ head) body size_is cut.past cut.outside cut.on_page
     ∙ ap (λ (t : List ℕ). t ++ body) (content_short r timeline rest from log head passed size_is (omega (arith, length-take n page))) in
     omega (arith, ap length whole, length-append (content size from log) body, length-drop n page)
 
@@ -165,7 +165,7 @@ last_on_page r timeline rest from log page passed size_is enough few =
     let size = r.ident.size in
     let n = header_length size r.at in
     let cut = cut_page r timeline rest from log page passed size_is (omega arith) few in
-    subst (LastIsContent size from) (sym cut.parts) (last_more size (r.at + n) from (log ++ take n page) (drop n page) size_is cut.behind
+    subst (LastIsContent size from) (sym cut.parts) (last_more size (r.at + n) from (log ++ take n page) (drop n page) size_is cut.past
     cut.outside cut.on_page (omega (arith, length-drop n page)))
 
 -- ---- a page
@@ -226,11 +226,11 @@ pub header_differs : (r : Rest) (timeline : ℕ → ℕ) (rest from tli : ℕ) (
     → IsPageFault (header_of r.ident tli r.at r.left) (take (header_length r.ident.size r.at) page) fault
     → IsWrongHeader r.ident timeline rest from (log ++ page) r.at fault
 header_differs r timeline rest from tli log page fault passed on enough is =
-    let front : take (r.at - from) (log ++ page) ≡ log = take_at log page (r.at - from) (omega (arith, passed.behind)) in
+    let front : take (r.at - from) (log ++ page) ≡ log = take_at log page (r.at - from) (omega (arith, passed.past)) in
     record {
       is_page = passed.on_page;
-      began = omega (arith, passed.behind);
-      whole = omega (arith, passed.behind, length-append log page);
+      began = omega (arith, passed.past);
+      whole = omega (arith, passed.past, length-append log page);
       before = subst (HeadersFit r.ident timeline rest from) (sym front) passed.headers;
       goes_on = omega (
         arith,
@@ -241,9 +241,9 @@ header_differs r timeline rest from tli log page fault passed on enough is =
       fault = due_next r timeline rest from tli log page passed on (λ t k h. IsPageFault (header_of r.ident t r.at k) h fault) is;
     }
 
--- ---- behind the header
+-- ---- after the header
 
--- the record's bytes go on behind the page
+-- the record's bytes go on after the page
 pub page_begun : {r : Rest} {timeline : ℕ → ℕ} {rest from tli : ℕ} {log page : List ℕ} → IsDue r timeline rest from tli log page
     → length page < header_length r.ident.size r.at + r.left → IsRestBegun r.ident timeline rest from (log ++ page)
 page_begun due less = record {
@@ -262,8 +262,8 @@ page_passed {r = r} {new = new} {timeline = timeline} {rest = rest} {from = from
     record {
       begins = same_from ∙ due.passed.begins;
       from_page = due.passed.from_page;
-      behind = omega (arith, due.passed.behind);
-      on_page = omega (arith, due.passed.behind);
+      past = omega (arith, due.passed.past);
+      on_page = omega (arith, due.passed.past);
       left = omega (
         arith,
         ap (λ (i : Ident). length (content i.size from (log ++ page))) same_ident,
@@ -275,7 +275,7 @@ page_passed {r = r} {new = new} {timeline = timeline} {rest = rest} {from = from
       headers = subst (λ (i : Ident). HeadersFit i timeline rest from (log ++ page)) (sym same_ident) (due_headers due);
     }
 
--- the record's bytes end on the page, and behind them stand zeros
+-- the record's bytes end on the page, and after them stand zeros
 pub page_all : {r : Rest} {timeline : ℕ → ℕ} {rest from tli : ℕ} {log page : List ℕ} (n : ℕ) → IsDue r timeline rest from tli log page
     → n ≤ length page → header_length r.ident.size r.at + r.left ≤ n → n < header_length r.ident.size r.at + r.left + 8
     → ((i : ℕ) → header_length r.ident.size r.at + r.left + i < n → get_or page (header_length r.ident.size r.at + r.left + i) 0 ≡ 0)
@@ -285,13 +285,13 @@ page_all {r = r} {timeline = timeline} {rest = rest} {from = from} {log = log} {
     let front = take m page in
     let due_all = due_front m due (omega arith) (omega arith) in
     let counted = length-take m page in
-    let behind = drop m (take n page) in
-    let long : length behind ≡ n - m = omega (arith, length-drop m (take n page), length-take n page) in
-    let read : (i : ℕ) → i < length behind → get_or behind i 0 ≡ 0 = λ i below.
-    zero_behind m n i page (omega (arith, long)) (zeros i (omega (arith, long))) in
+    let past = drop m (take n page) in
+    let long : length past ≡ n - m = omega (arith, length-drop m (take n page), length-take n page) in
+    let read : (i : ℕ) → i < length past → get_or past i 0 ≡ 0 = λ i below.
+    zero_past m n i page (omega (arith, long)) (zeros i (omega (arith, long))) in
     let parts : take n page ≡ front ++ replicate (n - m) 0 = sym (take-append-drop m (take n page))
-    ∙ ap (λ (t : List ℕ). t ++ behind) (take-take m n page all)
-    ∙ ap (λ (t : List ℕ). front ++ t) (zeros_are behind read ∙ ap (λ (k : ℕ). replicate k 0) long) in
+    ∙ ap (λ (t : List ℕ). t ++ past) (take-take m n page all)
+    ∙ ap (λ (t : List ℕ). front ++ t) (zeros_are past read ∙ ap (λ (k : ℕ). replicate k 0) long) in
     record {
       front = log ++ front;
       gap = n - m;
@@ -305,8 +305,8 @@ page_all {r = r} {timeline = timeline} {rest = rest} {from = from} {log = log} {
       few = omega arith;
     }
   where
-    zero_behind : (m n i : ℕ) (page : List ℕ) → m + i < n → get_or page (m + i) 0 ≡ 0 → get_or (drop m (take n page)) i 0 ≡ 0
-    zero_behind m n i page below is = get_or-drop m (take n page) i 0 ∙ get_or-take n page (m + i) 0 below ∙ is
+    zero_past : (m n i : ℕ) (page : List ℕ) → m + i < n → get_or page (m + i) 0 ≡ 0 → get_or (drop m (take n page)) i 0 ≡ 0
+    zero_past m n i page below is = get_or-drop m (take n page) i 0 ∙ get_or-take n page (m + i) 0 below ∙ is
 
 -- less than up to a multiple of 8
 pub gap_begun : {r : Rest} {timeline : ℕ → ℕ} {rest from tli : ℕ} {log page : List ℕ} → IsDue r timeline rest from tli log page
@@ -322,7 +322,7 @@ gap_begun {r = r} {rest = rest} {from = from} {log = log} {page = page} due with
     let all = page_all (length page) due (omega arith) within few zeros in
     let counted = length-take m page in
     let both = length-append log (take m page) in
-    let eight : (from + length (log ++ take m page)) % 8 ≡ m % 8 = omega (arith, due.passed.behind, due.passed.on_page) in
+    let eight : (from + length (log ++ take m page)) % 8 ≡ m % 8 = omega (arith, due.passed.past, due.passed.on_page) in
     record {
       headers = due_headers due;
       few = inr (subst (λ (t : List ℕ). IsGapBegun r.ident rest from (log ++ t)) (take_all (length page) page (omega arith)) (record {
@@ -340,18 +340,18 @@ page_whole {r = r} {timeline = timeline} {rest = rest} {from = from} {log = log}
     let counted = length-take n page in
     let both = length-append log (take n page) in
     let cut : log ++ take n page ≡ take (r.at + n - from) (log ++ page) =
-    sym (take-append-add log page n) ∙ ap (λ (k : ℕ). take k (log ++ page)) (omega (arith, due.passed.behind)) in
+    sym (take-append-add log page n) ∙ ap (λ (k : ℕ). take k (log ++ page)) (omega (arith, due.passed.past)) in
     record {
-      after = omega (arith, due.passed.behind, header_is r.ident.size r.at);
-      within = omega (arith, due.passed.behind, length-append log page);
+      after = omega (arith, due.passed.past, header_is r.ident.size r.at);
+      within = omega (arith, due.passed.past, length-append log page);
       rest_is = subst (IsRest r.ident timeline rest from) cut (record {
         headers = due_headers (due_front n due enough within);
         all = all;
-        rounded = omega (arith, due.passed.behind, due.passed.on_page);
+        rounded = omega (arith, due.passed.past, due.passed.on_page);
       });
     }
 
--- a byte behind the record's that is not zero
+-- a byte after the record's that is not zero
 pub gap_differs : {r : Rest} {timeline : ℕ → ℕ} {rest from tli : ℕ} {log page : List ℕ} (place : ℕ)
     → IsDue r timeline rest from tli log page
     → (header_length r.ident.size r.at + r.left) % 8 ≢ 0 → (header_length r.ident.size r.at + r.left) % 8 + place < 8
@@ -363,10 +363,10 @@ gap_differs {r = r} {timeline = timeline} {rest = rest} {from = from} {log = log
     let counted = length-take m page in
     let both = length-append log front in
     let due_all = due_front m due (omega arith) within in
-    let eight : (from + length (log ++ front)) % 8 ≡ m % 8 = omega (arith, due.passed.behind, due.passed.on_page) in
+    let eight : (from + length (log ++ front)) % 8 ≡ m % 8 = omega (arith, due.passed.past, due.passed.on_page) in
     record {
       front = log ++ front;
-      behind = drop m page;
+      past = drop m page;
       parts = ap (λ (t : List ℕ). log ++ t) (sym (take-append-drop m page)) ∙ sym (append_assoc log front (drop m page));
       headers = due_headers due_all;
       bytes = omega (arith, due_content due_all, due.passed.left, counted);

@@ -83,15 +83,15 @@ fault_more ident timeline rest from at why.Padding log more is = (
   is.0,
   record {
     front = is.1.front;
-    behind = is.1.behind ++ more;
-    parts = ap (λ (t : List ℕ). t ++ more) is.1.parts ∙ append_assoc is.1.front is.1.behind more;
+    past = is.1.past ++ more;
+    parts = ap (λ (t : List ℕ). t ++ more) is.1.parts ∙ append_assoc is.1.front is.1.past more;
     headers = is.1.headers;
     bytes = is.1.bytes;
     last = is.1.last;
     place = is.1.place;
     unrounded = is.1.unrounded;
     inside = is.1.inside;
-    wrong = λ zero. is.1.wrong (still is.1.place is.1.behind more is.1.wrong zero);
+    wrong = λ zero. is.1.wrong (still is.1.place is.1.past more is.1.wrong zero);
   },
 )
   where
@@ -99,7 +99,7 @@ fault_more ident timeline rest from at why.Padding log more is = (
     still i bytes more set zero =
         elim (cases_lt i (length bytes)) [
           | inl inside ↦ sym (get_or_append_left bytes more 0 i inside) ∙ zero
-          | inr behind ↦ absurd (set (get_or_past bytes i 0 behind))
+          | inr past ↦ absurd (set (get_or_past bytes i 0 past))
         ]
 fault_more ident timeline rest from at (why.Length found) log more is = absurd is
 fault_more ident timeline rest from at (why.Prev found expected) log more is = absurd is
@@ -132,10 +132,10 @@ pub page_is_on : {old r : Rest} {tli : ℕ} {bytes : List ℕ} {used : ℕ} (tim
     → used < length bytes → timeline (rest_position r) ≡ tli
 page_is_on {bytes = bytes} {used = used} timeline rest from log passing passed on some =
     let now = passing.passed timeline rest from log passed on (inl some) in
-    on _ now.on_page (omega (arith, now.behind, passed.behind, length-append log (take used bytes))) (omega (
+    on _ now.on_page (omega (arith, now.past, passed.past, length-append log (take used bytes))) (omega (
       arith,
-      now.behind,
-      passed.behind,
+      now.past,
+      passed.past,
       length-append log (take used bytes),
       length-take used bytes,
     ))
@@ -174,7 +174,7 @@ passing_on old r new tli used n bytes passing some within whole same low begun g
       let taken = length-take n (drop used bytes) in
       let aligned : (from + length (front ++ part)) % 8192 ≡ 0 = elim more [
         | inl less ↦ elim whole [
-          | inl full ↦ omega (arith, now.behind, now.on_page, length-drop used bytes)
+          | inl full ↦ omega (arith, now.past, now.on_page, length-drop used bytes)
           | inr all ↦ absurd (omega arith)
         ]
         | inr end ↦ omega (arith, end, ap length joined)

@@ -94,7 +94,7 @@ begins_alike ident timeline other from prev log alike is m below =
           (other_way timeline other from (length front) part) fault),
     )
 
--- behind a record end
+-- past a record end
 rest_alike : (ident : Ident) (timeline other : ℕ → ℕ) (from prev : ℕ) (log : List ℕ) (end last : ℕ)
     → AreAlike timeline other from (length log) → RecordEnd ident timeline from prev log end last
     → AreAlike timeline other end (length (drop (end - from) log))
@@ -125,13 +125,13 @@ keeps_alike w timeline other from prev log alike k = record {
   begins = k.begins;
   follows = k.follows;
   prev_fits = k.prev_fits;
-  behind = k.behind;
+  past = k.past;
   aligned = k.aligned;
   are_bytes = k.are_bytes;
   header_is = k.header_is;
   timeline_is = λ inside above begun. k.timeline_is inside above begun ∙ alike (page_start w.at) (omega arith) above (omega (
     arith,
-    k.behind,
+    k.past,
   ));
   front_is = k.front_is;
   few = k.few;

@@ -39,7 +39,7 @@ use Rattle.repl_walk.specs.Walks.{HasRefused, HasWalked}
 use Rattle.repl_walk.proofs.Ends.{ends_within}
 use Rattle.repl_walk.proofs.Faults.{fault_greatest, fault_refutes}
 
--- what stands behind the walker's end, where more bytes come
+-- what stands past the walker's end, where more bytes come
 rest_more : (w : Walker) (timeline : ℕ → ℕ) (from prev : ℕ) (log more : List ℕ) → HasWalked w timeline from prev log
     → drop (last_end w - from) (log ++ more) ≡ drop (last_end w - from) log ++ more
 rest_more w timeline from prev log more is =
@@ -49,7 +49,7 @@ rest_more w timeline from prev log more is =
 
 -- ---- a step
 
--- it took these bytes, behind which a record ended
+-- it took these bytes, after which a record ended
 pub whole_step : (w new : Walker) (timeline : ℕ → ℕ) (from prev start end used : ℕ) (log bytes : List ℕ)
     → HasWalked w timeline from prev log → identity new ≡ identity w → used ≤ length bytes
     → Answers (identity w) timeline (last_end w) (last_start w) (drop (last_end w - from) log ++ bytes) (step.Whole start end used)
@@ -132,7 +132,7 @@ bad_step w new timeline from prev at reason log bytes is same answer on =
     (subst (λ (b : ℕ). P (identity w) (last_end new) b) (sym on.2) (subst (λ (a : ℕ). P (identity w) a l) (sym on.1) p)) in
     record {
       aligned = is.aligned;
-      behind = record {
+      past = record {
         records = moved Ends (kept_by_more (identity w) timeline from prev log bytes e l is.records);
         fault = moved Wrong wrong;
       };
@@ -160,13 +160,13 @@ pub refused_prefix : (w : Walker) (timeline : ℕ → ℕ) (from prev at : ℕ) 
     → IsSegSize (identity w).size → HasRefused w timeline from prev log at reason
     → ¬ IsPrefixOfRecords (identity w) timeline from prev log
 refused_prefix w timeline from prev at reason log size_is is =
-    fault_refutes (identity w) timeline from prev log (last_end w) (last_start w) at reason size_is is.aligned is.behind
+    fault_refutes (identity w) timeline from prev log (last_end w) (last_start w) at reason size_is is.aligned is.past
 
 pub refused_whole : (w : Walker) (timeline : ℕ → ℕ) (from prev at : ℕ) (reason : WalkReason) (log : List ℕ)
     → IsSegSize (identity w).size → HasRefused w timeline from prev log at reason
     → IsWholeEnd (identity w) timeline from prev log (last_end w) (last_start w)
 refused_whole w timeline from prev at reason log size_is is =
-    fault_greatest (identity w) timeline from prev log (last_end w) (last_start w) at reason size_is is.aligned is.behind
+    fault_greatest (identity w) timeline from prev log (last_end w) (last_start w) at reason size_is is.aligned is.past
 
 -- ---- a walk
 
@@ -175,7 +175,7 @@ pub record Going (old w : Walker) (tli : ℕ) (bytes rest : List ℕ) : Type 0 w
   pub part : List ℕ
   pub parts : bytes ≡ part ++ rest
   pub same : identity w ≡ identity old
-  pub behind : position w ≡ position old + length part
+  pub past : position w ≡ position old + length part
   pub still : (at : ℕ) (reason : WalkReason) → Refuses old at reason → (w ≡ old) × (part ≡ [])
   pub walked : (timeline : ℕ → ℕ) (from prev : ℕ) (log : List ℕ) → HasWalked old timeline from prev log
       → AreOn timeline tli (position old) (length bytes) → HasWalked w timeline from prev (log ++ part)
@@ -185,7 +185,7 @@ pub rest_on : {old w : Walker} {tli : ℕ} {bytes rest : List ℕ} (timeline : �
     → AreOn timeline tli (position old) (length bytes) → AreOn timeline tli (position w) (length rest)
 rest_on {bytes = bytes} {rest = rest} timeline going on page is from below =
     let counted = length-append going.part rest in
-    on page is (omega (arith, going.behind)) (omega (arith, going.behind, ap length going.parts))
+    on page is (omega (arith, going.past)) (omega (arith, going.past, ap length going.parts))
 
 -- ---- where it begins
 
@@ -237,7 +237,7 @@ going_on old w new tli start end used bytes rest going same passes answers goes 
   parts = going.parts ∙ ap (λ (t : List ℕ). going.part ++ t) (sym (take-append-drop used rest))
       ∙ sym (append_assoc going.part (take used rest) (drop used rest));
   same = same ∙ going.same;
-  behind = omega (arith, passes, going.behind, length-append going.part (take used rest), length-take used rest);
+  past = omega (arith, passes, going.past, length-append going.part (take used rest), length-take used rest);
   still = λ at reason refuses.
       let now : Refuses w at reason = subst (λ (v : Walker). Refuses v at reason) (sym (going.still at reason refuses).0) refuses in
       let bad : step.Whole start end used ≡ step.Bad at reason = (again at reason now).0 in
@@ -252,7 +252,7 @@ going_on old w new tli start end used bytes rest going same passes answers goes 
       (goes timeline (last_end w) (last_start w) rest_is now.stands pages));
 }
 
--- the part and the rest behind the log are the piece behind it
+-- the part and the rest after the log are the piece after it
 whole_piece : (log bytes part rest : List ℕ) → bytes ≡ part ++ rest → (log ++ part) ++ rest ≡ log ++ bytes
 whole_piece log bytes part rest parts = append_assoc log part rest ∙ ap (λ (t : List ℕ). log ++ t) (sym parts)
 

@@ -35,7 +35,7 @@ HeadersFit ident timeline rest from log = (page : ℕ) → IsPage page → from 
 
 -- ---- the rest
 
--- its bytes are all there, and behind the last of them stand fewer than eight zeros
+-- its bytes are all there, and after the last of them stand fewer than eight zeros
 pub record HasAll (ident : Ident) (rest from : ℕ) (log : List ℕ) : Type 0 where
   pub front : List ℕ
   pub gap : ℕ
@@ -75,15 +75,15 @@ pub record IsWrongHeader (ident : Ident) (timeline : ℕ → ℕ) (rest from : �
 -- the rest's bytes are all there, and before the next multiple of 8 a byte is not zero
 pub record IsWrongGap (ident : Ident) (timeline : ℕ → ℕ) (rest from : ℕ) (log : List ℕ) : Type 0 where
   pub front : List ℕ
-  pub behind : List ℕ
-  pub parts : log ≡ front ++ behind
+  pub past : List ℕ
+  pub parts : log ≡ front ++ past
   pub headers : HeadersFit ident timeline rest from front
   pub bytes : length (content ident.size from front) ≡ rest
   pub last : LastIsContent ident.size from front
   pub place : ℕ
   pub unrounded : (from + length front) % 8 ≢ 0
   pub inside : (from + length front) % 8 + place < 8
-  pub wrong : get_or behind place 0 ≢ 0
+  pub wrong : get_or past place 0 ≢ 0
 
 -- the place is the page's address, and of a wrong byte in the gap where the log begins
 abbrev pub IsRestFault : Ident → (ℕ → ℕ) → ℕ → ℕ → List ℕ → ℕ → WalkReason → Type 0
@@ -119,13 +119,13 @@ rest_position r = r.at
 pub record HasPassed (r : Rest) (timeline : ℕ → ℕ) (rest from : ℕ) (log : List ℕ) : Type 0 where
   pub begins : r.from ≡ from
   pub from_page : IsPage from
-  pub behind : r.at ≡ from + length log
+  pub past : r.at ≡ from + length log
   pub on_page : IsPage r.at
   pub left : length (content r.ident.size from log) + r.left ≡ rest
   pub some : 0 < r.left
   pub headers : HeadersFit r.ident timeline rest from log
 
--- how many of these bytes the rest took that is whole; and behind a piece that ends with a page it goes on
+-- how many of these bytes the rest took that is whole; and past a piece that ends with a page it goes on
 abbrev pub RestGoesOn : Rest → (ℕ → ℕ) → ℕ → ℕ → List ℕ → List ℕ → RestStep → Type 0
 RestGoesOn r timeline rest from log bytes (step.Whole end used) = from + length log + used ≡ end
 RestGoesOn r timeline rest from log bytes step.Short = IsPage (from + length (log ++ bytes)) → HasPassed r timeline rest from (log ++ bytes)

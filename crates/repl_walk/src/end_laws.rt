@@ -5,7 +5,7 @@ ghost use Rattle.repl_record.specs.declared.answer.WalkReason.{WalkReason};
 ghost use Rattle.repl_record.specs.declared.record.RecordIn.{RecordIn};
 ghost use Rattle.repl_record.specs.Record.{IsImage, start_of};
 ghost use Rattle.repl_record.specs.Log.{IsPrefixOfRecords, IsWholeEnd, RecordEnd};
-ghost use Rattle.repl_walk.specs.Faults.{HasFault, IsFaultBehind};
+ghost use Rattle.repl_walk.specs.Faults.{HasFault, IsFaultPast};
 
 /// A log that has a fault is no prefix of records, however it goes on.
 pub fn fault_refutes_prefix()
@@ -13,16 +13,16 @@ pub fn fault_refutes_prefix()
         → HasFault ident timeline from prev log at reason → ¬ IsPrefixOfRecords ident timeline from prev (log ++ more) }
 {}
 
-/// Where bytes are added, a fault remains, behind the same record.
+/// Where bytes are added, a fault remains, after the same record.
 pub fn more_keeps_faults()
     ensures { (ident : Ident) (timeline : ℕ → ℕ) (from prev : ℕ) (log more : List ℕ) (end last at : ℕ) (reason : WalkReason)
-        → IsFaultBehind ident timeline from prev log end last at reason → IsFaultBehind ident timeline from prev (log ++ more) end last at reason }
+        → IsFaultPast ident timeline from prev log end last at reason → IsFaultPast ident timeline from prev (log ++ more) end last at reason }
 {}
 
 /// The record end before a fault is the greatest.
 pub fn fault_has_the_greatest_end()
     ensures { (ident : Ident) (timeline : ℕ → ℕ) (from prev : ℕ) (log : List ℕ) (end last at : ℕ) (reason : WalkReason) → IsSegSize ident.size → from % 8 ≡ 0
-        → IsFaultBehind ident timeline from prev log end last at reason → IsWholeEnd ident timeline from prev log end last }
+        → IsFaultPast ident timeline from prev log end last at reason → IsWholeEnd ident timeline from prev log end last }
 {}
 
 /// A log has one fault at most.
@@ -37,7 +37,7 @@ pub fn cut_keeps_prefix()
         → IsPrefixOfRecords ident timeline from prev log → IsPrefixOfRecords ident timeline from prev (take c log) }
 {}
 
-/// What ends behind a record end, counted from there, ends in the log. With `ends_in_line` the record ends from a pair on,
+/// What ends past a record end, counted from there, ends in the log. With `ends_in_line` the record ends from a pair on,
 /// of a record's end and its start, are those of the log.
 pub fn ends_join()
     ensures { (ident : Ident) (timeline : ℕ → ℕ) (from prev : ℕ) (log : List ℕ) (end last later start : ℕ)
@@ -46,14 +46,14 @@ pub fn ends_join()
 {}
 
 /// So the log is a prefix of records where it is one from a record end on.
-pub fn prefix_behind_an_end()
+pub fn prefix_past_an_end()
     ensures { (ident : Ident) (timeline : ℕ → ℕ) (from prev : ℕ) (log : List ℕ) (end last : ℕ) → IsSegSize ident.size → from % 8 ≡ 0
         → RecordEnd ident timeline from prev log end last
         → IsPrefixOfRecords ident timeline from prev log ↔ IsPrefixOfRecords ident timeline end last (drop (end - from) log) }
 {}
 
 /// And the greatest record end is the same.
-pub fn whole_end_behind_an_end()
+pub fn whole_end_past_an_end()
     ensures { (ident : Ident) (timeline : ℕ → ℕ) (from prev : ℕ) (log : List ℕ) (end last whole start : ℕ) → IsSegSize ident.size → from % 8 ≡ 0
         → RecordEnd ident timeline from prev log end last
         → IsWholeEnd ident timeline from prev log whole start ↔ IsWholeEnd ident timeline end last (drop (end - from) log) whole start }

@@ -14,19 +14,19 @@
 //! ```
 #![tactic(auto)]
 
-mod behind_any;
 mod end_laws;
+mod past_any;
 mod pieces;
 mod rest;
 mod rest_laws;
 mod timeline_laws;
 mod walk_laws;
 
-pub use behind_any::walk_behind_any;
 pub use end_laws::{
     cut_keeps_prefix, ends_go_on, ends_join, fault_has_the_greatest_end, fault_refutes_prefix,
-    more_keeps_faults, one_fault, prefix_behind_an_end, whole_end_behind_an_end,
+    more_keeps_faults, one_fault, prefix_past_an_end, whole_end_past_an_end,
 };
+pub use past_any::walk_past_any;
 pub use pieces::{WalkFault, walk};
 pub use rest::{REST_LIMIT, Rest, RestStep, rest_on_page};
 pub use rest_laws::{image_has_a_rest, one_rest_answer};

@@ -17,7 +17,7 @@ pub struct WalkFault {
     pub why: WalkReason,
 }
 
-/// Takes a whole piece of the log, the next behind those that the walker was given, and judges it. Pages that begin in
+/// Takes a whole piece of the log, the next after those that the walker was given, and judges it. Pages that begin in
 /// it are on this timeline. The walker then tells where the last whole record ends and starts, also where the piece is
 /// refused. Takes no memory.
 pub fn walk(walker: &mut Walker, tli: Tli, bytes: &[u8]) -> Result<(), WalkFault>

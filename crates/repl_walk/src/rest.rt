@@ -23,16 +23,16 @@ const PAGE: usize = PAGE_SIZE as usize;
 pub enum RestStep {
     /// It is whole.
     Whole {
-        /// The position behind it, where the next record's image begins.
+        /// The position after it, where the next record's image begins.
         end: Lsn,
-        /// How many of the bytes were taken. Those behind are the next record's.
+        /// How many of the bytes were taken. Those after are the next record's.
         used: usize,
     },
     /// All bytes were taken, and it goes on.
     Short,
     /// No rest of a record goes on so.
     Bad {
-        /// The page's address, or, for a byte behind the rest, where the rest begins.
+        /// The page's address, or, for a byte after the rest, where the rest begins.
         at: Lsn,
         why: WalkReason,
     },
@@ -131,7 +131,7 @@ impl Rest {
         }
     }
 
-    /// Takes what stands on the page behind its header, which is the one that is due.
+    /// Takes what stands on the page after its header, which is the one that is due.
     fn through_bytes(&mut self, tli: Tli, header: usize, page: &[u8]) -> RestStep
         requires size { IsSegSize self.old.ident.size }
         requires header { header ≡ header_length self.old.ident.size self.old.at }
@@ -174,7 +174,7 @@ impl Rest {
     }
 }
 
-/// Where the first byte stands that is not zero; where there is none, behind the last.
+/// Where the first byte stands that is not zero; where there is none, after the last.
 fn first_set(bytes: &[u8]) -> usize
     ensures within { result ≤ length bytes.now }
     ensures before { (k : ℕ) → k < result → slice_index bytes.now k ≡ 0 }

@@ -14,7 +14,7 @@ pub fn alike_image()
         → IsImage ident timeline from prev item log → IsImage ident other from prev item log }
 {}
 
-/// Two paths that are one up to the log's end have the same record ends there: what a path goes on with behind the log
+/// Two paths that are one up to the log's end have the same record ends there: what a path goes on with after the log
 /// changes none.
 pub fn alike_ends()
     ensures { (ident : Ident) (timeline other : ℕ → ℕ) (from prev : ℕ) (log : List ℕ) (end last : ℕ) → AreAlike timeline other from (length log)

@@ -26,7 +26,7 @@ use Rattle.repl_wire.specs.declared.taking.Taken.{Taken}
 use Rattle.repl_wire.specs.declared.taking.Taken.TheVariants as taken
 use Rattle.repl_wire.specs.Judging.{int16_at, int32_at, counted_at, made, text_of, nothing_of, authentication_of, setting_of, key_of, status_of, description_of, data_row_of, tag_of, error_of, notice_of, copy_done_of, copy_both_of, Row, judge_row, judge_back}
 use Rattle.repl_wire.specs.Places.{description_fields, coded_fields, column_fields, back_fields, LeavesAt, IsOfBackKind, IsFault}
-use Rattle.repl_wire.proofs.Leaving.{Language, IsBody, Leaves, leaves_here, leaves_behind, leaves_as, leaves_at, Nothing, bind_err, leaves_end, IsParted, HasSome, some_parted, leaves_then, leaves_last}
+use Rattle.repl_wire.proofs.Leaving.{Language, IsBody, Leaves, leaves_here, leaves_past, leaves_as, leaves_at, Nothing, bind_err, leaves_end, IsParted, HasSome, some_parted, leaves_then, leaves_last}
 use Rattle.repl_wire.proofs.FieldParts.{field_part, text_field, int16_field, int32_field, int32_left, byte_field}
 use Rattle.repl_wire.proofs.ColumnParts.{FitsValue, values_parts, values_from, column_part}
 use Rattle.repl_wire.proofs.ListParts.{IsListed, counted_fields, counted_part}
@@ -86,17 +86,17 @@ no_text = All-nil (λ (b : ℕ). (0 < b) × (b < 256))
 abbrev Single : List ℕ → Language
 Single x fs = fs ≡ x ∷ []
 
-behind_single : (x body rest : List ℕ) (left : ℕ) → body ≡ x ++ rest → Leaves Nothing rest left → Leaves (Single x) body left
-behind_single x body rest left parts l = leaves_behind (Single x) x body rest left parts
+past_single : (x body rest : List ℕ) (left : ℕ) → body ≡ x ++ rest → Leaves Nothing rest left → Leaves (Single x) body left
+past_single x body rest left parts l = leaves_past (Single x) x body rest left parts
     (leaves_as Nothing (λ fs. Single x (x ∷ fs)) rest left (λ fs n. ap (λ (t : List (List ℕ)). x ∷ t) n) (λ fs n. cc) l)
 
-here_single : (x body : List ℕ) (left : ℕ) → length body ≡ left → ((behind : List ℕ) → body ≢ x ++ behind) → Leaves (Single x) body left
+here_single : (x body : List ℕ) (left : ℕ) → length body ≡ left → ((past : List ℕ) → body ≢ x ++ past) → Leaves (Single x) body left
 here_single x body left size none =
-    leaves_here (Single x) body left size (x ∷ [], refl) (λ f more behind s b. let same : f ≡ x = cc in
-    none behind (b ∙ ap (λ (t : List ℕ). t ++ behind) same)) (λ s. absurd cc)
+    leaves_here (Single x) body left size (x ∷ [], refl) (λ f more past s b. let same : f ≡ x = cc in
+    none past (b ∙ ap (λ (t : List ℕ). t ++ past) same)) (λ s. absurd cc)
 
-abbrev behind_code : List ℕ → ℕ × List ℕ → Result Back ℕ
-behind_code body code = cond (eqb code.0 0) (whole (back.AuthenticationOk, code.1)) (Err (length body))
+abbrev past_code : List ℕ → ℕ × List ℕ → Result Back ℕ
+past_code body code = cond (eqb code.0 0) (whole (back.AuthenticationOk, code.1)) (Err (length body))
 
 err_is : {A : Type 0} (r : Result A ℕ) (n left : ℕ) → r ≡ Err n → r ≡ Err left → n ≡ left
 err_is r n left e f = let same = sym e ∙ f in cc
@@ -104,24 +104,24 @@ err_is r n left e f = let same = sym e ∙ f in cc
 authentication_leaves : (body : List ℕ) (left : ℕ) → IsBody body → authentication_of body ≡ Err left → Leaves (Single (int32 0)) body left
 unfolding authentication_of
 authentication_leaves body left is e =
-    elim (bind_err (int32_at body) (behind_code body) left e) [
+    elim (bind_err (int32_at body) (past_code body) left e) [
       | inl none ↦
           let r = int32_left body left none in
-          here_single (int32 0) body left r.1 (λ behind b. omega (arith, r.0, ap length b))
+          here_single (int32 0) body left r.1 (λ past b. omega (arith, r.0, ap length b))
       | inr a ↦
           let code = int32_field.takes body a.0.0 a.0.1 is a.1 in
           elim (choice (eqb a.0.0 0) (whole (back.AuthenticationOk, a.0.1)) (Err (length body)) (Err left) a.2) [
-            | inl ok ↦ behind_single (int32 0) body a.0.1 left (code.0 ∙ ap (λ (n : ℕ). int32 n ++ a.0.1) (eqb-true _ _ ok.0))
+            | inl ok ↦ past_single (int32 0) body a.0.1 left (code.0 ∙ ap (λ (n : ℕ). int32 n ++ a.0.1) (eqb-true _ _ ok.0))
                 (leaves_end back.AuthenticationOk a.0.1 left ok.1)
             | inr other ↦
                 let size : length body ≡ left = (let o = other.1 in cc) in
-                here_single (int32 0) body left size (λ behind b. eqb-false _ _ other.0
-                (int32_field_one a.0.0 a.0.1 behind code.2 (sym code.0 ∙ b)))
+                here_single (int32 0) body left size (λ past b. eqb-false _ _ other.0
+                (int32_field_one a.0.0 a.0.1 past code.2 (sym code.0 ∙ b)))
           ]
     ]
   where
-    int32_field_one : (n : ℕ) (rest behind : List ℕ) → n < 2 ^ 32 → int32 n ++ rest ≡ int32 0 ++ behind → n ≡ 0
-    int32_field_one n rest behind below e = (int32_one.one n 0 rest behind below (omega arith) e).0
+    int32_field_one : (n : ℕ) (rest past : List ℕ) → n < 2 ^ 32 → int32 n ++ rest ≡ int32 0 ++ past → n ≡ 0
+    int32_field_one n rest past below e = (int32_one.one n 0 rest past below (omega arith) e).0
 
 authentication_long : AreLong 82 4 MESSAGE_LIMIT
 authentication_long back.AuthenticationOk e = (omega arith, refl)
@@ -151,13 +151,13 @@ TwoTexts = IsParted IsText (λ t. string t ∷ []) (λ t. OneText)
 one_text : HasSome OneText
 one_text = some_parted (λ t. string t ∷ []) (λ t. Nothing) [] no_text ([], refl)
 
-abbrev behind_name : List ℕ × List ℕ → Result Back ℕ
-behind_name name = string_at name.1 >>= λ value. whole (back.ParameterStatus name.0 value.0, value.1)
+abbrev past_name : List ℕ × List ℕ → Result Back ℕ
+past_name name = string_at name.1 >>= λ value. whole (back.ParameterStatus name.0 value.0, value.1)
 
 setting_leaves : (body : List ℕ) (left : ℕ) → IsBody body → setting_of body ≡ Err left → Leaves TwoTexts body left
 unfolding setting_of
 setting_leaves body left is e =
-    leaves_then (field_part text_field) (λ t. OneText) (λ t fits. one_text) behind_name body left is
+    leaves_then (field_part text_field) (λ t. OneText) (λ t fits. one_text) past_name body left is
     (λ name rest fits body parts failed. leaves_last (field_part text_field) (λ (value : List ℕ). back.ParameterStatus name value) rest
     left body failed) e
 
@@ -175,9 +175,9 @@ setting_long _ e = absurd (omega (arith, e))
 
 setting_to : (fs : List (List ℕ)) → TwoTexts fs → (m : Back) × IsOfBackKind 83 m × (back_fields m ≡ fs)
 setting_to fs p = (
-  back.ParameterStatus p.value p.behind.value,
-  record { fits = (p.fits, p.behind.fits); sized = tt; kind_is = refl },
-  ap (λ (t : List (List ℕ)). string p.value ∷ t) (text_is p.more p.behind.more p.behind.value p.behind.parts p.behind.behind)
+  back.ParameterStatus p.value p.past.value,
+  record { fits = (p.fits, p.past.fits); sized = tt; kind_is = refl },
+  ap (λ (t : List (List ℕ)). string p.value ∷ t) (text_is p.more p.past.more p.past.value p.past.parts p.past.past)
       ∙ sym p.parts,
 )
 
@@ -187,7 +187,7 @@ setting_from (back.ParameterStatus name value) is = record {
   fits = is.fits.0;
   more = string value ∷ [];
   parts = refl;
-  behind = record { value = value; fits = is.fits.1; more = []; parts = refl; behind = refl };
+  past = record { value = value; fits = is.fits.1; more = []; parts = refl; past = refl };
 }
 setting_from _ is = absurd (omega (arith, is.kind_is))
 
@@ -210,14 +210,14 @@ OneNumber = IsParted (λ n. n < 2 ^ 32) (λ n. int32 n ∷ []) (λ n. Nothing)
 abbrev TwoNumbers : Language
 TwoNumbers = IsParted (λ n. n < 2 ^ 32) (λ n. int32 n ∷ []) (λ n. OneNumber)
 
-abbrev behind_pid : ℕ × List ℕ → Result Back ℕ
-behind_pid pid = int32_at pid.1 >>= λ key. whole (back.BackendKeyData pid.0 key.0, key.1)
+abbrev past_pid : ℕ × List ℕ → Result Back ℕ
+past_pid pid = int32_at pid.1 >>= λ key. whole (back.BackendKeyData pid.0 key.0, key.1)
 
 key_leaves : (body : List ℕ) (left : ℕ) → IsBody body → key_of body ≡ Err left → Leaves TwoNumbers body left
 unfolding key_of
 key_leaves body left is e =
     leaves_then (field_part int32_field) (λ n. OneNumber) (λ n fits. some_parted (λ k. int32 k ∷ []) (λ k. Nothing) 0 (omega arith)
-    ([], refl)) behind_pid body left is
+    ([], refl)) past_pid body left is
     (λ pid rest fits body parts failed. leaves_last (field_part int32_field) (λ (key : ℕ). back.BackendKeyData pid key) rest left body
     failed) e
 
@@ -230,9 +230,9 @@ number_is fs more n e nothing = sym (e ∙ ap (λ (t : List (List ℕ)). int32 n
 
 key_to : (fs : List (List ℕ)) → TwoNumbers fs → (m : Back) × IsOfBackKind 75 m × (back_fields m ≡ fs)
 key_to fs p = (
-  back.BackendKeyData p.value p.behind.value,
-  record { fits = (p.fits, p.behind.fits); sized = tt; kind_is = refl },
-  ap (λ (t : List (List ℕ)). int32 p.value ∷ t) (number_is p.more p.behind.more p.behind.value p.behind.parts p.behind.behind)
+  back.BackendKeyData p.value p.past.value,
+  record { fits = (p.fits, p.past.fits); sized = tt; kind_is = refl },
+  ap (λ (t : List (List ℕ)). int32 p.value ∷ t) (number_is p.more p.past.more p.past.value p.past.parts p.past.past)
       ∙ sym p.parts,
 )
 
@@ -242,7 +242,7 @@ key_from (back.BackendKeyData pid key) is = record {
   fits = is.fits.0;
   more = int32 key ∷ [];
   parts = refl;
-  behind = record { value = key; fits = is.fits.1; more = []; parts = refl; behind = refl };
+  past = record { value = key; fits = is.fits.1; more = []; parts = refl; past = refl };
 }
 key_from _ is = absurd (omega (arith, is.kind_is))
 
@@ -261,37 +261,37 @@ key_row = record {
 abbrev Status : Language
 Status fs = (s : TransactionStatus) × (fs ≡ (status_byte s ∷ []) ∷ [])
 
-status_here : (body : List ℕ) (left : ℕ) → length body ≡ left → ((s : TransactionStatus) (behind : List ℕ) → body ≢ status_byte s ∷ behind)
+status_here : (body : List ℕ) (left : ℕ) → length body ≡ left → ((s : TransactionStatus) (past : List ℕ) → body ≢ status_byte s ∷ past)
     → Leaves Status body left
 status_here body left size none =
     leaves_here Status body left size ((73 ∷ []) ∷ [], (Idle, refl))
-    (λ f more behind s b. let e = s.1 in let same : f ≡ status_byte s.0 ∷ [] = cc in
-    none s.0 behind (b ∙ ap (λ (t : List ℕ). t ++ behind) same)) (λ s. absurd (let e = s.1 in cc))
+    (λ f more past s b. let e = s.1 in let same : f ≡ status_byte s.0 ∷ [] = cc in
+    none s.0 past (b ∙ ap (λ (t : List ℕ). t ++ past) same)) (λ s. absurd (let e = s.1 in cc))
 
--- behind a status that was read stands nothing
-status_behind : (b : ℕ) (rest : List ℕ) (left : ℕ) (s : TransactionStatus) → b ≡ status_byte s → whole (back.ReadyForQuery s, rest)
+-- after a status that was read stands nothing
+status_past : (b : ℕ) (rest : List ℕ) (left : ℕ) (s : TransactionStatus) → b ≡ status_byte s → whole (back.ReadyForQuery s, rest)
     ≡ Err left → Leaves Status (b ∷ rest) left
-status_behind b rest left s is e =
-    leaves_behind Status (b ∷ []) (b ∷ rest) rest left refl
+status_past b rest left s is e =
+    leaves_past Status (b ∷ []) (b ∷ rest) rest left refl
     (leaves_as Nothing (λ fs. Status ((b ∷ []) ∷ fs)) rest left (λ fs n. (s, cc)) (λ fs t. let e = t.1 in cc)
     (leaves_end (back.ReadyForQuery s) rest left e))
 
-no_status : (b : ℕ) (rest : List ℕ) → b ≢ 73 → b ≢ 84 → b ≢ 69 → (s : TransactionStatus) (behind : List ℕ)
-    → b ∷ rest ≢ status_byte s ∷ behind
-no_status b rest i o f Idle behind e = i (cc)
-no_status b rest i o f Open behind e = o (cc)
-no_status b rest i o f Failed behind e = f (cc)
+no_status : (b : ℕ) (rest : List ℕ) → b ≢ 73 → b ≢ 84 → b ≢ 69 → (s : TransactionStatus) (past : List ℕ)
+    → b ∷ rest ≢ status_byte s ∷ past
+no_status b rest i o f Idle past e = i (cc)
+no_status b rest i o f Open past e = o (cc)
+no_status b rest i o f Failed past e = f (cc)
 
 status_leaves : (body : List ℕ) (left : ℕ) → status_of body ≡ Err left → Leaves Status body left
 unfolding status_of
-status_leaves [] left e = status_here [] left (cc) (λ s behind b. absurd cc)
+status_leaves [] left e = status_here [] left (cc) (λ s past b. absurd cc)
 status_leaves (b ∷ rest) left e =
     elim (choice (eqb b 73) (whole (back.ReadyForQuery Idle, rest)) _ (Err left) e) [
-      | inl i ↦ status_behind b rest left Idle (eqb-true _ _ i.0) i.1
+      | inl i ↦ status_past b rest left Idle (eqb-true _ _ i.0) i.1
       | inr e1 ↦ elim (choice (eqb b 84) (whole (back.ReadyForQuery Open, rest)) _ (Err left) e1.1) [
-        | inl o ↦ status_behind b rest left Open (eqb-true _ _ o.0) o.1
+        | inl o ↦ status_past b rest left Open (eqb-true _ _ o.0) o.1
         | inr e2 ↦ elim (choice (eqb b 69) (whole (back.ReadyForQuery Failed, rest)) _ (Err left) e2.1) [
-          | inl f ↦ status_behind b rest left Failed (eqb-true _ _ f.0) f.1
+          | inl f ↦ status_past b rest left Failed (eqb-true _ _ f.0) f.1
           | inr e3 ↦ status_here (b ∷ rest) left (let n = e3.1 in cc)
               (no_status b rest (eqb-false _ _ e1.0) (eqb-false _ _ e2.0) (eqb-false _ _ e3.0))
         ]
@@ -319,7 +319,7 @@ status_row = record {
 
 -- ---- lists that their length counts
 
--- such a list, and nothing behind it
+-- such a list, and nothing after it
 abbrev Listed : {A : Type 0} → (A → Type 0) → (A → List (List ℕ)) → Language
 Listed Fits fields = IsParted (IsListed Fits) (counted_fields fields) (λ xs. Nothing)
 
@@ -333,7 +333,7 @@ listed_from Fits fields xs are = record {
   fits = are;
   more = [];
   parts = sym (append-nil (counted_fields fields xs));
-  behind = refl;
+  past = refl;
 }
 
 -- ---- RowDescription
@@ -366,7 +366,7 @@ description_row = record {
       (λ fs p. (
         back.RowDescription p.value,
         record { fits = (p.fits.few, p.fits.each); sized = tt; kind_is = refl },
-        all_of fs (counted_fields description_fields p.value) p.more p.parts p.behind,
+        all_of fs (counted_fields description_fields p.value) p.more p.parts p.past,
       )) description_from
       (description_leaves body left is e);
 }
@@ -405,7 +405,7 @@ data_row_row = record {
           sized = (values_parts p.value p.fits.each).1;
           kind_is = refl;
         },
-        all_of fs (counted_fields column_fields p.value) p.more p.parts p.behind,
+        all_of fs (counted_fields column_fields p.value) p.more p.parts p.past,
       )) data_row_from
       (data_row_leaves body left is e);
 }
@@ -425,7 +425,7 @@ tag_long (back.CommandComplete tag) e = (omega (arith, length-append tag (0 ∷ 
 tag_long _ e = absurd (omega (arith, e))
 
 tag_from : (m : Back) → IsOfBackKind 67 m → OneText (back_fields m)
-tag_from (back.CommandComplete tag) is = record { value = tag; fits = is.fits; more = []; parts = refl; behind = refl }
+tag_from (back.CommandComplete tag) is = record { value = tag; fits = is.fits; more = []; parts = refl; past = refl }
 tag_from _ is = absurd (omega (arith, is.kind_is))
 
 tag_row : IsRow 67 1 MESSAGE_LIMIT tag_of
@@ -436,7 +436,7 @@ tag_row = record {
   is = record { fits = no_text; within = omega arith };
   kind_is = refl;
   leaves = λ body left is e. leaves_at (IsOfBackKind 67) back_fields OneText body left
-      (λ fs p. (back.CommandComplete p.value, record { fits = p.fits; sized = tt; kind_is = refl }, text_is fs p.more p.value p.parts p.behind))
+      (λ fs p. (back.CommandComplete p.value, record { fits = p.fits; sized = tt; kind_is = refl }, text_is fs p.more p.value p.parts p.past))
       tag_from (tag_leaves body left is e);
 }
 
@@ -446,7 +446,7 @@ abbrev Codes : Language
 Codes = IsParted (AllByRecursion FitsErrorField) (ended_fields coded_fields) (λ xs. Nothing)
 
 codes_from : (xs : List ErrorField) → AllByRecursion FitsErrorField xs → Codes (ended_fields coded_fields xs)
-codes_from xs are = record { value = xs; fits = are; more = []; parts = sym (append-nil (ended_fields coded_fields xs)); behind = refl }
+codes_from xs are = record { value = xs; fits = are; more = []; parts = sym (append-nil (ended_fields coded_fields xs)); past = refl }
 
 error_leaves : (body : List ℕ) (left : ℕ) → IsBody body → error_of body ≡ Err left → Leaves Codes body left
 unfolding error_of
@@ -483,7 +483,7 @@ error_row = record {
       (λ fs p. (
         back.ErrorResponse p.value,
         record { fits = p.fits; sized = tt; kind_is = refl },
-        all_of fs (ended_fields coded_fields p.value) p.more p.parts p.behind,
+        all_of fs (ended_fields coded_fields p.value) p.more p.parts p.past,
       )) error_from (error_leaves body left is e);
 }
 
@@ -498,7 +498,7 @@ notice_row = record {
       (λ fs p. (
         back.NoticeResponse p.value,
         record { fits = p.fits; sized = tt; kind_is = refl },
-        all_of fs (ended_fields coded_fields p.value) p.more p.parts p.behind,
+        all_of fs (ended_fields coded_fields p.value) p.more p.parts p.past,
       )) notice_from (notice_leaves body left is e);
 }
 
@@ -549,8 +549,8 @@ Formats = Listed (λ n. n < 2 ^ 16) (λ n. int16 n ∷ [])
 abbrev FormatThen : Language
 FormatThen = IsParted (λ b. b < 256) (λ b. (b ∷ []) ∷ []) (λ b. Formats)
 
-abbrev behind_format : ℕ × List ℕ → Result Back ℕ
-behind_format format = counted_at int16_at format.1 >>= λ formats. whole (back.CopyBoth format.0 formats.0, formats.1)
+abbrev past_format : ℕ × List ℕ → Result Back ℕ
+past_format format = counted_at int16_at format.1 >>= λ formats. whole (back.CopyBoth format.0 formats.0, formats.1)
 
 formats_fields : (formats : List ℕ) → counted_fields (λ n. int16 n ∷ []) formats ≡ int16 (length formats) ∷ map int16 formats
 formats_fields formats = ap (λ (t : List (List ℕ)). int16 (length formats) ∷ t) (flat_map_single int16 formats)
@@ -561,7 +561,7 @@ some_formats = some_parted (counted_fields (λ n. int16 n ∷ [])) (λ xs. Nothi
 both_leaves : (body : List ℕ) (left : ℕ) → IsBody body → copy_both_of body ≡ Err left → Leaves FormatThen body left
 unfolding copy_both_of
 both_leaves body left is e =
-    leaves_then (field_part byte_field) (λ b. Formats) (λ b fits. some_formats) behind_format body left is
+    leaves_then (field_part byte_field) (λ b. Formats) (λ b fits. some_formats) past_format body left is
     (λ format rest fits body parts failed. leaves_last (counted_part (field_part int16_field))
     (λ (formats : List ℕ). back.CopyBoth format formats) rest left body failed) e
 
@@ -571,10 +571,10 @@ both_long _ e = absurd (omega (arith, e))
 
 both_to : (fs : List (List ℕ)) → FormatThen fs → (m : Back) × IsOfBackKind 87 m × (back_fields m ≡ fs)
 both_to fs p = (
-  back.CopyBoth p.value p.behind.value,
-  record { fits = (p.fits, p.behind.fits.few, p.behind.fits.each); sized = tt; kind_is = refl },
-  ap (λ (t : List (List ℕ)). (p.value ∷ []) ∷ t) (sym (formats_fields p.behind.value)
-      ∙ all_of p.more (counted_fields (λ n. int16 n ∷ []) p.behind.value) p.behind.more p.behind.parts p.behind.behind) ∙ sym p.parts,
+  back.CopyBoth p.value p.past.value,
+  record { fits = (p.fits, p.past.fits.few, p.past.fits.each); sized = tt; kind_is = refl },
+  ap (λ (t : List (List ℕ)). (p.value ∷ []) ∷ t) (sym (formats_fields p.past.value)
+      ∙ all_of p.more (counted_fields (λ n. int16 n ∷ []) p.past.value) p.past.more p.past.parts p.past.past) ∙ sym p.parts,
 )
 
 both_from : (m : Back) → IsOfBackKind 87 m → FormatThen (back_fields m)
@@ -583,7 +583,7 @@ both_from (back.CopyBoth format formats) is = record {
   fits = is.fits.0;
   more = int16 (length formats) ∷ map int16 formats;
   parts = refl;
-  behind = subst Formats (formats_fields formats) (listed_from (λ n. n < 2 ^ 16) (λ n. int16 n ∷ []) formats
+  past = subst Formats (formats_fields formats) (listed_from (λ n. n < 2 ^ 16) (λ n. int16 n ∷ []) formats
       (record { few = is.fits.1; each = is.fits.2 }));
 }
 both_from _ is = absurd (omega (arith, is.kind_is))
@@ -669,32 +669,32 @@ pub back_fault : (bytes : List ℕ) (f : WireFault) → IsBytes bytes → AreNon
 unfolding judge_back
 back_fault [] f fits none e = absurd cc
 back_fault (kind ∷ bytes) f fits none e =
-    let behind = IsBytes-rest kind bytes fits in
+    let past = IsBytes-rest kind bytes fits in
     let wrong = taken.Wrong f in
     elim (rows (eqb kind 82) _ _ bytes wrong e) [
-      | inl r ↦ row_fault authentication_row kind bytes f behind none (eqb-true _ _ r.0) r.1
+      | inl r ↦ row_fault authentication_row kind bytes f past none (eqb-true _ _ r.0) r.1
       | inr e1 ↦ elim (rows (eqb kind 83) _ _ bytes wrong e1.1) [
-        | inl r ↦ row_fault setting_row kind bytes f behind none (eqb-true _ _ r.0) r.1
+        | inl r ↦ row_fault setting_row kind bytes f past none (eqb-true _ _ r.0) r.1
         | inr e2 ↦ elim (rows (eqb kind 75) _ _ bytes wrong e2.1) [
-          | inl r ↦ row_fault key_row kind bytes f behind none (eqb-true _ _ r.0) r.1
+          | inl r ↦ row_fault key_row kind bytes f past none (eqb-true _ _ r.0) r.1
           | inr e3 ↦ elim (rows (eqb kind 90) _ _ bytes wrong e3.1) [
-            | inl r ↦ row_fault status_row kind bytes f behind none (eqb-true _ _ r.0) r.1
+            | inl r ↦ row_fault status_row kind bytes f past none (eqb-true _ _ r.0) r.1
             | inr e4 ↦ elim (rows (eqb kind 84) _ _ bytes wrong e4.1) [
-              | inl r ↦ row_fault description_row kind bytes f behind none (eqb-true _ _ r.0) r.1
+              | inl r ↦ row_fault description_row kind bytes f past none (eqb-true _ _ r.0) r.1
               | inr e5 ↦ elim (rows (eqb kind 68) _ _ bytes wrong e5.1) [
-                | inl r ↦ row_fault data_row_row kind bytes f behind none (eqb-true _ _ r.0) r.1
+                | inl r ↦ row_fault data_row_row kind bytes f past none (eqb-true _ _ r.0) r.1
                 | inr e6 ↦ elim (rows (eqb kind 67) _ _ bytes wrong e6.1) [
-                  | inl r ↦ row_fault tag_row kind bytes f behind none (eqb-true _ _ r.0) r.1
+                  | inl r ↦ row_fault tag_row kind bytes f past none (eqb-true _ _ r.0) r.1
                   | inr e7 ↦ elim (rows (eqb kind 69) _ _ bytes wrong e7.1) [
-                    | inl r ↦ row_fault error_row kind bytes f behind none (eqb-true _ _ r.0) r.1
+                    | inl r ↦ row_fault error_row kind bytes f past none (eqb-true _ _ r.0) r.1
                     | inr e8 ↦ elim (rows (eqb kind 78) _ _ bytes wrong e8.1) [
-                      | inl r ↦ row_fault notice_row kind bytes f behind none (eqb-true _ _ r.0) r.1
+                      | inl r ↦ row_fault notice_row kind bytes f past none (eqb-true _ _ r.0) r.1
                       | inr e9 ↦ elim (rows (eqb kind 100) _ _ bytes wrong e9.1) [
-                        | inl r ↦ row_fault data_row kind bytes f behind none (eqb-true _ _ r.0) r.1
+                        | inl r ↦ row_fault data_row kind bytes f past none (eqb-true _ _ r.0) r.1
                         | inr e10 ↦ elim (rows (eqb kind 99) _ _ bytes wrong e10.1) [
-                          | inl r ↦ row_fault done_row kind bytes f behind none (eqb-true _ _ r.0) r.1
+                          | inl r ↦ row_fault done_row kind bytes f past none (eqb-true _ _ r.0) r.1
                           | inr e11 ↦ elim (rows (eqb kind 87) _ _ bytes wrong e11.1) [
-                            | inl r ↦ row_fault both_row kind bytes f behind none (eqb-true _ _ r.0) r.1
+                            | inl r ↦ row_fault both_row kind bytes f past none (eqb-true _ _ r.0) r.1
                             | inr e12 ↦ kind_fault kind bytes f e12.1 (no_kind kind (record {
                               authentication = eqb-false _ _ e1.0;
                               setting = eqb-false _ _ e2.0;

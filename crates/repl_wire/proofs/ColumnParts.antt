@@ -48,7 +48,7 @@ use Rattle.repl_wire.specs.Judging.{int32_at, column_at}
 use Rattle.repl_wire.specs.Places.{column_fields, IsSized}
 use Rattle.repl_wire.proofs.BodyLaws.{are_bytes}
 use Rattle.repl_wire.proofs.FieldSpellings.{column_is}
-use Rattle.repl_wire.proofs.Leaving.{IsBody, IsBody-rest, Leaves, leaves_here, leaves_behind, bind_err, IsParted, HasSome, IsPart, some_parted}
+use Rattle.repl_wire.proofs.Leaving.{IsBody, IsBody-rest, Leaves, leaves_here, leaves_past, bind_err, IsParted, HasSome, IsPart, some_parted}
 use Rattle.repl_wire.proofs.FieldParts.{int32_field, int32_left}
 
 abbrev Column : Type 0
@@ -90,34 +90,34 @@ length_small : (n : ℕ) → IsLength n → n < 2 ^ 32
 length_small n (inl sized) = omega (arith, sized)
 length_small n (inr null) = omega (arith, null)
 
--- what stands behind the length
-abbrev behind_length : Column → List (List ℕ)
-behind_length None = []
-behind_length (Some bytes) = bytes ∷ []
+-- what stands after the length
+abbrev past_length : Column → List (List ℕ)
+past_length None = []
+past_length (Some bytes) = bytes ∷ []
 
-fields_parts : (c : Column) (more : List (List ℕ)) → column_fields c ++ more ≡ int32 (length_of c) ∷ (behind_length c ++ more)
+fields_parts : (c : Column) (more : List (List ℕ)) → column_fields c ++ more ≡ int32 (length_of c) ∷ (past_length c ++ more)
 fields_parts None more = refl
 fields_parts (Some bytes) more = refl
 
 -- the first field is the length
 first_is : (c : Column) (field : List ℕ) (others more : List (List ℕ)) → field ∷ others ≡ column_fields c ++ more
-    → (field ≡ int32 (length_of c)) × (others ≡ behind_length c ++ more)
+    → (field ≡ int32 (length_of c)) × (others ≡ past_length c ++ more)
 first_is c field others more e = let whole = e ∙ fields_parts c more in (cc, cc)
 
 -- a length says which it is
 same_length : (m n : ℕ) → m < 2 ^ 32 → n < 2 ^ 32 → int32 m ≡ int32 n → m ≡ n
 same_length m n m_small n_small e = int32_field.one m n m_small n_small e
 
--- a value behind its length has so many bytes
+-- a value after its length has so many bytes
 value_long : (c : Column) (n : ℕ) → n < 2 ^ 31 → length_of c ≡ n → (field : List ℕ) (others more : List (List ℕ))
-    → field ∷ others ≡ behind_length c ++ more → length field ≡ n
+    → field ∷ others ≡ past_length c ++ more → length field ≡ n
 value_long None n below same field others more e = absurd (omega (arith, below, same))
 value_long (Some bytes) n below same field others more e =
     let whole : field ≡ bytes = cc in
     ap length whole ∙ same
 
--- a value stands behind its length
-value_there : (c : Column) (n : ℕ) → n < 2 ^ 31 → length_of c ≡ n → (more : List (List ℕ)) → [] ≢ behind_length c ++ more
+-- a value stands after its length
+value_there : (c : Column) (n : ℕ) → n < 2 ^ 31 → length_of c ≡ n → (more : List (List ℕ)) → [] ≢ past_length c ++ more
 value_there None n below same more e = omega (arith, below, same)
 value_there (Some bytes) n below same more e = absurd cc
 
@@ -133,24 +133,24 @@ some_bytes (suc n) =
 abbrev Read : Type 0
 Read = Column × List ℕ
 
-read_ok : (null out short : Bool) (at behind : ℕ) (rest : List ℕ) (some y : Read)
-    → cond null (Ok (None, rest)) (cond out (Err at) (cond short (Err behind) (Ok some))) ≡ Ok y
+read_ok : (null out short : Bool) (at past : ℕ) (rest : List ℕ) (some y : Read)
+    → cond null (Ok (None, rest)) (cond out (Err at) (cond short (Err past) (Ok some))) ≡ Ok y
     → ((null ≡ true) × ((None, rest) ≡ y)) ⊎ ((out ≡ false) × (short ≡ false) × (some ≡ y))
-read_ok true out short at behind rest some y e = inl (refl, cc)
-read_ok false true short at behind rest some y e = absurd cc
-read_ok false false true at behind rest some y e = absurd cc
-read_ok false false false at behind rest some y e = inr (refl, refl, cc)
+read_ok true out short at past rest some y e = inl (refl, cc)
+read_ok false true short at past rest some y e = absurd cc
+read_ok false false true at past rest some y e = absurd cc
+read_ok false false false at past rest some y e = inr (refl, refl, cc)
 
-read_err : (null out short : Bool) (at behind : ℕ) (rest : List ℕ) (some : Read) (left : ℕ)
-    → cond null (Ok (None, rest)) (cond out (Err at) (cond short (Err behind) (Ok some))) ≡ Err left
-    → (null ≡ false) × (((out ≡ true) × (at ≡ left)) ⊎ ((out ≡ false) × (short ≡ true) × (behind ≡ left)))
-read_err true out short at behind rest some left e = absurd cc
-read_err false true short at behind rest some left e = (refl, inl (refl, cc))
-read_err false false true at behind rest some left e = (refl, inr (refl, refl, cc))
-read_err false false false at behind rest some left e = absurd cc
+read_err : (null out short : Bool) (at past : ℕ) (rest : List ℕ) (some : Read) (left : ℕ)
+    → cond null (Ok (None, rest)) (cond out (Err at) (cond short (Err past) (Ok some))) ≡ Err left
+    → (null ≡ false) × (((out ≡ true) × (at ≡ left)) ⊎ ((out ≡ false) × (short ≡ true) × (past ≡ left)))
+read_err true out short at past rest some left e = absurd cc
+read_err false true short at past rest some left e = (refl, inl (refl, cc))
+read_err false false true at past rest some left e = (refl, inr (refl, refl, cc))
+read_err false false false at past rest some left e = absurd cc
 
-abbrev behind_size : List ℕ → ℕ × List ℕ → Result Read ℕ
-behind_size bytes size = cond (eqb size.0 0xffff_ffff) (Ok (None, size.1))
+abbrev past_size : List ℕ → ℕ × List ℕ → Result Read ℕ
+past_size bytes size = cond (eqb size.0 0xffff_ffff) (Ok (None, size.1))
     (cond (ltb 0x7fff_ffff size.0) (Err (length bytes))
     (cond (ltb (length size.1) size.0) (Err (length size.1)) (Ok (Some (take size.0 size.1), drop size.0 size.1))))
 
@@ -176,7 +176,7 @@ value_takes : (bytes : List ℕ) (x : Option (List ℕ)) (rest : List ℕ) → I
     → (bytes ≡ concat (column_fields x) ++ rest) × IsBody rest × FitsValue x
 unfolding column_at
 value_takes bytes x rest is e =
-    let a = bind_ok (int32_at bytes) (behind_size bytes) (x, rest) e in
+    let a = bind_ok (int32_at bytes) (past_size bytes) (x, rest) e in
     let size = int32_field.takes bytes a.0.0 a.0.1 is a.1 in
     elim (read_ok (eqb a.0.0 0xffff_ffff) (ltb 0x7fff_ffff a.0.0) (ltb (length a.0.1) a.0.0) (length bytes) (length a.0.1) a.0.1
     (Some (take a.0.0 a.0.1), drop a.0.0 a.0.1) (x, rest) a.2) [
@@ -203,21 +203,21 @@ value_one (Some a) (Some b) more others x_fits y_fits e =
 
 -- ---- where no value is read
 
--- what stands behind a value
-abbrev Behind : Type 1
-Behind = Option (List ℕ) → List (List ℕ) → Type 0
+-- what stands after a value
+abbrev Past : Type 1
+Past = Option (List ℕ) → List (List ℕ) → Type 0
 
 -- no length stands here
-no_length : (K : Behind) (bytes : List ℕ) (left : ℕ) → ((x : Option (List ℕ)) → FitsValue x → HasSome (K x)) → length bytes ≡ left
-    → ((n : ℕ) (behind : List ℕ) → IsLength n → bytes ≢ int32 n ++ behind) → Leaves (IsParted FitsValue column_fields K) bytes left
+no_length : (K : Past) (bytes : List ℕ) (left : ℕ) → ((x : Option (List ℕ)) → FitsValue x → HasSome (K x)) → length bytes ≡ left
+    → ((n : ℕ) (past : List ℕ) → IsLength n → bytes ≢ int32 n ++ past) → Leaves (IsParted FitsValue column_fields K) bytes left
 no_length K bytes left some size none =
     leaves_here (IsParted FitsValue column_fields K) bytes left size (some_parted column_fields K None null_fits (some None null_fits))
-    (λ field more behind p b. let first = first_is p.value field more p.more p.parts in
-    none (length_of p.value) behind (is_length p.value p.fits.sized) (b ∙ ap (λ (t : List ℕ). t ++ behind) first.0))
+    (λ field more past p b. let first = first_is p.value field more p.more p.parts in
+    none (length_of p.value) past (is_length p.value p.fits.sized) (b ∙ ap (λ (t : List ℕ). t ++ past) first.0))
     (λ p. absurd (let e = p.parts ∙ fields_parts p.value p.more in cc))
 
 -- what goes on with a length
-goes_on : (K : Behind) (n : ℕ) → n ≤ 0x7fff_ffff → ((x : Option (List ℕ)) → FitsValue x → HasSome (K x))
+goes_on : (K : Past) (n : ℕ) → n ≤ 0x7fff_ffff → ((x : Option (List ℕ)) → FitsValue x → HasSome (K x))
     → (more : List (List ℕ)) × IsParted FitsValue column_fields K (int32 n ∷ more)
 goes_on K n sized some =
     let v = some_bytes n in
@@ -230,12 +230,12 @@ goes_on K n sized some =
         fits = fits;
         more = others.0;
         parts = ap (λ (k : ℕ). int32 k ∷ v.0 ∷ others.0) (sym same);
-        behind = others.1;
+        past = others.1;
       },
     )
 
--- too few bytes stand behind a length
-too_few : (K : Behind) (n : ℕ) (rest : List ℕ) (left : ℕ) → n ≤ 0x7fff_ffff → ((x : Option (List ℕ)) → FitsValue x → HasSome (K x))
+-- too few bytes stand after a length
+too_few : (K : Past) (n : ℕ) (rest : List ℕ) (left : ℕ) → n ≤ 0x7fff_ffff → ((x : Option (List ℕ)) → FitsValue x → HasSome (K x))
     → length rest < n → length rest ≡ left → Leaves (λ fs. IsParted FitsValue column_fields K (int32 n ∷ fs)) rest left
 too_few K n rest left sized some short size =
     let same : (fs : List (List ℕ)) (p : IsParted FitsValue column_fields K (int32 n ∷ fs)) → length_of p.value ≡ n = λ fs p.
@@ -243,30 +243,30 @@ too_few K n rest left sized some short size =
     (first_is p.value (int32 n) fs p.more p.parts).0)
     in
     leaves_here (λ fs. IsParted FitsValue column_fields K (int32 n ∷ fs)) rest left size (goes_on K n sized some)
-    (λ field more behind p b. let long = value_long p.value n (omega (arith, sized)) (same (field ∷ more) p) field more p.more
+    (λ field more past p b. let long = value_long p.value n (omega (arith, sized)) (same (field ∷ more) p) field more p.more
     (first_is p.value (int32 n) (field ∷ more) p.more p.parts).1 in
-    omega (arith, short, long, ap length b, length-append field behind))
+    omega (arith, short, long, ap length b, length-append field past))
     (λ p. absurd (value_there p.value n (omega (arith, sized)) (same [] p) p.more
     (first_is p.value (int32 n) [] p.more p.parts).1))
 
 -- a length that none has
 no_such_length : (bytes rest : List ℕ) (n : ℕ) → bytes ≡ int32 n ++ rest → n < 2 ^ 32 → n ≢ 0xffff_ffff → 0x7fff_ffff < n
-    → (k : ℕ) (behind : List ℕ) → IsLength k → bytes ≢ int32 k ++ behind
-no_such_length bytes rest n parts below some out k behind is b =
-    let t = int32_one.one n k rest behind below (length_small k is) (sym parts ∙ b) in
+    → (k : ℕ) (past : List ℕ) → IsLength k → bytes ≢ int32 k ++ past
+no_such_length bytes rest n parts below some out k past is b =
+    let t = int32_one.one n k rest past below (length_small k is) (sym parts ∙ b) in
     elim is [
       | inl sized ↦ omega (arith, out, sized, t.0)
       | inr null ↦ some (t.0 ∙ null)
     ]
 
-value_leaves : (K : Behind) → ((x : Option (List ℕ)) → FitsValue x → HasSome (K x)) → (bytes : List ℕ) (left : ℕ) → IsBody bytes
+value_leaves : (K : Past) → ((x : Option (List ℕ)) → FitsValue x → HasSome (K x)) → (bytes : List ℕ) (left : ℕ) → IsBody bytes
     → column_at bytes ≡ Err left → Leaves (IsParted FitsValue column_fields K) bytes left
 unfolding column_at
 value_leaves K some bytes left is e =
-    elim (bind_err (int32_at bytes) (behind_size bytes) left e) [
+    elim (bind_err (int32_at bytes) (past_size bytes) left e) [
       | inl none ↦
           let r = int32_left bytes left none in
-          no_length K bytes left some r.1 (λ n behind length_is b. omega (arith, r.0, ap length b))
+          no_length K bytes left some r.1 (λ n past length_is b. omega (arith, r.0, ap length b))
       | inr a ↦
           let n = a.0.0 in
           let rest = a.0.1 in
@@ -276,7 +276,7 @@ value_leaves K some bytes left is e =
           elim r.1 [
             | inl out ↦ no_length K bytes left some out.1
                 (no_such_length bytes rest n size.0 size.2 (eqb-false _ _ r.0) (ltb-true _ _ out.0))
-            | inr short ↦ leaves_behind (IsParted FitsValue column_fields K) (int32 n) bytes rest left size.0
+            | inr short ↦ leaves_past (IsParted FitsValue column_fields K) (int32 n) bytes rest left size.0
                 (too_few K n rest left (ltb-false _ _ short.0) some (ltb-true _ _ short.1) short.2)
           ]
     ]

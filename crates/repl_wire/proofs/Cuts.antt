@@ -133,7 +133,7 @@ Ends r step.NeedMore = Waits r
 Ends r (step.Refused f) = (found : WireFault) × (judge r.phase r.rest ≡ taken.Wrong found) × (f ≡ at_place r.place found)
 Ends r step.Memory = ⊥
 
--- these messages stand in front of what was fed, one after another, and behind them it ends so
+-- these messages stand in front of what was fed, one after another, and past them it ends so
 abbrev pub Decides : Reading → List Message → Step → Type 0
 Decides r [] a = Ends r a
 Decides r (m ∷ ms) a = (used : ℕ) × (judge r.phase r.rest ≡ taken.Whole m used) × Decides (given r m used) ms a

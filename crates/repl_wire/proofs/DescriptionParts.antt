@@ -79,9 +79,9 @@ made_fields n t a o s m f more a_fits s_fits m_fits =
     ∙ ap (λ (k : ℕ). seven (string n) (int32 t) (signed16 (cast_signed w16 a)) (int32 o) (signed16 (cast_signed w16 s)) (int32 k) (int16 f)
     more) (sym (of_z-to_z w32 m m_fits))
 
--- a field, and others behind it
+-- a field, and others after it
 cons_part : (a : List ℕ) (others : List (List ℕ)) (x y z : List ℕ) → x ≡ a ++ y → y ≡ concat others ++ z → x ≡ concat (a ∷ others) ++ z
-cons_part a others x y z first behind = first ∙ ap (λ (r : List ℕ). a ++ r) behind ∙ sym (append_assoc a (concat others) z)
+cons_part a others x y z first past = first ∙ ap (λ (r : List ℕ). a ++ r) past ∙ sym (append_assoc a (concat others) z)
 
 seven_parts : (a b c d e f g x0 x1 x2 x3 x4 x5 x6 x7 : List ℕ) → x0 ≡ a ++ x1 → x1 ≡ b ++ x2 → x2 ≡ c ++ x3 → x3 ≡ d ++ x4 → x4 ≡ e ++ x5
     → x5 ≡ f ++ x6 → x6 ≡ g ++ x7 → x0 ≡ concat (seven a b c d e f g []) ++ x7
@@ -127,7 +127,7 @@ field_take bytes x is e =
     subst (IsTaken bytes) {x = (column, f.0.1)} (ok_is (column, f.0.1) x f.2)
     (made_taken bytes f.0.1 n.0.0 t.0.0 a.0.0 o.0.0 s.0.0 m.0.0 f.0.0 parts format.1 fits attribute.2 size.2 modifier.2)
 
--- ---- what may stand behind each field
+-- ---- what may stand after each field
 
 abbrev Short : (ℕ → Language) → Language
 Short K = IsParted (λ n. n < 2 ^ 16) (λ n. int16 n ∷ []) K
@@ -158,12 +158,12 @@ Name K = IsParted IsText (λ t. string t ∷ []) (Table K)
 
 to : (K : Field → Language) (fs : List (List ℕ)) → Name K fs → IsParted FitsField description_fields K fs
 to K fs p =
-    let t = p.behind in
-    let a = t.behind in
-    let o = a.behind in
-    let s = o.behind in
-    let m = s.behind in
-    let f = m.behind in
+    let t = p.past in
+    let a = t.past in
+    let o = a.past in
+    let s = o.past in
+    let m = s.past in
+    let f = m.past in
     let parts : fs ≡ seven (string p.value) (int32 t.value) (int16 a.value) (int32 o.value) (int16 s.value) (int32 m.value) (int16 f.value)
     f.more =
     p.parts ∙ ap (λ (r : List (List ℕ)). string p.value ∷ r)
@@ -176,7 +176,7 @@ to K fs p =
       fits = fits_made p.value t.value a.value o.value s.value m.value f.value p.fits t.fits o.fits f.fits;
       more = f.more;
       parts = parts ∙ made_fields p.value t.value a.value o.value s.value m.value f.value f.more a.fits s.fits m.fits;
-      behind = f.behind;
+      past = f.past;
     }
 
 -- a column is made of its bits
@@ -206,15 +206,15 @@ from K fs p =
     let a_fits : a < 2 ^ 16 = Fits-lt-pow (Fits-of_z fits.attribute) in
     let s_fits : s < 2 ^ 16 = Fits-lt-pow (Fits-of_z fits.size) in
     let m_fits : m < 2 ^ 32 = Fits-lt-pow (Fits-of_z fits.modifier) in
-    let k : K (made f.name f.table a f.type_oid s m f.format) p.more = subst (λ (g : Field). K g p.more) (made_again f fits) p.behind in
+    let k : K (made f.name f.table a f.type_oid s m f.format) p.more = subst (λ (g : Field). K g p.more) (made_again f fits) p.past in
     let format : Format K f.name f.table a f.type_oid s m (int16 f.format ∷ p.more) =
-    record { value = f.format; fits = fits.format; more = p.more; parts = refl; behind = k } in
+    record { value = f.format; fits = fits.format; more = p.more; parts = refl; past = k } in
     let modifier : Modifier K f.name f.table a f.type_oid s (int32 m ∷ int16 f.format ∷ p.more) =
-    record { value = m; fits = m_fits; more = int16 f.format ∷ p.more; parts = refl; behind = format } in
+    record { value = m; fits = m_fits; more = int16 f.format ∷ p.more; parts = refl; past = format } in
     let size : Size K f.name f.table a f.type_oid (int16 s ∷ int32 m ∷ int16 f.format ∷ p.more) =
-    record { value = s; fits = s_fits; more = int32 m ∷ int16 f.format ∷ p.more; parts = refl; behind = modifier } in
+    record { value = s; fits = s_fits; more = int32 m ∷ int16 f.format ∷ p.more; parts = refl; past = modifier } in
     let type_oid : TypeOid K f.name f.table a (int32 f.type_oid ∷ int16 s ∷ int32 m ∷ int16 f.format ∷ p.more) =
-    record { value = f.type_oid; fits = fits.type_oid; more = int16 s ∷ int32 m ∷ int16 f.format ∷ p.more; parts = refl; behind = size }
+    record { value = f.type_oid; fits = fits.type_oid; more = int16 s ∷ int32 m ∷ int16 f.format ∷ p.more; parts = refl; past = size }
     in
     let attribute : Attribute K f.name f.table (int16 a ∷ int32 f.type_oid ∷ int16 s ∷ int32 m ∷ int16 f.format ∷ p.more) =
     record {
@@ -222,7 +222,7 @@ from K fs p =
       fits = a_fits;
       more = int32 f.type_oid ∷ int16 s ∷ int32 m ∷ int16 f.format ∷ p.more;
       parts = refl;
-      behind = type_oid;
+      past = type_oid;
     }
     in
     let table : Table K f.name (int32 f.table ∷ int16 a ∷ int32 f.type_oid ∷ int16 s ∷ int32 m ∷ int16 f.format ∷ p.more) =
@@ -231,7 +231,7 @@ from K fs p =
       fits = fits.table;
       more = int16 a ∷ int32 f.type_oid ∷ int16 s ∷ int32 m ∷ int16 f.format ∷ p.more;
       parts = refl;
-      behind = attribute;
+      past = attribute;
     }
     in
     record {
@@ -240,7 +240,7 @@ from K fs p =
       more = int32 f.table ∷ int16 a ∷ int32 f.type_oid ∷ int16 s ∷ int32 m ∷ int16 f.format ∷
           p.more;
       parts = p.parts;
-      behind = table;
+      past = table;
     }
 
 -- ---- something goes on
@@ -353,7 +353,7 @@ field_told f g more others f_fits g_fits e =
         modifier = modifier i;
         format = format i;
       },
-      ap behind e,
+      ap past e,
     )
   where
     tail : List (List ℕ) → List (List ℕ)
@@ -382,8 +382,8 @@ field_told f g more others f_fits g_fits e =
     seventh : List (List ℕ) → List ℕ
     seventh xs = first (tail (tail (tail (tail (tail (tail xs))))))
 
-    behind : List (List ℕ) → List (List ℕ)
-    behind xs = tail (tail (tail (tail (tail (tail (tail xs))))))
+    past : List (List ℕ) → List (List ℕ)
+    past xs = tail (tail (tail (tail (tail (tail (tail xs))))))
 
 pub description_part : IsPart FitsField description_fields field_at
 description_part = record {

@@ -13,7 +13,7 @@ use Rattle.repl_wire.specs.Judging.{pairs_at, coded_at}
 use Rattle.repl_wire.specs.Places.{pair_fields, coded_fields}
 use Rattle.repl_wire.proofs.PairLaws.{after_value, after_name, pairs_take}
 use Rattle.repl_wire.proofs.FieldSpellings.{concat-ended, pair_is}
-use Rattle.repl_wire.proofs.Leaving.{Language, IsBody, IsBody-rest, Leaves, leaves_here, leaves_behind, leaves_as, bind_err, IsParted, HasSome, IsPart, some_parted, leaves_then}
+use Rattle.repl_wire.proofs.Leaving.{Language, IsBody, IsBody-rest, Leaves, leaves_here, leaves_past, leaves_as, bind_err, IsParted, HasSome, IsPart, some_parted, leaves_then}
 use Rattle.repl_wire.proofs.FieldParts.{field_part, text_field}
 
 -- the fields of a list that a zero byte ends
@@ -58,7 +58,7 @@ ended_some fields xs more e = omega (
   length-append (flat_map fields xs) ((0 ∷ []) ∷ []),
 )
 
--- the step behind a reader that cannot fail did not fail
+-- the step after a reader that cannot fail did not fail
 step_failed : {A B : Type 0} (r : Result A ℕ) (make : A → B) (left : ℕ) → (r >>= λ x. Ok (make x)) ≡ Err left → r ≡ Err left
 step_failed (Ok x) make left e = absurd cc
 step_failed (Err n) make left e = cc
@@ -92,28 +92,28 @@ first_string (p ∷ ps) field more others fits e = (p.name, fits.0.name, cc)
 
 -- where no string stands, no pair and no end stands
 pairs_here : (K : List Pair → Language) → HasSome (K []) → (bytes : List ℕ) (left : ℕ) → length bytes ≡ left
-    → ((t : List ℕ) (behind : List ℕ) → IsText t → bytes ≢ string t ++ behind) → Leaves (Pairs K) bytes left
+    → ((t : List ℕ) (past : List ℕ) → IsText t → bytes ≢ string t ++ past) → Leaves (Pairs K) bytes left
 pairs_here K some bytes left size none =
     leaves_here (Pairs K) bytes left size (some_parted (ended_fields pair_fields) K [] tt some)
-    (λ field more behind p b. let t = first_string p.value field more p.more p.fits p.parts in
-    none t.0 behind t.1 (b ∙ ap (λ (s : List ℕ). s ++ behind) t.2))
+    (λ field more past p b. let t = first_string p.value field more p.more p.fits p.parts in
+    none t.0 past t.1 (b ∙ ap (λ (s : List ℕ). s ++ past) t.2))
     (λ p. absurd (ended_some pair_fields p.value p.more p.parts))
 
-no_string : (bytes t behind : List ℕ) → bytes ≡ [] → bytes ≢ string t ++ behind
-no_string bytes t behind none e = omega (arith, ap length (sym none ∙ e), length-append (string t) behind, length-append t (0 ∷ []))
+no_string : (bytes t past : List ℕ) → bytes ≡ [] → bytes ≢ string t ++ past
+no_string bytes t past none e = omega (arith, ap length (sym none ∙ e), length-append (string t) past, length-append t (0 ∷ []))
 
--- behind a name
+-- after a name
 abbrev Valued : (List Pair → Language) → List ℕ → List ℕ → Language
 Valued K name value = Pairs (λ ps. K (record { name = name; value = value } ∷ ps))
 
 pairs_to : (K : List Pair → Language) (name : List ℕ) → 0 < length name → IsText name → (fs : List (List ℕ))
     → IsParted IsText (λ t. string t ∷ []) (Valued K name) fs → Pairs K (string name ∷ fs)
 pairs_to K name named fits fs p = record {
-  value = record { name = name; value = p.value } ∷ p.behind.value;
-  fits = (record { named = named; name = fits; value = p.fits }, p.behind.fits);
-  more = p.behind.more;
-  parts = ap (λ (t : List (List ℕ)). string name ∷ t) (p.parts ∙ ap (λ (t : List (List ℕ)). string p.value ∷ t) p.behind.parts);
-  behind = p.behind.behind;
+  value = record { name = name; value = p.value } ∷ p.past.value;
+  fits = (record { named = named; name = fits; value = p.fits }, p.past.fits);
+  more = p.past.more;
+  parts = ap (λ (t : List (List ℕ)). string name ∷ t) (p.parts ∙ ap (λ (t : List (List ℕ)). string p.value ∷ t) p.past.parts);
+  past = p.past.past;
 }
 
 pairs_from : (K : List Pair → Language) (name : List ℕ) → 0 < length name → IsText name
@@ -129,12 +129,12 @@ pairs_from K name named fits fs (p ∷ ps) more are parts k =
       fits = are.0.value;
       more = ended_fields pair_fields ps ++ more;
       parts = cc;
-      behind = record {
+      past = record {
         value = ps;
         fits = are.1;
         more = more;
         parts = refl;
-        behind = subst (λ (n : List ℕ). K (record { name = n; value = p.value } ∷ ps) more) same k;
+        past = subst (λ (n : List ℕ). K (record { name = n; value = p.value } ∷ ps) more) same k;
       };
     }
 
@@ -143,8 +143,8 @@ pairs_leave : (turns : ℕ) (K : List Pair → List (List ℕ) → Type 0) → (
 unfolding pairs_at
 pairs_leave zero K some bytes left long is e =
     let none = nil_from_length bytes (omega arith) in
-    pairs_here K (some [] tt) bytes left (cc) (λ t behind fits. no_string bytes t behind none)
-pairs_leave (suc turns) K some [] left long is e = pairs_here K (some [] tt) [] left (cc) (λ t behind fits. no_string [] t behind refl)
+    pairs_here K (some [] tt) bytes left (cc) (λ t past fits. no_string bytes t past none)
+pairs_leave (suc turns) K some [] left long is e = pairs_here K (some [] tt) [] left (cc) (λ t past fits. no_string [] t past refl)
 pairs_leave (suc turns) K some (zero ∷ bytes) left long is e = absurd cc
 pairs_leave (suc turns) K some (suc b ∷ bytes) left long is e =
     elim (bind_err (string_at (suc b ∷ bytes)) (after_name turns) left e) [
@@ -154,19 +154,19 @@ pairs_leave (suc turns) K some (suc b ∷ bytes) left long is e =
       | inr a ↦
           let name = text_field.takes (suc b ∷ bytes) a.0.0 a.0.1 is a.1 in
           let named = string_first b bytes a.0.0 a.0.1 a.1 in
-          let some_behind : (v : List ℕ) → IsText v → (ps : List Pair) → AllByRecursion FitsPair ps
+          let some_past : (v : List ℕ) → IsText v → (ps : List Pair) → AllByRecursion FitsPair ps
           → HasSome (K (record { name = a.0.0; value = v } ∷ ps)) = λ v fits ps are.
           some (record { name = a.0.0; value = v } ∷ ps) (record { named = named; name = name.2; value = fits }, are)
           in
           let goes_on : (v : List ℕ) → IsText v → HasSome (Valued K a.0.0 v) =
           λ v fits. some_parted (ended_fields pair_fields) (λ ps. K (record { name = a.0.0; value = v } ∷ ps)) [] tt
-          (some_behind v fits [] tt) in
-          leaves_behind (Pairs K) (string a.0.0) (suc b ∷ bytes) a.0.1 left name.0
+          (some_past v fits [] tt) in
+          leaves_past (Pairs K) (string a.0.0) (suc b ∷ bytes) a.0.1 left name.0
           (leaves_as (IsParted IsText (λ t. string t ∷ []) (Valued K a.0.0)) (λ fs. Pairs K (string a.0.0 ∷ fs)) a.0.1 left
           (pairs_to K a.0.0 named name.2)
-          (λ fs p. pairs_from K a.0.0 named name.2 fs p.value p.more p.fits p.parts p.behind)
+          (λ fs p. pairs_from K a.0.0 named name.2 fs p.value p.more p.fits p.parts p.past)
           (leaves_then (field_part text_field) (Valued K a.0.0) goes_on (after_value turns a.0.0) a.0.1 left name.1
-          (λ v rest fits body parts failed. pairs_leave turns (λ ps. K (record { name = a.0.0; value = v } ∷ ps)) (some_behind v fits) rest
+          (λ v rest fits body parts failed. pairs_leave turns (λ ps. K (record { name = a.0.0; value = v } ∷ ps)) (some_past v fits) rest
           left
           (omega (
             arith,
@@ -218,22 +218,22 @@ coded_here : (K : List ErrorField → Language) → HasSome (K []) → (bytes : 
     → Leaves (Coded K) bytes left
 coded_here K some bytes left size none =
     leaves_here (Coded K) bytes left size (some_parted (ended_fields coded_fields) K [] tt some)
-    (λ field more behind p b. let t = first_byte p.value field more p.more p.parts in
-    absurd (let first = t.1 in let all : [] ≡ (t.0 ∷ []) ++ behind = sym none ∙ b ∙ ap (λ (s : List ℕ). s ++ behind) first in cc))
+    (λ field more past p b. let t = first_byte p.value field more p.more p.parts in
+    absurd (let first = t.1 in let all : [] ≡ (t.0 ∷ []) ++ past = sym none ∙ b ∙ ap (λ (s : List ℕ). s ++ past) first in cc))
     (λ p. absurd (ended_some coded_fields p.value p.more p.parts))
 
--- behind a code
+-- after a code
 abbrev Texted : (List ErrorField → Language) → ℕ → List ℕ → Language
 Texted K code text = Coded (λ xs. K (record { code = code; text = text } ∷ xs))
 
 coded_to : (K : List ErrorField → Language) (code : ℕ) → 0 < code → code < 256 → (fs : List (List ℕ))
     → IsParted IsText (λ t. string t ∷ []) (Texted K code) fs → Coded K ((code ∷ []) ∷ fs)
 coded_to K code coded below fs p = record {
-  value = record { code = code; text = p.value } ∷ p.behind.value;
-  fits = (record { coded = coded; code = below; text = p.fits }, p.behind.fits);
-  more = p.behind.more;
-  parts = ap (λ (t : List (List ℕ)). (code ∷ []) ∷ t) (p.parts ∙ ap (λ (t : List (List ℕ)). string p.value ∷ t) p.behind.parts);
-  behind = p.behind.behind;
+  value = record { code = code; text = p.value } ∷ p.past.value;
+  fits = (record { coded = coded; code = below; text = p.fits }, p.past.fits);
+  more = p.past.more;
+  parts = ap (λ (t : List (List ℕ)). (code ∷ []) ∷ t) (p.parts ∙ ap (λ (t : List (List ℕ)). string p.value ∷ t) p.past.parts);
+  past = p.past.past;
 }
 
 coded_from : (K : List ErrorField → Language) (code : ℕ) → 0 < code → (fs : List (List ℕ)) (xs : List ErrorField) (more : List (List ℕ))
@@ -247,12 +247,12 @@ coded_from K code coded fs (f ∷ xs) more are parts k =
       fits = are.0.text;
       more = ended_fields coded_fields xs ++ more;
       parts = cc;
-      behind = record {
+      past = record {
         value = xs;
         fits = are.1;
         more = more;
         parts = refl;
-        behind = subst (λ (c : ℕ). K (record { code = c; text = f.text } ∷ xs) more) same k;
+        past = subst (λ (c : ℕ). K (record { code = c; text = f.text } ∷ xs) more) same k;
       };
     }
 
@@ -273,19 +273,19 @@ coded_leave (suc turns) K some (suc c ∷ bytes) left long is e =
     let code = suc c in
     let below : code < 256 = is.fits 0 in
     let body : IsBody bytes = IsBody-rest (code ∷ bytes) (code ∷ []) bytes is refl (IsBytes-rest code bytes is.fits) in
-    let some_behind : (t : List ℕ) → IsText t → (xs : List ErrorField) → AllByRecursion FitsErrorField xs
+    let some_past : (t : List ℕ) → IsText t → (xs : List ErrorField) → AllByRecursion FitsErrorField xs
     → HasSome (K (record { code = code; text = t } ∷ xs)) = λ t fits xs are.
     some (record { code = code; text = t } ∷ xs) (record { coded = omega arith; code = below; text = fits }, are)
     in
     let goes_on : (t : List ℕ) → IsText t → HasSome (Texted K code t) =
-    λ t fits. some_parted (ended_fields coded_fields) (λ xs. K (record { code = code; text = t } ∷ xs)) [] tt (some_behind t fits [] tt)
+    λ t fits. some_parted (ended_fields coded_fields) (λ xs. K (record { code = code; text = t } ∷ xs)) [] tt (some_past t fits [] tt)
     in
-    leaves_behind (Coded K) (code ∷ []) (code ∷ bytes) bytes left refl
+    leaves_past (Coded K) (code ∷ []) (code ∷ bytes) bytes left refl
     (leaves_as (IsParted IsText (λ t. string t ∷ []) (Texted K code)) (λ fs. Coded K ((code ∷ []) ∷ fs)) bytes left
     (coded_to K code (omega arith) below)
-    (λ fs p. coded_from K code (omega arith) fs p.value p.more p.fits p.parts p.behind)
+    (λ fs p. coded_from K code (omega arith) fs p.value p.more p.fits p.parts p.past)
     (leaves_then (field_part text_field) (Texted K code) goes_on (after_text turns code) bytes left body
-    (λ t rest fits shorter parts failed. coded_leave turns (λ xs. K (record { code = code; text = t } ∷ xs)) (some_behind t fits) rest left
+    (λ t rest fits shorter parts failed. coded_leave turns (λ xs. K (record { code = code; text = t } ∷ xs)) (some_past t fits) rest left
     (omega (arith, long, ap length parts, length-append (concat (string t ∷ [])) rest)) shorter
     (step_failed (coded_at turns rest) _ left failed)) e))
 
@@ -305,13 +305,13 @@ coded_take (suc turns) (suc c ∷ bytes) x is e =
     let o = bind_ok (coded_at turns a.0.1) (after_coded code a.0.0) x a.2 in
     let text = text_field.takes bytes a.0.0 a.0.1 body a.1 in
     let others = coded_take turns a.0.1 o.0 text.1 o.1 in
-    let behind : bytes ≡ (string a.0.0 ++ concat (ended_fields coded_fields o.0.0)) ++ o.0.1 =
+    let past : bytes ≡ (string a.0.0 ++ concat (ended_fields coded_fields o.0.0)) ++ o.0.1 =
     text.0 ∙ ap (λ (t : List ℕ). string a.0.0 ++ t) others.0
     ∙ sym (append_assoc (string a.0.0) (concat (ended_fields coded_fields o.0.0)) o.0.1)
     in
     subst (AreCodedFrom (code ∷ bytes)) {x = (record { code = code; text = a.0.0 } ∷ o.0.0, o.0.1)}
     (ok_is (record { code = code; text = a.0.0 } ∷ o.0.0, o.0.1) x o.2)
-    (ap (λ (t : List ℕ). code ∷ t) behind, others.1, (record { coded = omega arith; code = is.fits 0; text = text.2 }, others.2))
+    (ap (λ (t : List ℕ). code ∷ t) past, others.1, (record { coded = omega arith; code = is.fits 0; text = text.2 }, others.2))
 
 pub coded_part : IsPart (AllByRecursion FitsErrorField) (ended_fields coded_fields) (λ bytes. coded_at (length bytes) bytes)
 coded_part = record {

@@ -19,7 +19,7 @@ pub record IsField {A : Type 0} (Fits : A → Type 0) (spell : A → List ℕ) (
       × Fits x
   pub one : (x y : A) → Fits x → Fits y → spell x ≡ spell y → x ≡ y
   pub refuses : (bytes : List ℕ) (left : ℕ) → IsBody bytes → read bytes ≡ Err left → (length bytes ≡ left)
-      × ((x : A) (behind : List ℕ) → Fits x → bytes ≢ spell x ++ behind)
+      × ((x : A) (past : List ℕ) → Fits x → bytes ≢ spell x ++ past)
 
 pub field_part : {A : Type 0} {Fits : A → Type 0} {spell : A → List ℕ} {read : List ℕ → Result (A × List ℕ) ℕ} → IsField Fits spell read
     → IsPart Fits (λ x. spell x ∷ []) read
@@ -36,9 +36,9 @@ field_part {A} {Fits} {spell} {read} f = record {
       let r = f.refuses bytes left is e in
       let goes_on = some f.some f.some_fits in
       leaves_here (IsParted Fits (λ x. spell x ∷ []) K) bytes left r.0
-      ((spell f.some ∷ []) ++ goes_on.0, record { value = f.some; fits = f.some_fits; more = goes_on.0; parts = refl; behind = goes_on.1 })
-      (λ field more behind p b. r.1 p.value behind p.fits (let same : field ≡ spell p.value = (let q = p.parts in cc) in b
-      ∙ ap (λ (t : List ℕ). t ++ behind) same))
+      ((spell f.some ∷ []) ++ goes_on.0, record { value = f.some; fits = f.some_fits; more = goes_on.0; parts = refl; past = goes_on.1 })
+      (λ field more past p b. r.1 p.value past p.fits (let same : field ≡ spell p.value = (let q = p.parts in cc) in b
+      ∙ ap (λ (t : List ℕ). t ++ past) same))
       (λ p. absurd (let q = p.parts in cc));
 }
 
@@ -62,8 +62,8 @@ text_field = record {
   one = λ x y x_fits y_fits e. (string_one.one x y [] [] x_fits y_fits (ap (λ (t : List ℕ). t ++ []) e)).0;
   refuses = λ bytes left is e. (
     text_left bytes left e,
-    λ x behind fits b. absurd
-        (let read = sym e ∙ ap string_at b ∙ string_again x behind fits in cc),
+    λ x past fits b. absurd
+        (let read = sym e ∙ ap string_at b ∙ string_again x past fits in cc),
   );
 }
 
@@ -101,7 +101,7 @@ int16_field = record {
   one = λ x y x_fits y_fits e. (int16_one.one x y [] [] x_fits y_fits (ap (λ (t : List ℕ). t ++ []) e)).0;
   refuses = λ bytes left is e.
       let r = int16_left bytes left e in
-      (r.1, λ x behind fits b. omega (arith, r.0, ap length b));
+      (r.1, λ x past fits b. omega (arith, r.0, ap length b));
 }
 
 int32_read : (bytes : List ℕ) (x : ℕ) (rest : List ℕ) → IsBody bytes → int32_at bytes ≡ Ok (x, rest) → (bytes ≡ int32 x ++ rest)
@@ -127,7 +127,7 @@ int32_field = record {
   one = λ x y x_fits y_fits e. (int32_one.one x y [] [] x_fits y_fits (ap (λ (t : List ℕ). t ++ []) e)).0;
   refuses = λ bytes left is e.
       let r = int32_left bytes left e in
-      (r.1, λ x behind fits b. omega (arith, r.0, ap length b));
+      (r.1, λ x past fits b. omega (arith, r.0, ap length b));
 }
 
 -- ---- bytes
@@ -151,5 +151,5 @@ byte_field = record {
   one = λ x y x_fits y_fits e. cc;
   refuses = λ bytes left is e.
       let r = byte_left bytes left e in
-      (r.1, λ x behind fits b. absurd (let none = r.0 in cc));
+      (r.1, λ x past fits b. absurd (let none = r.0 in cc));
 }

@@ -15,13 +15,13 @@ use Rattle.repl_wire.proofs.FramePlaces.{length_wrong}
 use Rattle.repl_wire.proofs.Heads.{IsLong, length_long, frame_refused, by_cases}
 use Rattle.repl_wire.proofs.Ranges.{startup_range, startup_outside, front_range, front_outside, back_range, back_outside}
 
--- the bytes behind the type byte
-behind_kind : (p : Phase) (kind rest : List ℕ) (least limit size : ℕ) → length kind ≡ head p → IsBytes rest
+-- the bytes after the type byte
+past_kind : (p : Phase) (kind rest : List ℕ) (least limit size : ℕ) → length kind ≡ head p → IsBytes rest
     → IsLong (head p) least limit rest size → IsInRange p kind (number rest) → IsFrameHead p (kind ++ rest) size
-behind_kind p kind rest least limit size kinds fits long range = record {
+past_kind p kind rest least limit size kinds fits long range = record {
   kind = kind;
   said = number rest;
-  behind = drop 4 rest;
+  past = drop 4 rest;
   kinds = kinds;
   parts = ap (λ (t : List ℕ). kind ++ t) (int32_takes rest fits long.field).0.parts;
   range = range;
@@ -36,7 +36,7 @@ front_head (kind ∷ rest) size fits e =
       | inl none ↦ absurd (let bad = none.1 in cc)
       | inr k ↦
           let long = length_long 1 k.0.0 k.0.1 rest size k.2 in
-          behind_kind phase.Front (kind ∷ []) rest k.0.0 k.0.1 size refl (IsBytes-rest kind rest fits) long
+          past_kind phase.Front (kind ∷ []) rest k.0.0 k.0.1 size refl (IsBytes-rest kind rest fits) long
           (front_range kind (number rest) k.0 k.1 long.low long.high)
     ]
 
@@ -48,14 +48,14 @@ back_head (kind ∷ rest) size fits e =
       | inl none ↦ absurd (let bad = none.1 in cc)
       | inr k ↦
           let long = length_long 1 k.0.0 k.0.1 rest size k.2 in
-          behind_kind phase.Back (kind ∷ []) rest k.0.0 k.0.1 size refl (IsBytes-rest kind rest fits) long
+          past_kind phase.Back (kind ∷ []) rest k.0.0 k.0.1 size refl (IsBytes-rest kind rest fits) long
           (back_range kind (number rest) k.0 k.1 long.low long.high)
     ]
 
 pub frame_head : (p : Phase) (bytes : List ℕ) (size : ℕ) → IsBytes bytes → head_of p bytes ≡ says.Frame size → IsFrameHead p bytes size
 frame_head phase.Startup bytes size fits e =
     let long = length_long 0 STARTUP_LEAST STARTUP_LIMIT bytes size e in
-    behind_kind phase.Startup [] bytes STARTUP_LEAST STARTUP_LIMIT size refl fits long
+    past_kind phase.Startup [] bytes STARTUP_LEAST STARTUP_LIMIT size refl fits long
     (startup_range (number bytes) long.low long.high)
 frame_head phase.Front bytes size fits e = front_head bytes size fits e
 frame_head phase.Back bytes size fits e = back_head bytes size fits e

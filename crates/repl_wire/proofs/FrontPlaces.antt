@@ -81,11 +81,11 @@ unfolding bytes_of
 bytes_leave body left e = absurd cc
 
 query_from : (m : Front) → IsOfFrontKind 81 m → OneText (front_fields m)
-query_from (front.Query text) is = record { value = text; fits = is.fits; more = []; parts = refl; behind = refl }
+query_from (front.Query text) is = record { value = text; fits = is.fits; more = []; parts = refl; past = refl }
 query_from _ is = absurd (omega (arith, is.kind_is))
 
 fail_from : (m : Front) → IsOfFrontKind 102 m → OneText (front_fields m)
-fail_from (front.CopyFail text) is = record { value = text; fits = is.fits; more = []; parts = refl; behind = refl }
+fail_from (front.CopyFail text) is = record { value = text; fits = is.fits; more = []; parts = refl; past = refl }
 fail_from _ is = absurd (omega (arith, is.kind_is))
 
 done_from : (m : Front) → IsOfFrontKind 99 m → Nothing (front_fields m)
@@ -110,7 +110,7 @@ query_fault bytes f fits none e =
     text_of
     (λ body left is failed. within 81 body left
     (leaves_at (IsOfFrontKind 81) front_fields OneText body left
-    (λ fs p. (front.Query p.value, record { fits = p.fits; kind_is = refl }, text_is fs p.more p.value p.parts p.behind)) query_from
+    (λ fs p. (front.Query p.value, record { fits = p.fits; kind_is = refl }, text_is fs p.more p.value p.parts p.past)) query_from
     (text_leaves body left is failed)))
     bytes f fits none e
 
@@ -122,7 +122,7 @@ fail_fault bytes f fits none e =
     (λ text. message.Front (front.CopyFail text)) text_of
     (λ body left is failed. within 102 body left
     (leaves_at (IsOfFrontKind 102) front_fields OneText body left
-    (λ fs p. (front.CopyFail p.value, record { fits = p.fits; kind_is = refl }, text_is fs p.more p.value p.parts p.behind)) fail_from
+    (λ fs p. (front.CopyFail p.value, record { fits = p.fits; kind_is = refl }, text_is fs p.more p.value p.parts p.past)) fail_from
     (text_leaves body left is failed)))
     bytes f fits none e
 
@@ -186,17 +186,17 @@ pub front_fault : (bytes : List ℕ) (f : WireFault) → IsBytes bytes → AreNo
 unfolding judge_front
 front_fault [] f fits none e = absurd cc
 front_fault (kind ∷ bytes) f fits none e =
-    let behind = IsBytes-rest kind bytes fits in
+    let past = IsBytes-rest kind bytes fits in
     elim (choice (eqb kind 81) _ _ (taken.Wrong f) e) [
-      | inl q ↦ at_kind kind 81 bytes f (eqb-true _ _ q.0) none (λ n. query_fault bytes f behind n q.1)
+      | inl q ↦ at_kind kind 81 bytes f (eqb-true _ _ q.0) none (λ n. query_fault bytes f past n q.1)
       | inr e1 ↦ elim (choice (eqb kind 100) _ _ (taken.Wrong f) e1.1) [
-        | inl d ↦ at_kind kind 100 bytes f (eqb-true _ _ d.0) none (λ n. data_fault bytes f behind n d.1)
+        | inl d ↦ at_kind kind 100 bytes f (eqb-true _ _ d.0) none (λ n. data_fault bytes f past n d.1)
         | inr e2 ↦ elim (choice (eqb kind 99) _ _ (taken.Wrong f) e2.1) [
-          | inl c ↦ at_kind kind 99 bytes f (eqb-true _ _ c.0) none (λ n. done_fault bytes f behind n c.1)
+          | inl c ↦ at_kind kind 99 bytes f (eqb-true _ _ c.0) none (λ n. done_fault bytes f past n c.1)
           | inr e3 ↦ elim (choice (eqb kind 102) _ _ (taken.Wrong f) e3.1) [
-            | inl g ↦ at_kind kind 102 bytes f (eqb-true _ _ g.0) none (λ n. fail_fault bytes f behind n g.1)
+            | inl g ↦ at_kind kind 102 bytes f (eqb-true _ _ g.0) none (λ n. fail_fault bytes f past n g.1)
             | inr e4 ↦ elim (choice (eqb kind 88) _ _ (taken.Wrong f) e4.1) [
-              | inl t ↦ at_kind kind 88 bytes f (eqb-true _ _ t.0) none (λ n. end_fault bytes f behind n t.1)
+              | inl t ↦ at_kind kind 88 bytes f (eqb-true _ _ t.0) none (λ n. end_fault bytes f past n t.1)
               | inr e5 ↦ kind_fault kind bytes f e5.1 (no_kind kind (eqb-false _ _ e1.0) (eqb-false _ _ e2.0) (eqb-false _ _ e3.0)
                   (eqb-false _ _ e4.0) (eqb-false _ _ e5.0))
             ]

@@ -32,24 +32,24 @@ given_then old mid new bytes more ms ns first second =
     }
 
 -- a message that a reader gives
-given_one : (r : Reading) (m : Message) (behind : List ℕ) → Belongs r.phase m → r.rest ≡ spelling m ++ behind
-    → HasGiven r [] (m ∷ []) (record { phase = after r.phase m; place = capped (r.place + length (spelling m)); rest = behind })
-given_one r m behind belongs parts =
-    let taken : length r.rest + 0 - length behind ≡ length (spelling m) =
-    omega (arith, ap length parts, length-append (spelling m) behind) in
+given_one : (r : Reading) (m : Message) (past : List ℕ) → Belongs r.phase m → r.rest ≡ spelling m ++ past
+    → HasGiven r [] (m ∷ []) (record { phase = after r.phase m; place = capped (r.place + length (spelling m)); rest = past })
+given_one r m past belongs parts =
+    let taken : length r.rest + 0 - length past ≡ length (spelling m) =
+    omega (arith, ap length parts, length-append (spelling m) past) in
     record {
-      read = read_one r.phase (r.rest ++ []) behind m belongs
-          (subst (λ (b : List ℕ). b ≡ spelling m ++ behind) (sym (append-nil r.rest)) parts);
+      read = read_one r.phase (r.rest ++ []) past m belongs
+          (subst (λ (b : List ℕ). b ≡ spelling m ++ past) (sym (append-nil r.rest)) parts);
       place = ap (λ (n : ℕ). capped (r.place + n)) (sym taken);
     }
 
-pub given_message : (old now new : Reading) (bytes behind : List ℕ) (ms : List Message) (m : Message) → HasGiven old bytes ms now
-    → Belongs now.phase m → now.rest ≡ spelling m ++ behind
-    → new ≡ record { phase = after now.phase m; place = capped (now.place + length (spelling m)); rest = behind }
+pub given_message : (old now new : Reading) (bytes past : List ℕ) (ms : List Message) (m : Message) → HasGiven old bytes ms now
+    → Belongs now.phase m → now.rest ≡ spelling m ++ past
+    → new ≡ record { phase = after now.phase m; place = capped (now.place + length (spelling m)); rest = past }
     → HasGiven old bytes (ms ++ m ∷ []) new
-given_message old now new bytes behind ms m so_far belongs parts next =
-    let last : Reading = record { phase = after now.phase m; place = capped (now.place + length (spelling m)); rest = behind } in
-    let all = given_then old now last bytes [] ms (m ∷ []) so_far (given_one now m behind belongs parts) in
+given_message old now new bytes past ms m so_far belongs parts next =
+    let last : Reading = record { phase = after now.phase m; place = capped (now.place + length (spelling m)); rest = past } in
+    let all = given_then old now last bytes [] ms (m ∷ []) so_far (given_one now m past belongs parts) in
     subst (λ (r : Reading). HasGiven old bytes (ms ++ m ∷ []) r) (sym next)
     (subst (λ (b : List ℕ). HasGiven old b (ms ++ m ∷ []) last) (append-nil bytes) all)
 

@@ -1,5 +1,5 @@
 -- Where the reading of a list of fields ends, said of the lists that there may be: a language of lists of fields.
--- Behind a field stands a language again.
+-- After a field stands a language again.
 use Rattle.std.proofs.Common.{◌≡◌, ◌≢◌, ℕ, ◌<◌, Bool, true, false, cond, eqb, List, [], ◌∷◌, ◌++◌, length, Result, Ok, Err, refl, sym, ap, subst, ◌∙◌, append_assoc, arith, ◌⊎◌, inl, inr}
 use Rattle.std.specs.List.{concat}
 use Rattle.std.proofs.lemmas.Bool.{eqb-false}
@@ -28,12 +28,12 @@ pub record Leaves (L : List (List ℕ) → Type 0) (body : List ℕ) (left : ℕ
   pub parts : body ≡ concat before ++ rest
   pub size : length rest ≡ left
   pub goes_on : (more : List (List ℕ)) × L (before ++ more)
-  pub stops : (field : List ℕ) (more : List (List ℕ)) (behind : List ℕ) → L (before ++ field ∷ more) → rest ≢ field ++ behind
+  pub stops : (field : List ℕ) (more : List (List ℕ)) (past : List ℕ) → L (before ++ field ∷ more) → rest ≢ field ++ past
   pub goes_further : L before → rest ≢ []
 
 -- no field of the language stands here
 pub leaves_here : (L : Language) (body : List ℕ) (left : ℕ) → length body ≡ left → (more : List (List ℕ)) × L more
-    → ((field : List ℕ) (more : List (List ℕ)) (behind : List ℕ) → L (field ∷ more) → body ≢ field ++ behind)
+    → ((field : List ℕ) (more : List (List ℕ)) (past : List ℕ) → L (field ∷ more) → body ≢ field ++ past)
     → (L [] → body ≢ []) → Leaves L body left
 leaves_here L body left size some stops further = record {
   before = [];
@@ -45,9 +45,9 @@ leaves_here L body left size some stops further = record {
   goes_further = further;
 }
 
-pub leaves_behind : (L : Language) (field body rest : List ℕ) (left : ℕ) → body ≡ field ++ rest → Leaves (λ fs. L (field ∷ fs)) rest left
+pub leaves_past : (L : Language) (field body rest : List ℕ) (left : ℕ) → body ≡ field ++ rest → Leaves (λ fs. L (field ∷ fs)) rest left
     → Leaves L body left
-leaves_behind L field body rest left e l = record {
+leaves_past L field body rest left e l = record {
   before = field ∷ l.before;
   rest = l.rest;
   parts = e ∙ ap (λ (t : List ℕ). field ++ t) l.parts ∙ sym (append_assoc field (concat l.before) l.rest);
@@ -57,12 +57,12 @@ leaves_behind L field body rest left e l = record {
   goes_further = l.goes_further;
 }
 
-pub leaves_behind_all : (L : Language) (front : List (List ℕ)) (body rest : List ℕ) (left : ℕ) → body ≡ concat front ++ rest
+pub leaves_past_all : (L : Language) (front : List (List ℕ)) (body rest : List ℕ) (left : ℕ) → body ≡ concat front ++ rest
     → Leaves (λ fs. L (front ++ fs)) rest left → Leaves L body left
-leaves_behind_all L [] body rest left e l = subst (λ (b : List ℕ). Leaves L b left) (sym e) l
-leaves_behind_all L (f ∷ front) body rest left e l =
-    leaves_behind L f body (concat front ++ rest) left (e ∙ append_assoc f (concat front) rest)
-    (leaves_behind_all (λ fs. L (f ∷ fs)) front (concat front ++ rest) rest left refl l)
+leaves_past_all L [] body rest left e l = subst (λ (b : List ℕ). Leaves L b left) (sym e) l
+leaves_past_all L (f ∷ front) body rest left e l =
+    leaves_past L f body (concat front ++ rest) left (e ∙ append_assoc f (concat front) rest)
+    (leaves_past_all (λ fs. L (f ∷ fs)) front (concat front ++ rest) rest left refl l)
 
 -- another language with the same lists
 pub leaves_as : (L K : Language) (body : List ℕ) (left : ℕ) → ((fs : List (List ℕ)) → L fs → K fs) → ((fs : List (List ℕ)) → K fs → L fs)
@@ -73,7 +73,7 @@ leaves_as L K body left to from l = record {
   parts = l.parts;
   size = l.size;
   goes_on = (l.goes_on.0, to (l.before ++ l.goes_on.0) l.goes_on.1);
-  stops = λ field more behind k. l.stops field more behind (from (l.before ++ field ∷ more) k);
+  stops = λ field more past k. l.stops field more past (from (l.before ++ field ∷ more) k);
   goes_further = λ k. l.goes_further (from l.before k);
 }
 
@@ -89,7 +89,7 @@ leaves_at Fits fields L body left to from l =
       parts = l.parts;
       size = l.size;
       goes_on = (some.0, some.1, (l.goes_on.0, some.2));
-      stops = λ m field more behind fits e. l.stops field more behind (subst L e (from m fits));
+      stops = λ m field more past fits e. l.stops field more past (subst L e (from m fits));
       goes_further = λ m fits e. l.goes_further (subst L e (from m fits));
     }
 
@@ -98,7 +98,7 @@ leaves_at Fits fields L body left to from l =
 abbrev pub Nothing : Language
 Nothing fs = fs ≡ []
 
--- a step that failed, or what is done behind it
+-- a step that failed, or what is done after it
 pub bind_err : {A B : Type 0} (r : Result A ℕ) (f : A → Result B ℕ) (left : ℕ) → (r >>= f) ≡ Err left → (r ≡ Err left)
     ⊎ ((x : A) × (r ≡ Ok x) × (f x ≡ Err left))
 bind_err (Ok x) f left e = inr (x, refl, e)
@@ -111,19 +111,19 @@ guard_failed false x other left e = (refl, cc)
 pub leaves_end : {A : Type 0} (x : A) (rest : List ℕ) (left : ℕ) → whole (x, rest) ≡ Err left → Leaves Nothing rest left
 leaves_end x rest left e =
     let g = guard_failed (eqb (length rest) 0) x (length rest) left e in
-    leaves_here Nothing rest left g.1 ([], refl) (λ field more behind n. absurd cc)
+    leaves_here Nothing rest left g.1 ([], refl) (λ field more past n. absurd cc)
     (λ n nothing. eqb-false (length rest) 0 g.0 (ap length nothing))
 
 -- ---- parts: values that are spelled by some fields
 
--- a value, and what stands behind it
+-- a value, and what stands after it
 pub record IsParted {A : Type 0} (Fits : A → Type 0) (fields : A → List (List ℕ)) (K : A → List (List ℕ) → Type 0) (fs : List (List ℕ)) :
     Type 0 where
   pub value : A
   pub fits : Fits value
   pub more : List (List ℕ)
   pub parts : fs ≡ fields value ++ more
-  pub behind : K value more
+  pub past : K value more
 
 abbrev pub HasSome : (List (List ℕ) → Type 0) → Type 0
 HasSome L = (fs : List (List ℕ)) × L fs
@@ -139,40 +139,40 @@ pub record IsPart {A : Type 0} (Fits : A → Type 0) (fields : A → List (List 
   pub leaves : (K : A → List (List ℕ) → Type 0) → ((x : A) → Fits x → HasSome (K x)) → (bytes : List ℕ) (left : ℕ) → IsBody bytes
       → read bytes ≡ Err left → Leaves (IsParted Fits fields K) bytes left
 
--- behind a value stands what may stand behind it
-pub behind_value : {A : Type 0} {Fits : A → Type 0} {fields : A → List (List ℕ)} {read : List ℕ → Result (A × List ℕ) ℕ}
+-- after a value stands what may stand after it
+pub past_value : {A : Type 0} {Fits : A → Type 0} {fields : A → List (List ℕ)} {read : List ℕ → Result (A × List ℕ) ℕ}
     (part : IsPart Fits fields read) (K : A → List (List ℕ) → Type 0) (x : A) (bytes rest : List ℕ) (left : ℕ) → Fits x
     → bytes ≡ concat (fields x) ++ rest → Leaves (K x) rest left → Leaves (IsParted Fits fields K) bytes left
-behind_value {A} {Fits} {fields} {read} part K x bytes rest left fits e l =
+past_value {A} {Fits} {fields} {read} part K x bytes rest left fits e l =
     let from : (fs : List (List ℕ)) → IsParted Fits fields K (fields x ++ fs) → K x fs = λ fs p.
     let o = part.one x p.value fs p.more fits p.fits p.parts in
-    subst (λ (y : A). K y fs) (sym o.0) (subst (λ (t : List (List ℕ)). K p.value t) (sym o.1) p.behind)
+    subst (λ (y : A). K y fs) (sym o.0) (subst (λ (t : List (List ℕ)). K p.value t) (sym o.1) p.past)
     in
-    leaves_behind_all (IsParted Fits fields K) (fields x) bytes rest left e
+    leaves_past_all (IsParted Fits fields K) (fields x) bytes rest left e
     (leaves_as (K x) (λ fs. IsParted Fits fields K (fields x ++ fs)) rest left
-    (λ fs k. record { value = x; fits = fits; more = fs; parts = refl; behind = k }) from l)
+    (λ fs k. record { value = x; fits = fits; more = fs; parts = refl; past = k }) from l)
 
--- some value, and something behind it
+-- some value, and something after it
 pub some_parted : {A : Type 0} {Fits : A → Type 0} (fields : A → List (List ℕ)) (K : A → List (List ℕ) → Type 0) (x : A) → Fits x
     → HasSome (K x) → HasSome (IsParted Fits fields K)
-some_parted fields K x fits some = (fields x ++ some.0, record { value = x; fits = fits; more = some.0; parts = refl; behind = some.1 })
+some_parted fields K x fits some = (fields x ++ some.0, record { value = x; fits = fits; more = some.0; parts = refl; past = some.1 })
 
--- a value, and what is read behind it
+-- a value, and what is read after it
 pub leaves_then : {A B : Type 0} {Fits : A → Type 0} {fields : A → List (List ℕ)} {read : List ℕ → Result (A × List ℕ) ℕ}
     (part : IsPart Fits fields read) (K : A → List (List ℕ) → Type 0) → ((x : A) → Fits x → HasSome (K x))
     → (next : A × List ℕ → Result B ℕ)
     → (bytes : List ℕ) (left : ℕ) → IsBody bytes → ((x : A) (rest : List ℕ) → Fits x → IsBody rest → bytes ≡ concat (fields x) ++ rest
     → next (x, rest) ≡ Err left → Leaves (K x) rest left)
     → (read bytes >>= next) ≡ Err left → Leaves (IsParted Fits fields K) bytes left
-leaves_then {A} {B} {Fits} {fields} {read} part K some next bytes left is behind e =
+leaves_then {A} {B} {Fits} {fields} {read} part K some next bytes left is past e =
     elim (bind_err (read bytes) next left e) [
       | inl failed ↦ part.leaves K some bytes left is failed
       | inr t ↦
           let taken = part.takes bytes t.0.0 t.0.1 is t.1 in
-          behind_value part K t.0.0 bytes t.0.1 left taken.2 taken.0 (behind t.0.0 t.0.1 taken.2 taken.1 taken.0 t.2)
+          past_value part K t.0.0 bytes t.0.1 left taken.2 taken.0 (past t.0.0 t.0.1 taken.2 taken.1 taken.0 t.2)
     ]
 
--- a value, and nothing behind it
+-- a value, and nothing after it
 pub leaves_last : {A B : Type 0} {Fits : A → Type 0} {fields : A → List (List ℕ)} {read : List ℕ → Result (A × List ℕ) ℕ}
     (part : IsPart Fits fields read) (make : A → B) (bytes : List ℕ) (left : ℕ) → IsBody bytes
     → (read bytes >>= λ (x : A × List ℕ). whole (make x.0, x.1)) ≡ Err left → Leaves (IsParted Fits fields (λ x. Nothing)) bytes left

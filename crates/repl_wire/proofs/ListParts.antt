@@ -31,11 +31,11 @@ entries_one {A} {Fits} {fields} {read} part (x ∷ xs) (y ∷ ys) more others le
     let tail = rest.0 in
     (cc, rest.1)
 
-abbrev behind_others : {A : Type 0} → A → List A × List ℕ → Result (List A × List ℕ) ℕ
-behind_others x others = Ok (x ∷ others.0, others.1)
+abbrev past_others : {A : Type 0} → A → List A × List ℕ → Result (List A × List ℕ) ℕ
+past_others x others = Ok (x ∷ others.0, others.1)
 
-abbrev behind_first : {A : Type 0} → (List ℕ → Result (A × List ℕ) ℕ) → ℕ → A × List ℕ → Result (List A × List ℕ) ℕ
-behind_first read count first = entries_at read count first.1 >>= behind_others first.0
+abbrev past_first : {A : Type 0} → (List ℕ → Result (A × List ℕ) ℕ) → ℕ → A × List ℕ → Result (List A × List ℕ) ℕ
+past_first read count first = entries_at read count first.1 >>= past_others first.0
 
 -- an entry, and the others
 cons_parts : (bytes mid rest : List ℕ) (first others : List (List ℕ)) → bytes ≡ concat first ++ mid → mid ≡ concat others ++ rest → bytes
@@ -54,8 +54,8 @@ unfolding entries_at
 entries_take {A} {Fits} {fields} {read} part zero bytes x is e =
     subst (AreTaken Fits fields 0 bytes) {x = ([], bytes)} (ok_is ([], bytes) x e) (refl, is, record { size = refl; each = tt })
 entries_take {A} {Fits} {fields} {read} part (suc count) bytes x is e =
-    let a = bind_ok (read bytes) (behind_first read count) x e in
-    let o = bind_ok (entries_at read count a.0.1) (behind_others a.0.0) x a.2 in
+    let a = bind_ok (read bytes) (past_first read count) x e in
+    let o = bind_ok (entries_at read count a.0.1) (past_others a.0.0) x a.2 in
     let first = part.takes bytes a.0.0 a.0.1 is a.1 in
     let others = entries_take part count a.0.1 o.0 first.1 o.1 in
     subst (AreTaken Fits fields (suc count) bytes) {x = (a.0.0 ∷ o.0.0, o.0.1)} (ok_is (a.0.0 ∷ o.0.0, o.0.1) x o.2) (
@@ -71,24 +71,24 @@ entries_some Fits x fits (suc count) =
     let others = entries_some Fits x fits count in
     (x ∷ others.0, record { size = ap suc others.1.size; each = (fits, others.1.each) })
 
--- the step behind a reader that cannot fail did not fail
-others_failed : {A : Type 0} (r : Result (List A × List ℕ) ℕ) (x : A) (left : ℕ) → (r >>= behind_others x) ≡ Err left → r ≡ Err left
+-- the step after a reader that cannot fail did not fail
+others_failed : {A : Type 0} (r : Result (List A × List ℕ) ℕ) (x : A) (left : ℕ) → (r >>= past_others x) ≡ Err left → r ≡ Err left
 others_failed (Ok others) x left e = absurd cc
 others_failed (Err n) x left e = cc
 
--- what stands behind the first of the entries
+-- what stands after the first of the entries
 abbrev Others : {A : Type 0} → (A → Type 0) → (A → List (List ℕ)) → ℕ → (List A → Language) → A → Language
 Others Fits fields count K x = IsParted (AreCounted Fits count) (flat_map fields) (λ xs. K (x ∷ xs))
 
 entries_to : {A : Type 0} (Fits : A → Type 0) (fields : A → List (List ℕ)) (count : ℕ) (K : List A → Language) (fs : List (List ℕ))
     → IsParted Fits fields (Others Fits fields count K) fs → IsParted (AreCounted Fits (suc count)) (flat_map fields) K fs
 entries_to Fits fields count K fs p = record {
-  value = p.value ∷ p.behind.value;
-  fits = record { size = ap suc p.behind.fits.size; each = (p.fits, p.behind.fits.each) };
-  more = p.behind.more;
-  parts = p.parts ∙ ap (λ (t : List (List ℕ)). fields p.value ++ t) p.behind.parts
-      ∙ sym (append_assoc (fields p.value) (flat_map fields p.behind.value) p.behind.more);
-  behind = p.behind.behind;
+  value = p.value ∷ p.past.value;
+  fits = record { size = ap suc p.past.fits.size; each = (p.fits, p.past.fits.each) };
+  more = p.past.more;
+  parts = p.parts ∙ ap (λ (t : List (List ℕ)). fields p.value ++ t) p.past.parts
+      ∙ sym (append_assoc (fields p.value) (flat_map fields p.past.value) p.past.more);
+  past = p.past.past;
 }
 
 entries_from : {A : Type 0} (Fits : A → Type 0) (fields : A → List (List ℕ)) (count : ℕ) (K : List A → Language) (fs : List (List ℕ))
@@ -100,12 +100,12 @@ entries_from Fits fields count K fs (x ∷ xs) more are parts k = record {
   fits = are.each.0;
   more = flat_map fields xs ++ more;
   parts = parts ∙ append_assoc (fields x) (flat_map fields xs) more;
-  behind = record {
+  past = record {
     value = xs;
     fits = record { size = omega (arith, are.size); each = are.each.1 };
     more = more;
     parts = refl;
-    behind = k;
+    past = k;
   };
 }
 
@@ -124,8 +124,8 @@ entries_leave {A} {Fits} {fields} {read} part (suc count) K some bytes left is e
     in
     leaves_as (IsParted Fits fields (Others Fits fields count K)) (IsParted (AreCounted Fits (suc count)) (flat_map fields) K) bytes left
     (entries_to Fits fields count K)
-    (λ fs p. entries_from Fits fields count K fs p.value p.more p.fits p.parts p.behind)
-    (leaves_then part (Others Fits fields count K) goes_on (behind_first read count) bytes left is
+    (λ fs p. entries_from Fits fields count K fs p.value p.more p.fits p.parts p.past)
+    (leaves_then part (Others Fits fields count K) goes_on (past_first read count) bytes left is
     (λ x rest fits body parts failed. entries_leave part count (λ xs. K (x ∷ xs))
     (λ xs are. some (x ∷ xs) (record { size = ap suc are.size; each = (fits, are.each) })) rest left body
     (others_failed (entries_at read count rest) x left failed)) e)
@@ -149,14 +149,14 @@ pub record IsListed {A : Type 0} (Fits : A → Type 0) (xs : List A) : Type 0 wh
 abbrev pub counted_fields : {A : Type 0} → (A → List (List ℕ)) → List A → List (List ℕ)
 counted_fields fields xs = int16 (length xs) ∷ flat_map fields xs
 
-abbrev behind_count : {A : Type 0} → (List ℕ → Result (A × List ℕ) ℕ) → ℕ × List ℕ → Result (List A × List ℕ) ℕ
-behind_count read count = entries_at read count.0 count.1
+abbrev past_count : {A : Type 0} → (List ℕ → Result (A × List ℕ) ℕ) → ℕ × List ℕ → Result (List A × List ℕ) ℕ
+past_count read count = entries_at read count.0 count.1
 
 counted_take : {A : Type 0} {Fits : A → Type 0} {fields : A → List (List ℕ)} {read : List ℕ → Result (A × List ℕ) ℕ}
     (part : IsPart Fits fields read) (bytes : List ℕ) (xs : List A) (rest : List ℕ) → IsBody bytes
     → counted_at read bytes ≡ Ok (xs, rest) → (bytes ≡ concat (counted_fields fields xs) ++ rest) × IsBody rest × IsListed Fits xs
 counted_take {A} {Fits} {fields} {read} part bytes xs rest is e =
-    let a = bind_ok (int16_at bytes) (behind_count read) (xs, rest) e in
+    let a = bind_ok (int16_at bytes) (past_count read) (xs, rest) e in
     let count = int16_field.takes bytes a.0.0 a.0.1 is a.1 in
     let entries = entries_take part a.0.0 a.0.1 (xs, rest) count.1 a.2 in
     let size = entries.2.size in (
@@ -166,21 +166,21 @@ counted_take {A} {Fits} {fields} {read} part bytes xs rest is e =
       record { few = omega (arith, count.2, size); each = entries.2.each },
     )
 
--- what stands behind the length of a list
+-- what stands after the length of a list
 abbrev Entries : {A : Type 0} → (A → Type 0) → (A → List (List ℕ)) → (List A → Language) → ℕ → Language
 Entries Fits fields K count = IsParted (AreCounted Fits count) (flat_map fields) K
 
 counted_to : {A : Type 0} (Fits : A → Type 0) (fields : A → List (List ℕ)) (K : List A → Language) (fs : List (List ℕ))
     → IsParted (λ n. n < 2 ^ 16) (λ n. int16 n ∷ []) (Entries Fits fields K) fs → IsParted (IsListed Fits) (counted_fields fields) K fs
 counted_to Fits fields K fs p =
-    let size = p.behind.fits.size in
+    let size = p.past.fits.size in
     record {
-      value = p.behind.value;
-      fits = record { few = omega (arith, p.fits, size); each = p.behind.fits.each };
-      more = p.behind.more;
-      parts = p.parts ∙ ap (λ (t : List (List ℕ)). int16 p.value ∷ t) p.behind.parts
-          ∙ ap (λ (n : ℕ). int16 n ∷ (flat_map fields p.behind.value ++ p.behind.more)) (sym size);
-      behind = p.behind.behind;
+      value = p.past.value;
+      fits = record { few = omega (arith, p.fits, size); each = p.past.fits.each };
+      more = p.past.more;
+      parts = p.parts ∙ ap (λ (t : List (List ℕ)). int16 p.value ∷ t) p.past.parts
+          ∙ ap (λ (n : ℕ). int16 n ∷ (flat_map fields p.past.value ++ p.past.more)) (sym size);
+      past = p.past.past;
     }
 
 counted_from : {A : Type 0} (Fits : A → Type 0) (fields : A → List (List ℕ)) (K : List A → Language) (fs : List (List ℕ))
@@ -190,7 +190,7 @@ counted_from Fits fields K fs p = record {
   fits = omega (arith, p.fits.few);
   more = flat_map fields p.value ++ p.more;
   parts = p.parts;
-  behind = record { value = p.value; fits = record { size = refl; each = p.fits.each }; more = p.more; parts = refl; behind = p.behind };
+  past = record { value = p.value; fits = record { size = refl; each = p.fits.each }; more = p.more; parts = refl; past = p.past };
 }
 
 counted_leave : {A : Type 0} {Fits : A → Type 0} {fields : A → List (List ℕ)} {read : List ℕ → Result (A × List ℕ) ℕ}
@@ -206,7 +206,7 @@ counted_leave {A} {Fits} {fields} {read} part K some bytes left is e =
     in
     leaves_as (IsParted (λ n. n < 2 ^ 16) (λ n. int16 n ∷ []) (Entries Fits fields K)) (IsParted (IsListed Fits) (counted_fields fields) K)
     bytes left (counted_to Fits fields K) (counted_from Fits fields K)
-    (leaves_then (field_part int16_field) (Entries Fits fields K) goes_on (behind_count read) bytes left is
+    (leaves_then (field_part int16_field) (Entries Fits fields K) goes_on (past_count read) bytes left is
     (λ n rest below body parts failed. entries_leave part n K (all n below) rest left body failed) e)
 
 pub counted_part : {A : Type 0} {Fits : A → Type 0} {fields : A → List (List ℕ)} {read : List ℕ → Result (A × List ℕ) ℕ}

@@ -1,4 +1,4 @@
--- Faults of messages behind a type byte, of either side.
+-- Faults of messages after a type byte, of either side.
 use Rattle.std.proofs.Common.{◌≡◌, ◌≢◌, ℕ, suc, ◌+◌, ◌-◌, ◌<◌, ◌≤◌, List, [], ◌∷◌, ◌++◌, length, take, drop, Result, Err, refl, sym, ap, subst, ◌∙◌, arith, inl, inr}
 use Rattle.std.specs.List.{concat}
 use Rattle.std.proofs.lemmas.List.{length-append, append-nil}
@@ -52,8 +52,8 @@ body_fault : {p : Phase} {kind least limit : ℕ} (typed : IsTyped p kind least 
     → IsFrame (least + 4) limit bytes body → AreNone p (kind ∷ bytes) → LeavesWithin p kind body left
     → IsFault p (kind ∷ bytes) (fault.Body (length body + 5 - left))
 body_fault {p} {kind} {least} {limit} typed bytes body left frame none leaves =
-    let behind = drop (length body + 4) bytes in
-    let parts : bytes ≡ framed body ++ behind = frame_parts (least + 4) limit bytes body frame in
+    let past = drop (length body + 4) bytes in
+    let parts : bytes ≡ framed body ++ past = frame_parts (least + 4) limit bytes body frame in
     let cut : take (1 + (length body + 4)) (kind ∷ bytes) ≡ kind ∷ framed body =
     let n : 1 + (length body + 4) ≡ suc (length body + 4) = omega arith in
     ap (λ (k : ℕ). take k (kind ∷ bytes)) n ∙ ap (λ (t : List ℕ). kind ∷ t) frame.spelled
@@ -64,13 +64,13 @@ body_fault {p} {kind} {least} {limit} typed bytes body left frame none leaves =
     let same = same_frame body s.0 b.0 (omega (arith, typed.below, frame.high)) (omega (arith, typed.below, s.3)) s.1 in
     let alone : IsSpelled p (kind ∷ framed body) = subst (λ (t : List ℕ). IsSpelled p (kind ∷ t))
     (ap (λ (t : List ℕ). framed body ++ t) same.1 ∙ append-nil (framed body)) spelled in
-    none alone.0 (kind ∷ framed body) behind alone.1 (ap (λ (t : List ℕ). kind ∷ t) parts)
+    none alone.0 (kind ∷ framed body) past alone.1 (ap (λ (t : List ℕ). kind ∷ t) parts)
     in
     record {
       kind = kind ∷ [];
       said = length body + 4;
       body = body;
-      behind = behind;
+      past = past;
       left = left;
       kinds = sym typed.one_byte;
       parts = ap (λ (t : List ℕ). kind ∷ t) parts;
@@ -80,7 +80,7 @@ body_fault {p} {kind} {least} {limit} typed bytes body left frame none leaves =
       stops = stops;
     }
 
--- a message behind its type byte, of which reading says where its body is left
+-- a message after its type byte, of which reading says where its body is left
 pub message_fault : {A : Type 0} {p : Phase} {kind least limit : ℕ} (typed : IsTyped p kind least limit) (make : A → Message)
     (read : List ℕ → Result A ℕ) → ((body : List ℕ) (left : ℕ) → IsBody body → read body ≡ Err left → LeavesWithin p kind body left)
     → (bytes : List ℕ) (f : WireFault) → IsBytes bytes → AreNone p (kind ∷ bytes)

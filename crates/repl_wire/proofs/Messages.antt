@@ -48,7 +48,7 @@ choice : (b : Bool) (a other : Taken) (m : Message) (used : ℕ) → cond b a ot
 choice true a other m used e = inl (refl, e)
 choice false a other m used e = inr e
 
--- ---- messages behind a type byte
+-- ---- messages after a type byte
 
 -- the bodies of these messages are read so: what is read was written, and what was written is read
 record IsReader {A : Type 0} (kind : ℕ) (make : A → Front) (least limit : ℕ) (read : List ℕ → Result A ℕ) : Type 0 where
@@ -109,7 +109,7 @@ terminate_reader = record {
   again = λ u fits. nothing_again;
 }
 
--- a frame behind a type byte spells the message whose kind and body they are
+-- a frame after a type byte spells the message whose kind and body they are
 front_spells : (m : Front) (kind least limit : ℕ) (bytes body : List ℕ) → IsFrame least limit bytes body → limit ≡ front_limit m → kind
     ≡ front_kind m → body ≡ front_body m → FitsFront m
     → (length body + 5 ≤ length (kind ∷ bytes)) × Spells phase.Front (message.Front m) (take (length body + 5) (kind ∷ bytes))
@@ -136,17 +136,17 @@ front_found : (bytes : List ℕ) (m : Message) (used : ℕ) → IsBytes bytes �
 unfolding judge_front
 front_found [] m used fits e = absurd cc
 front_found (kind ∷ bytes) m used fits e =
-    let behind = IsBytes-rest kind bytes fits in
+    let past = IsBytes-rest kind bytes fits in
     elim (choice (eqb kind 81) _ _ m used e) [
-      | inl q ↦ message_found query_reader kind bytes m used behind (eqb-true _ _ q.0) q.1
+      | inl q ↦ message_found query_reader kind bytes m used past (eqb-true _ _ q.0) q.1
       | inr e1 ↦ elim (choice (eqb kind 100) _ _ m used e1) [
-        | inl d ↦ message_found copy_data_reader kind bytes m used behind (eqb-true _ _ d.0) d.1
+        | inl d ↦ message_found copy_data_reader kind bytes m used past (eqb-true _ _ d.0) d.1
         | inr e2 ↦ elim (choice (eqb kind 99) _ _ m used e2) [
-          | inl c ↦ message_found copy_done_reader kind bytes m used behind (eqb-true _ _ c.0) c.1
+          | inl c ↦ message_found copy_done_reader kind bytes m used past (eqb-true _ _ c.0) c.1
           | inr e3 ↦ elim (choice (eqb kind 102) _ _ m used e3) [
-            | inl f ↦ message_found copy_fail_reader kind bytes m used behind (eqb-true _ _ f.0) f.1
+            | inl f ↦ message_found copy_fail_reader kind bytes m used past (eqb-true _ _ f.0) f.1
             | inr e4 ↦ elim (choice (eqb kind 88) _ _ m used e4) [
-              | inl t ↦ message_found terminate_reader kind bytes m used behind (eqb-true _ _ t.0) t.1
+              | inl t ↦ message_found terminate_reader kind bytes m used past (eqb-true _ _ t.0) t.1
               | inr e5 ↦ absurd cc
             ]
           ]
@@ -156,7 +156,7 @@ front_found (kind ∷ bytes) m used fits e =
 
 -- ---- messages of the server
 
--- a frame behind a type byte spells the message whose kind and body they are
+-- a frame after a type byte spells the message whose kind and body they are
 back_spells : (m : Back) (kind least limit : ℕ) (bytes body : List ℕ) → IsFrame least limit bytes body → IsBody kind limit body m
     → (length body + 5 ≤ length (kind ∷ bytes)) × Spells phase.Back (message.Back m) (take (length body + 5) (kind ∷ bytes))
 back_spells m kind least limit bytes body f is =
@@ -193,7 +193,7 @@ ended_found (kind ∷ bytes) m used e = cc
 
 -- ---- startup packets
 
--- the fields behind this code are read so
+-- the fields after this code are read so
 record IsPacketReader {A : Type 0} (code : ℕ) (make : A → Startup) (read : List ℕ → Result A ℕ) : Type 0 where
   below : code < 2 ^ 32
   takes : (fields : List ℕ) (x : A) → IsBytes fields → read fields ≡ Ok x → (int32 code ++ fields ≡ startup_body (make x))
@@ -283,7 +283,7 @@ is_found phase.Ended bytes t fits judged m used e = absurd (ended_found bytes m 
 
 -- ---- what is spelled is taken
 
--- the code, and what is read behind it
+-- the code, and what is read after it
 packet_again : {A : Type 0} {code : ℕ} {make : A → Startup} {read : List ℕ → Result A ℕ} (reader : IsPacketReader code make read) (x : A)
     → FitsStartup (make x)
     → (number (startup_body (make x)) ≡ code) × (read_packet make read (startup_body (make x))
@@ -291,8 +291,8 @@ packet_again : {A : Type 0} {code : ℕ} {make : A → Startup} {read : List ℕ
 packet_again {A} {code} {make} {read} reader x fits =
     let a = reader.again x fits in
     let c = int32_again code a.0 reader.below in
-    let behind : read (drop 4 (startup_body (make x))) ≡ Ok x = ap (λ (body : List ℕ). read (drop 4 body)) a.1 ∙ ap read c.1 ∙ a.2 in
-    (ap number a.1 ∙ c.0, rw behind refl)
+    let past : read (drop 4 (startup_body (make x))) ≡ Ok x = ap (λ (body : List ℕ). read (drop 4 body)) a.1 ∙ ap read c.1 ∙ a.2 in
+    (ap number a.1 ∙ c.0, rw past refl)
 
 -- a body of this code is judged by its reader
 judged_params : (body : List ℕ) → number body ≡ 196_608 → judge_packet body

@@ -27,10 +27,10 @@ after_name turns name = string_at name.1 >>= after_value turns name.0
 abbrev pair_then : ℕ → List ℕ → Result (List Pair × List ℕ) ℕ
 pair_then turns bytes = string_at bytes >>= after_name turns
 
-pairs_at_pair : (turns b : ℕ) (behind bytes : List ℕ) → bytes ≡ b ∷ behind → 0 < b → pairs_at (suc turns) bytes ≡ pair_then turns bytes
+pairs_at_pair : (turns b : ℕ) (past bytes : List ℕ) → bytes ≡ b ∷ past → 0 < b → pairs_at (suc turns) bytes ≡ pair_then turns bytes
 unfolding pairs_at
-pairs_at_pair turns zero behind bytes e first = absurd (omega arith)
-pairs_at_pair turns (suc b) behind bytes e first = rw e refl
+pairs_at_pair turns zero past bytes e first = absurd (omega arith)
+pairs_at_pair turns (suc b) past bytes e first = rw e refl
 
 -- ---- what is read, and what is read again
 
@@ -67,13 +67,13 @@ unfolding pairs_at
 pairs_again zero ps rest enough fits = absurd (omega arith)
 pairs_again (suc turns) [] rest enough fits = refl
 pairs_again (suc turns) (p ∷ ps) rest enough fits =
-    let behind : List ℕ = string p.value ++ (ended pair ps ++ rest) in
-    let regrouped : ended pair (p ∷ ps) ++ rest ≡ string p.name ++ behind = ap (λ (w : List ℕ). w ++ rest) (ended-cons pair p ps)
+    let past : List ℕ = string p.value ++ (ended pair ps ++ rest) in
+    let regrouped : ended pair (p ∷ ps) ++ rest ≡ string p.name ++ past = ap (λ (w : List ℕ). w ++ rest) (ended-cons pair p ps)
     ∙ simp append_assoc in
-    let begins = string_begins p.name behind fits.0.named fits.0.name in
-    ap (pairs_at (suc turns)) regrouped ∙ pairs_at_pair turns begins.0 begins.1 (string p.name ++ behind) begins.2 begins.3
+    let begins = string_begins p.name past fits.0.named fits.0.name in
+    ap (pairs_at (suc turns)) regrouped ∙ pairs_at_pair turns begins.0 begins.1 (string p.name ++ past) begins.2 begins.3
     ∙ rw (
-      string_again p.name behind fits.0.name,
+      string_again p.name past fits.0.name,
       string_again p.value (ended pair ps ++ rest) fits.0.value,
       pairs_again turns ps rest (omega arith) fits.1,
     ) refl
@@ -124,23 +124,23 @@ regroup front p (Ok x) = ap (λ (ps : List Pair). Ok (ps, x.1)) (simp append_ass
 regroup front p (Err left) = refl
 
 pub goes_on : (front : List Pair) (count i : ℕ) (bytes : List ℕ) (p : Pair) (mid after : List ℕ) (total : Result (List Pair × List ℕ) ℕ)
-    (b : ℕ) (behind : List ℕ) → i < count → bytes ≡ b ∷ behind → 0 < b
+    (b : ℕ) (past : List ℕ) → i < count → bytes ≡ b ∷ past → 0 < b
     → string_at bytes ≡ Ok (p.name, mid) → string_at mid ≡ Ok (p.value, after) → with_front front (pairs_at (count - i) bytes) ≡ total
     → with_front (front ++ p ∷ []) (pairs_at (count - (i + 1)) after) ≡ total
-goes_on front count i bytes p mid after total b behind lt starts first name value so_far =
+goes_on front count i bytes p mid after total b past lt starts first name value so_far =
     let k : count - i ≡ suc (count - (i + 1)) = omega arith in
     let one : with_front front (pairs_at (count - i) bytes) ≡ with_front (front ++ p ∷ []) (pairs_at (count - (i + 1)) after) =
-    rw (k, pairs_at_pair (count - (i + 1)) b behind bytes starts first, name, value) (regroup front p (pairs_at (count - (i + 1)) after)) in
+    rw (k, pairs_at_pair (count - (i + 1)) b past bytes starts first, name, value) (regroup front p (pairs_at (count - (i + 1)) after)) in
     sym one ∙ so_far
 
-pub ends_at_zero : (front : List Pair) (count i : ℕ) (bytes : List ℕ) (total : Result (List Pair × List ℕ) ℕ) (b : ℕ) (behind : List ℕ)
-    → i < count → bytes ≡ b ∷ behind → b ≡ 0
-    → with_front front (pairs_at (count - i) bytes) ≡ total → total ≡ Ok (front, behind)
+pub ends_at_zero : (front : List Pair) (count i : ℕ) (bytes : List ℕ) (total : Result (List Pair × List ℕ) ℕ) (b : ℕ) (past : List ℕ)
+    → i < count → bytes ≡ b ∷ past → b ≡ 0
+    → with_front front (pairs_at (count - i) bytes) ≡ total → total ≡ Ok (front, past)
 unfolding pairs_at
-ends_at_zero front count i bytes total b behind lt starts first so_far =
+ends_at_zero front count i bytes total b past lt starts first so_far =
     let k : count - i ≡ suc (count - (i + 1)) = omega arith in
-    let one : with_front front (pairs_at (count - i) bytes) ≡ Ok (front, behind) =
-    rw (k, starts, first) (ap (λ (ps : List Pair). Ok (ps, behind)) (append-nil front)) in
+    let one : with_front front (pairs_at (count - i) bytes) ≡ Ok (front, past) =
+    rw (k, starts, first) (ap (λ (ps : List Pair). Ok (ps, past)) (append-nil front)) in
     sym so_far ∙ one
 
 pub ends_empty : (front : List Pair) (count i : ℕ) (bytes : List ℕ) (total : Result (List Pair × List ℕ) ℕ) → i < count → bytes ≡ []
@@ -152,21 +152,21 @@ ends_empty front count i bytes total lt none so_far =
     sym so_far ∙ one
 
 pub ends_in_name : (e : FieldFault) (front : List Pair) (count i : ℕ) (bytes : List ℕ) (total : Result (List Pair × List ℕ) ℕ) (b : ℕ)
-    (behind : List ℕ) → i < count → bytes ≡ b ∷ behind → 0 < b
+    (past : List ℕ) → i < count → bytes ≡ b ∷ past → 0 < b
     → Fails e (string_at bytes) → with_front front (pairs_at (count - i) bytes) ≡ total → Fails e total
-ends_in_name field_fault.Memory front count i bytes total b behind lt starts first h so_far = tt
-ends_in_name (field_fault.Left left) front count i bytes total b behind lt starts first h so_far =
+ends_in_name field_fault.Memory front count i bytes total b past lt starts first h so_far = tt
+ends_in_name (field_fault.Left left) front count i bytes total b past lt starts first h so_far =
     let k : count - i ≡ suc (count - (i + 1)) = omega arith in
     let one : with_front front (pairs_at (count - i) bytes) ≡ Err left =
-    rw (k, pairs_at_pair (count - (i + 1)) b behind bytes starts first, h) refl in
+    rw (k, pairs_at_pair (count - (i + 1)) b past bytes starts first, h) refl in
     sym so_far ∙ one
 
 pub ends_in_value : (e : FieldFault) (front : List Pair) (count i : ℕ) (bytes name mid : List ℕ) (total : Result (List Pair × List ℕ) ℕ)
-    (b : ℕ) (behind : List ℕ) → i < count → bytes ≡ b ∷ behind → 0 < b
+    (b : ℕ) (past : List ℕ) → i < count → bytes ≡ b ∷ past → 0 < b
     → string_at bytes ≡ Ok (name, mid) → Fails e (string_at mid) → with_front front (pairs_at (count - i) bytes) ≡ total → Fails e total
-ends_in_value field_fault.Memory front count i bytes name mid total b behind lt starts first read h so_far = tt
-ends_in_value (field_fault.Left left) front count i bytes name mid total b behind lt starts first read h so_far =
+ends_in_value field_fault.Memory front count i bytes name mid total b past lt starts first read h so_far = tt
+ends_in_value (field_fault.Left left) front count i bytes name mid total b past lt starts first read h so_far =
     let k : count - i ≡ suc (count - (i + 1)) = omega arith in
     let one : with_front front (pairs_at (count - i) bytes) ≡ Err left =
-    rw (k, pairs_at_pair (count - (i + 1)) b behind bytes starts first, read, h) refl in
+    rw (k, pairs_at_pair (count - (i + 1)) b past bytes starts first, read, h) refl in
     sym so_far ∙ one

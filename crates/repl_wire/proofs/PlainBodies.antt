@@ -11,7 +11,7 @@ pub choice : {A : Type 0} (b : Bool) (x other y : A) → cond b x other ≡ y �
 choice true x other y e = inl (refl, e)
 choice false x other y e = inr (refl, e)
 
--- one string, and nothing behind it
+-- one string, and nothing after it
 abbrev pub OneText : Language
 OneText = IsParted IsText (λ t. string t ∷ []) (λ t. Nothing)
 

@@ -65,11 +65,11 @@ HasFront kind (Some l) = IsShortestFront kind l
 
 front_choice : (kind known : ℕ) (o other : Option (ℕ × ℕ)) → (known ≡ kind → HasFront kind o) → HasFront kind other
     → HasFront kind (cond (eqb kind known) o other)
-front_choice kind known o other here behind = by_test (eqb kind known) (λ e. here (sym (eqb-true kind known e)))
+front_choice kind known o other here past = by_test (eqb kind known) (λ e. here (sym (eqb-true kind known e)))
   where
     by_test : (b : Bool) → (b ≡ true → HasFront kind o) → HasFront kind (cond b o other)
     by_test true f = f refl
-    by_test false f = behind
+    by_test false f = past
 
 front_shortest : (kind : ℕ) → HasFront kind (front_lengths kind)
 front_shortest kind =
@@ -171,11 +171,11 @@ HasBack kind (Some r) = IsShortestBack kind r
 
 back_choice : (kind known : ℕ) (o other : Option Row) → (known ≡ kind → HasBack kind o) → HasBack kind other
     → HasBack kind (cond (eqb kind known) o other)
-back_choice kind known o other here behind = by_test (eqb kind known) (λ e. here (sym (eqb-true kind known e)))
+back_choice kind known o other here past = by_test (eqb kind known) (λ e. here (sym (eqb-true kind known e)))
   where
     by_test : (b : Bool) → (b ≡ true → HasBack kind o) → HasBack kind (cond b o other)
     by_test true f = f refl
-    by_test false f = behind
+    by_test false f = past
 
 back_shortest : (kind : ℕ) → HasBack kind (back_row kind)
 back_shortest kind =

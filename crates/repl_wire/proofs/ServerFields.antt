@@ -94,40 +94,40 @@ after_coded code text others = Ok (record { code = code; text = text } ∷ other
 abbrev after_text : ℕ → ℕ → List ℕ × List ℕ → Result (List ErrorField × List ℕ) ℕ
 after_text turns code text = coded_at turns text.1 >>= after_coded code text.0
 
-coded_at_code : (turns code : ℕ) (behind : List ℕ) → 0 < code → coded_at (suc turns) (code ∷ behind)
-    ≡ (string_at behind >>= after_text turns code)
+coded_at_code : (turns code : ℕ) (past : List ℕ) → 0 < code → coded_at (suc turns) (code ∷ past)
+    ≡ (string_at past >>= after_text turns code)
 unfolding coded_at
-coded_at_code turns zero behind first = absurd (omega arith)
-coded_at_code turns (suc code) behind first = refl
+coded_at_code turns zero past first = absurd (omega arith)
+coded_at_code turns (suc code) past first = refl
 
-pub code_read : (front : List ErrorField) (count i : ℕ) (bytes : List ℕ) (f : ErrorField) (behind after : List ℕ)
-    (total : Result (List ErrorField × List ℕ) ℕ) → i < count → bytes ≡ f.code ∷ behind → 0 < f.code
-    → string_at behind ≡ Ok (f.text, after) → with_front front (coded_at (count - i) bytes) ≡ total
+pub code_read : (front : List ErrorField) (count i : ℕ) (bytes : List ℕ) (f : ErrorField) (past after : List ℕ)
+    (total : Result (List ErrorField × List ℕ) ℕ) → i < count → bytes ≡ f.code ∷ past → 0 < f.code
+    → string_at past ≡ Ok (f.text, after) → with_front front (coded_at (count - i) bytes) ≡ total
     → with_front (front ++ f ∷ []) (coded_at (count - (i + 1)) after) ≡ total
-code_read front count i bytes f behind after total lt starts first read so_far =
+code_read front count i bytes f past after total lt starts first read so_far =
     let k : count - i ≡ suc (count - (i + 1)) = omega arith in
     let one : with_front front (coded_at (count - i) bytes) ≡ with_front (front ++ f ∷ []) (coded_at (count - (i + 1)) after) =
-    rw (k, starts, coded_at_code (count - (i + 1)) f.code behind first, read) (regroup front f (coded_at (count - (i + 1)) after)) in
+    rw (k, starts, coded_at_code (count - (i + 1)) f.code past first, read) (regroup front f (coded_at (count - (i + 1)) after)) in
     sym one ∙ so_far
 
-pub text_fails : (e : FieldFault) (front : List ErrorField) (count i : ℕ) (bytes : List ℕ) (code : ℕ) (behind : List ℕ)
-    (total : Result (List ErrorField × List ℕ) ℕ) → i < count → bytes ≡ code ∷ behind → 0 < code
-    → Fails e (string_at behind) → with_front front (coded_at (count - i) bytes) ≡ total → Fails e total
-text_fails field_fault.Memory front count i bytes code behind total lt starts first fails so_far = tt
-text_fails (field_fault.Left left) front count i bytes code behind total lt starts first fails so_far =
+pub text_fails : (e : FieldFault) (front : List ErrorField) (count i : ℕ) (bytes : List ℕ) (code : ℕ) (past : List ℕ)
+    (total : Result (List ErrorField × List ℕ) ℕ) → i < count → bytes ≡ code ∷ past → 0 < code
+    → Fails e (string_at past) → with_front front (coded_at (count - i) bytes) ≡ total → Fails e total
+text_fails field_fault.Memory front count i bytes code past total lt starts first fails so_far = tt
+text_fails (field_fault.Left left) front count i bytes code past total lt starts first fails so_far =
     let k : count - i ≡ suc (count - (i + 1)) = omega arith in
     let one : with_front front (coded_at (count - i) bytes) ≡ Err left =
-    rw (k, starts, coded_at_code (count - (i + 1)) code behind first, fails) refl in
+    rw (k, starts, coded_at_code (count - (i + 1)) code past first, fails) refl in
     sym so_far ∙ one
 
-pub ends_at_zero : (front : List ErrorField) (count i : ℕ) (bytes : List ℕ) (code : ℕ) (behind : List ℕ)
-    (total : Result (List ErrorField × List ℕ) ℕ) → i < count → bytes ≡ code ∷ behind → code ≡ 0
-    → with_front front (coded_at (count - i) bytes) ≡ total → total ≡ Ok (front, behind)
+pub ends_at_zero : (front : List ErrorField) (count i : ℕ) (bytes : List ℕ) (code : ℕ) (past : List ℕ)
+    (total : Result (List ErrorField × List ℕ) ℕ) → i < count → bytes ≡ code ∷ past → code ≡ 0
+    → with_front front (coded_at (count - i) bytes) ≡ total → total ≡ Ok (front, past)
 unfolding coded_at
-ends_at_zero front count i bytes code behind total lt starts first so_far =
+ends_at_zero front count i bytes code past total lt starts first so_far =
     let k : count - i ≡ suc (count - (i + 1)) = omega arith in
-    let one : with_front front (coded_at (count - i) bytes) ≡ Ok (front, behind) =
-    rw (k, starts, first) (ap (λ (fs : List ErrorField). Ok (fs, behind)) (append-nil front)) in
+    let one : with_front front (coded_at (count - i) bytes) ≡ Ok (front, past) =
+    rw (k, starts, first) (ap (λ (fs : List ErrorField). Ok (fs, past)) (append-nil front)) in
     sym so_far ∙ one
 
 pub ends_empty : (front : List ErrorField) (count i : ℕ) (bytes : List ℕ) (total : Result (List ErrorField × List ℕ) ℕ) → i < count → bytes
@@ -202,7 +202,7 @@ int16_taken bytes x fits e =
 int16_is : (bytes : List ℕ) (n : ℕ) (rest : List ℕ) → 2 ≤ length bytes → from_be_bytes w16 (take 2 bytes) ≡ n → drop 2 bytes ≡ rest
     → int16_at bytes ≡ Ok (n, rest)
 unfolding int16_at
-int16_is bytes n rest long first behind = rw (le-ltb _ _ long, first, behind) refl
+int16_is bytes n rest long first past = rw (le-ltb _ _ long, first, past) refl
 
 pub int16_at_again : (n : ℕ) (rest : List ℕ) → n < 2 ^ 16 → int16_at (int16 n ++ rest) ≡ Ok (n, rest)
 int16_at_again n rest lt =
@@ -218,7 +218,7 @@ int32_taken bytes x fits e =
 int32_is : (bytes : List ℕ) (n : ℕ) (rest : List ℕ) → 4 ≤ length bytes → number bytes ≡ n → drop 4 bytes ≡ rest → int32_at bytes
     ≡ Ok (n, rest)
 unfolding int32_at
-int32_is bytes n rest long first behind = rw (le-ltb _ _ long, first, behind) refl
+int32_is bytes n rest long first past = rw (le-ltb _ _ long, first, past) refl
 
 pub int32_at_again : (n : ℕ) (rest : List ℕ) → n < 2 ^ 32 → int32_at (int32 n ++ rest) ≡ Ok (n, rest)
 int32_at_again n rest lt =
@@ -311,19 +311,19 @@ field_taken bytes x fits e =
     let format = int16_taken m.0.1 f.0 modifier.0.rest_fits f.1 in
     let made : Field = as_field n.0.0 t.0.0 a.0.0 o.0.0 s.0.0 m.0.0 f.0.0 in
     let rest = f.0.1 in
-    let behind_size = Takes-then s.0.1 (signed32 made.modifier) m.0.1 (int16 made.format) rest modifier.0 format.0 in
-    let behind_type_oid = Takes-then o.0.1 (signed16 made.size) s.0.1 (signed32 made.modifier ++ int16 made.format) rest size.0 behind_size
+    let past_size = Takes-then s.0.1 (signed32 made.modifier) m.0.1 (int16 made.format) rest modifier.0 format.0 in
+    let past_type_oid = Takes-then o.0.1 (signed16 made.size) s.0.1 (signed32 made.modifier ++ int16 made.format) rest size.0 past_size
     in
-    let behind_attribute = Takes-then a.0.1 (int32 made.type_oid) o.0.1 (signed16 made.size ++ signed32 made.modifier ++ int16 made.format)
-    rest type_oid.0 behind_type_oid in
-    let behind_table = Takes-then t.0.1 (signed16 made.attribute) a.0.1
-    (int32 made.type_oid ++ signed16 made.size ++ signed32 made.modifier ++ int16 made.format) rest attribute.0 behind_attribute in
-    let behind_name = Takes-then n.0.1 (int32 made.table) t.0.1
+    let past_attribute = Takes-then a.0.1 (int32 made.type_oid) o.0.1 (signed16 made.size ++ signed32 made.modifier ++ int16 made.format)
+    rest type_oid.0 past_type_oid in
+    let past_table = Takes-then t.0.1 (signed16 made.attribute) a.0.1
+    (int32 made.type_oid ++ signed16 made.size ++ signed32 made.modifier ++ int16 made.format) rest attribute.0 past_attribute in
+    let past_name = Takes-then n.0.1 (int32 made.table) t.0.1
     (signed16 made.attribute ++ int32 made.type_oid ++ signed16 made.size ++ signed32 made.modifier ++ int16 made.format) rest table.0
-    behind_table in
+    past_table in
     let all : Takes bytes (field made) rest = Takes-then bytes (string made.name) n.0.1
     (int32 made.table ++ signed16 made.attribute ++ int32 made.type_oid ++ signed16 made.size ++ signed32 made.modifier
-    ++ int16 made.format) rest name.0 behind_name in
+    ++ int16 made.format) rest name.0 past_name in
     let made_fits : FitsField made = record {
       name = name.1;
       table = table.1;
@@ -338,7 +338,7 @@ field_taken bytes x fits e =
 pub field_reads : Reads FitsField field field_at
 field_reads = record { takes = field_taken }
 
--- what stands behind each of the parts
+-- what stands after each of the parts
 abbrev from_format : Field → List ℕ → List ℕ
 from_format f rest = int16 f.format ++ rest
 
@@ -414,35 +414,35 @@ after_length bytes size = cond (eqb size.0 0xffff_ffff) (Ok (None, size.1))
     (cond (ltb (length size.1) size.0) (Err (length size.1)) (Ok (Some (take size.0 size.1), drop size.0 size.1))))
 
 -- a null, or a value that is there
-column_cases : (null out short : Bool) (at behind : ℕ) (a b y : ColumnRead)
-    → cond null (Ok a) (cond out (Err at) (cond short (Err behind) (Ok b))) ≡ Ok y
+column_cases : (null out short : Bool) (at past : ℕ) (a b y : ColumnRead)
+    → cond null (Ok a) (cond out (Err at) (cond short (Err past) (Ok b))) ≡ Ok y
     → ((null ≡ true) × (a ≡ y)) ⊎ ((short ≡ false) × (b ≡ y))
-column_cases true out short at behind a b y e = inl (refl, cc)
-column_cases false true short at behind a b y e = absurd cc
-column_cases false false true at behind a b y e = absurd cc
-column_cases false false false at behind a b y e = inr (refl, cc)
+column_cases true out short at past a b y e = inl (refl, cc)
+column_cases false true short at past a b y e = absurd cc
+column_cases false false true at past a b y e = absurd cc
+column_cases false false false at past a b y e = inr (refl, cc)
 
 column_taken : (bytes : List ℕ) (x : ColumnRead) → IsBytes bytes → column_at bytes ≡ Ok x → IsTaken FitsColumn column bytes x
 unfolding column_at
 column_taken bytes x fits e =
     let s = bind_ok (int32_at bytes) (after_length bytes) x e in
     let n = s.0.0 in
-    let behind = s.0.1 in
+    let past = s.0.1 in
     let size = int32_taken bytes s.0 fits s.1 in
-    elim (column_cases (eqb n 0xffff_ffff) (ltb 0x7fff_ffff n) (ltb (length behind) n) (length bytes) (length behind) (None, behind)
-    (Some (take n behind), drop n behind) x s.2) [
+    elim (column_cases (eqb n 0xffff_ffff) (ltb 0x7fff_ffff n) (ltb (length past) n) (length bytes) (length past) (None, past)
+    (Some (take n past), drop n past) x s.2) [
       | inl null ↦ subst (IsTaken FitsColumn column bytes) null.1
-          (subst (λ (k : ℕ). Takes bytes (int32 k) behind) (eqb-true _ _ null.0) size.0, tt)
+          (subst (λ (k : ℕ). Takes bytes (int32 k) past) (eqb-true _ _ null.0) size.0, tt)
       | inr there ↦
-          let long : n ≤ length behind = ltb-false _ _ there.0 in
-          let len : length (take n behind) ≡ n = omega (arith, length-take n behind) in
-          let value : Takes behind (take n behind) (drop n behind) =
-          record { parts = sym (take-append-drop n behind); rest_fits = IsBytes-drop n behind size.0.rest_fits } in
-          let counted : Takes bytes (int32 (length (take n behind))) behind =
-          subst (λ (k : ℕ). Takes bytes (int32 k) behind) (sym len) size.0 in
+          let long : n ≤ length past = ltb-false _ _ there.0 in
+          let len : length (take n past) ≡ n = omega (arith, length-take n past) in
+          let value : Takes past (take n past) (drop n past) =
+          record { parts = sym (take-append-drop n past); rest_fits = IsBytes-drop n past size.0.rest_fits } in
+          let counted : Takes bytes (int32 (length (take n past))) past =
+          subst (λ (k : ℕ). Takes bytes (int32 k) past) (sym len) size.0 in
           subst (IsTaken FitsColumn column bytes) there.1 (
             Takes-then _ _ _ _ _ counted value,
-            are_bytes (take n behind) (IsBytes-take n behind size.0.rest_fits),
+            are_bytes (take n past) (IsBytes-take n past size.0.rest_fits),
           )
     ]
 
@@ -494,13 +494,13 @@ pub entries_again : {A : Type 0} {Fits : A → Type 0} {spell : A → List ℕ} 
 unfolding entries_at
 entries_again reads [] rest fits = refl
 entries_again {A} {Fits} {spell} {entry} reads (x ∷ xs) rest fits =
-    let behind : List ℕ = flat_map spell xs ++ rest in
-    let regrouped : flat_map spell (x ∷ xs) ++ rest ≡ spell x ++ behind = ap (λ (w : List ℕ). w ++ rest) (flat_map-cons spell x xs)
+    let past : List ℕ = flat_map spell xs ++ rest in
+    let regrouped : flat_map spell (x ∷ xs) ++ rest ≡ spell x ++ past = ap (λ (w : List ℕ). w ++ rest) (flat_map-cons spell x xs)
     ∙ append_assoc (spell x) (flat_map spell xs) rest in
-    let others = read_then (entries_at entry (length xs) behind) (after_others x) (xs, rest) (Ok (x ∷ xs, rest))
+    let others = read_then (entries_at entry (length xs) past) (after_others x) (xs, rest) (Ok (x ∷ xs, rest))
     (entries_again reads xs rest fits.1) refl in
-    let first = read_then (entry (spell x ++ behind)) (λ (first : A × List ℕ). entries_at entry (length xs) first.1 >>= after_others
-    first.0) (x, behind) (Ok (x ∷ xs, rest)) (reads.again x behind fits.0) others in
+    let first = read_then (entry (spell x ++ past)) (λ (first : A × List ℕ). entries_at entry (length xs) first.1 >>= after_others
+    first.0) (x, past) (Ok (x ∷ xs, rest)) (reads.again x past fits.0) others in
     ap (entries_at entry (suc (length xs))) regrouped ∙ first
 
 pub counted_taken : {A : Type 0} {Fits : A → Type 0} {spell : A → List ℕ} {entry : List ℕ → Result (A × List ℕ) ℕ}
@@ -553,14 +553,14 @@ unfolding coded_at
 coded_again zero fs rest enough fits = absurd (omega arith)
 coded_again (suc turns) [] rest enough fits = refl
 coded_again (suc turns) (f ∷ fs) rest enough fits =
-    let behind : List ℕ = ended error_field fs ++ rest in
-    let text : List ℕ = string f.text ++ behind in
+    let past : List ℕ = ended error_field fs ++ rest in
+    let text : List ℕ = string f.text ++ past in
     let regrouped : ended error_field (f ∷ fs) ++ rest ≡ f.code ∷ text = ap (λ (w : List ℕ). w ++ rest) (ended-cons error_field f fs)
     ∙ append_assoc (error_field f) (ended error_field fs) rest in
-    let others = read_then (coded_at turns behind) (after_coded f.code f.text) (fs, rest) (Ok (f ∷ fs, rest))
+    let others = read_then (coded_at turns past) (after_coded f.code f.text) (fs, rest) (Ok (f ∷ fs, rest))
     (coded_again turns fs rest (omega arith) fits.1) refl in
-    let first = read_then (string_at text) (after_text turns f.code) (f.text, behind) (Ok (f ∷ fs, rest))
-    (string_again f.text behind fits.0.text) others in
+    let first = read_then (string_at text) (after_text turns f.code) (f.text, past) (Ok (f ∷ fs, rest))
+    (string_again f.text past fits.0.text) others in
     ap (coded_at (suc turns)) regrouped ∙ coded_at_code turns f.code text fits.0.coded ∙ first
 
 -- a list of codes is no longer than their spelling

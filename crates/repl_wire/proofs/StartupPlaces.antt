@@ -62,10 +62,10 @@ code_fault : (bytes body : List ℕ) → IsFrame STARTUP_LEAST STARTUP_LIMIT byt
     → IsFault phase.Startup bytes (fault.Code 4 (number body))
 code_fault bytes body frame none =
     let n = length body + 4 in
-    let behind = drop n bytes in
-    let parts : bytes ≡ int32 n ++ (body ++ behind) = frame_parts STARTUP_LEAST STARTUP_LIMIT bytes body frame in
-    let front : take 4 (body ++ behind) ≡ take 4 body = take-append-le 4 body behind (omega (arith, frame.low)) in
-    let said : number bytes ≡ n = ap number parts ∙ (int32_again n (body ++ behind) (omega (arith, frame.high))).0 in
+    let past = drop n bytes in
+    let parts : bytes ≡ int32 n ++ (body ++ past) = frame_parts STARTUP_LEAST STARTUP_LIMIT bytes body frame in
+    let front : take 4 (body ++ past) ≡ take 4 body = take-append-le 4 body past (omega (arith, frame.low)) in
+    let said : number bytes ≡ n = ap number parts ∙ (int32_again n (body ++ past) (omega (arith, frame.high))).0 in
     let code : number body ≡ number (drop 4 bytes) = sym (ap (from_be_bytes w32) front)
     ∙ ap (λ (t : List ℕ). number (drop 4 t)) (sym parts) in
     let begins : take 8 bytes ≡ int32 n ++ take 4 body = ap (take 8) parts ∙ ap (λ (t : List ℕ). int32 n ++ t) front in
@@ -74,10 +74,10 @@ code_fault bytes body frame none =
     let m = s.0 in
     let whole_is : int32 n ++ (take 4 body ++ b.0) ≡ int32 (length (startup_body m) + 4)
     ++ startup_body m = ap (λ (t : List ℕ). t ++ b.0) (sym begins) ∙ s.2 in
-    let behind_length : take 4 body ++ b.0 ≡ startup_body m =
+    let past_length : take 4 body ++ b.0 ≡ startup_body m =
     (bytes_one (int32 n) (int32 (length (startup_body m) + 4)) (take 4 body ++ b.0) (startup_body m) refl whole_is).1 in
     let code_is = bytes_one (take 4 body) (int32 (startup_code m)) b.0 (concat (startup_fields m))
-    (omega (arith, frame.low, length-take 4 body)) (behind_length ∙ startup_spell m) in
+    (omega (arith, frame.low, length-take 4 body)) (past_length ∙ startup_spell m) in
     none m (sym (int32_again (startup_code m) [] (codes m)).0 ∙ ap (from_be_bytes w32) (sym code_is.0))
     in
     (refl, omega (arith, frame.low, frame.there), code, omega (arith, said, frame.low), omega (arith, said, frame.high), stops)
@@ -93,8 +93,8 @@ code_fault bytes body frame none =
 body_fault : (bytes body : List ℕ) (left : ℕ) → IsFrame STARTUP_LEAST STARTUP_LIMIT bytes body → AreNone phase.Startup bytes
     → LeavesPacket (number body) (drop 4 body) left → left ≤ length body → IsFault phase.Startup bytes (fault.Body (length body + 4 - left))
 body_fault bytes body left frame none leaves short =
-    let behind = drop (length body + 4) bytes in
-    let parts : bytes ≡ framed body ++ behind = frame_parts STARTUP_LEAST STARTUP_LIMIT bytes body frame in
+    let past = drop (length body + 4) bytes in
+    let parts : bytes ≡ framed body ++ past = frame_parts STARTUP_LEAST STARTUP_LIMIT bytes body frame in
     let cut : take (0 + (length body + 4)) bytes ≡ framed body =
     let n : 0 + (length body + 4) ≡ length body + 4 = omega arith in
     ap (λ (k : ℕ). take k bytes) n ∙ frame.spelled
@@ -103,13 +103,13 @@ body_fault bytes body left frame none leaves short =
     let s = startup_spelled b.1.0 (take (0 + (length body + 4)) bytes ++ b.0) b.1.1 in
     let spelled : framed body ++ b.0 ≡ framed (startup_body s.0) = ap (λ (t : List ℕ). t ++ b.0) (sym cut) ∙ s.2 in
     let same = same_frame body (startup_body s.0) b.0 (omega (arith, frame.high)) (omega (arith, s.1.within)) spelled in
-    none (message.Startup s.0) (framed body) behind (record { belongs = s.1; spelled = ap framed same.0 }) parts
+    none (message.Startup s.0) (framed body) past (record { belongs = s.1; spelled = ap framed same.0 }) parts
     in
     record {
       kind = [];
       said = length body + 4;
       body = body;
-      behind = behind;
+      past = past;
       left = left;
       kinds = refl;
       parts = parts;
@@ -135,11 +135,11 @@ packet_fault {A} code make read leaves bytes body f frame none code_is e =
     (body_fault bytes body r.0 frame none (subst (λ (c : ℕ). LeavesPacket c (drop 4 body) r.0) (sym code_is) l.0)
     (omega (arith, l.1, length-drop 4 body)))
 
--- ---- the fields behind each code
+-- ---- the fields after each code
 
-behind : (code : ℕ) (fields : List ℕ) (left : ℕ) → code ≢ CANCEL_REQUEST → LeavesAt (IsOfCode code) startup_fields fields left
+past : (code : ℕ) (fields : List ℕ) (left : ℕ) → code ≢ CANCEL_REQUEST → LeavesAt (IsOfCode code) startup_fields fields left
     → LeavesPacket code fields left × (left ≤ length fields)
-behind code fields left other l = (inr (other, l), left_short l)
+past code fields left other l = (inr (other, l), left_short l)
 
 abbrev Parameters : Language
 Parameters = IsParted (AllByRecursion FitsPair) (ended_fields pair_fields) (λ ps. Nothing)
@@ -152,7 +152,7 @@ parameters_to : (fs : List (List ℕ)) → Parameters fs → (m : Startup) × Is
 parameters_to fs p = (
   startup.Params p.value,
   record { fits = p.fits; code_is = refl },
-  sym (p.parts ∙ ap (λ (t : List (List ℕ)). ended_fields pair_fields p.value ++ t) p.behind
+  sym (p.parts ∙ ap (λ (t : List (List ℕ)). ended_fields pair_fields p.value ++ t) p.past
       ∙ append-nil (ended_fields pair_fields p.value)),
 )
 
@@ -162,7 +162,7 @@ parameters_from (startup.Params ps) is = record {
   fits = is.fits;
   more = [];
   parts = sym (append-nil (ended_fields pair_fields ps));
-  behind = refl;
+  past = refl;
 }
 parameters_from startup.Ssl is = absurd (omega (arith, is.code_is))
 parameters_from startup.Gss is = absurd (omega (arith, is.code_is))
@@ -206,7 +206,7 @@ packets_fault bytes body f frame none e =
     elim (choice (eqb (number body) 196_608) _ _ (taken.Wrong f) e) [
       | inl p ↦
           packet_fault 196_608 (λ ps. startup.Params ps) parameters_of
-          (λ fields left is failed. behind 196_608 fields left (λ same. omega (arith, same))
+          (λ fields left is failed. past 196_608 fields left (λ same. omega (arith, same))
           (leaves_at (IsOfCode 196_608) startup_fields Parameters fields left parameters_to parameters_from
           (parameters_leave fields left is failed)))
           bytes body f frame none (eqb-true _ _ p.0) p.1
@@ -216,14 +216,14 @@ packets_fault bytes body f frame none e =
         | inr e2 ↦ elim (choice (eqb (number body) 80_877_103) _ _ (taken.Wrong f) e2.1) [
           | inl s ↦
               packet_fault 80_877_103 (λ (u : Unit {0}). startup.Ssl) nothing_of
-              (λ fields left is failed. behind 80_877_103 fields left (λ same. omega (arith, same))
+              (λ fields left is failed. past 80_877_103 fields left (λ same. omega (arith, same))
               (leaves_at (IsOfCode 80_877_103) startup_fields Nothing fields left
               (λ fs n. (startup.Ssl, record { fits = tt; code_is = refl }, sym n)) ssl_from (nothing_leaves fields left failed)))
               bytes body f frame none (eqb-true _ _ s.0) s.1
           | inr e3 ↦ elim (choice (eqb (number body) 80_877_104) _ _ (taken.Wrong f) e3.1) [
             | inl g ↦
                 packet_fault 80_877_104 (λ (u : Unit {0}). startup.Gss) nothing_of
-                (λ fields left is failed. behind 80_877_104 fields left (λ same. omega (arith, same))
+                (λ fields left is failed. past 80_877_104 fields left (λ same. omega (arith, same))
                 (leaves_at (IsOfCode 80_877_104) startup_fields Nothing fields left
                 (λ fs n. (startup.Gss, record { fits = tt; code_is = refl }, sym n)) gss_from (nothing_leaves fields left failed)))
                 bytes body f frame none (eqb-true _ _ g.0) g.1

@@ -11,10 +11,10 @@ use Rattle.repl_wire.specs.declared.reader.Step.TheVariants as step
 use Rattle.repl_wire.specs.Judging.{IsJudged, judge}
 use Rattle.repl_wire.specs.Reader.{Reading, given}
 
--- the buffer's part behind a message
-pub part_behind : (buffer : List ℕ) (start end used : ℕ) → start + used ≤ end → take (end - (start + used)) (drop (start + used) buffer)
+-- the buffer's part after a message
+pub part_past : (buffer : List ℕ) (start end used : ℕ) → start + used ≤ end → take (end - (start + used)) (drop (start + used) buffer)
     ≡ drop used (take (end - start) (drop start buffer))
-part_behind buffer start end used within =
+part_past buffer start end used within =
     let parts : end - start ≡ used + (end - (start + used)) = omega arith in
     rw (parts, drop-take used (end - (start + used)) (drop start buffer), drop-drop) refl
 
@@ -35,11 +35,11 @@ spelled_front p m rest used within s = (
 abbrev pub seen : Phase → ℕ → List ℕ → ℕ → ℕ → Reading
 seen phase place buffer start end = record { phase = phase; place = place; rest = take (end - start) (drop start buffer) }
 
--- the parts behind a message
+-- the parts after a message
 pub seen_given : (old : Reading) (m : Message) (phase : Phase) (place : ℕ) (buffer : List ℕ) (start end used : ℕ) → old
     ≡ seen phase place buffer start end → start + used ≤ end
     → seen (after phase m) (capped (place + used)) buffer (start + used) end ≡ given old m used
-seen_given old m phase place buffer start end used is within = rw (part_behind buffer start end used within, is) refl
+seen_given old m phase place buffer start end used is within = rw (part_past buffer start end used within, is) refl
 
 -- an answer of `take` is what judging gives
 pub judged_whole : (t judged : Taken) (m : Message) (used : ℕ) → IsJudged t judged → t ≡ taken.Whole m used → judged ≡ taken.Whole m used
@@ -52,10 +52,10 @@ pub record Took (old : Reading) (t : Taken) : Type 0 where
       ⊎ (t ≡ taken.Memory)
   pub exact : IsJudged t (judge old.phase old.rest)
 
--- a message behind which the reader is this
+-- a message after which the reader is this
 pub found_from : (old new : Reading) (t : Taken) (m : Message) (used : ℕ) → Took old t → t ≡ taken.Whole m used → new ≡ given old m used
-    → Belongs old.phase m × ((behind : List ℕ) × (old.rest ≡ spelling m ++ behind)
-    × (new ≡ record { phase = after old.phase m; place = capped (old.place + length (spelling m)); rest = behind }))
+    → Belongs old.phase m × ((past : List ℕ) × (old.rest ≡ spelling m ++ past)
+    × (new ≡ record { phase = after old.phase m; place = capped (old.place + length (spelling m)); rest = past }))
 found_from old new t m used took is new_is =
     let found = took.found m used is in
     let front = spelled_front old.phase m old.rest used found.0 found.1 in (
@@ -69,9 +69,9 @@ found_from old new t m used took is new_is =
     )
 
 -- what `take` answers where a spelling stands in front
-pub only_from : (old : Reading) (t : Taken) (m : Message) (behind : List ℕ) → Took old t → Belongs old.phase m → old.rest ≡ spelling m
-    ++ behind → (t ≡ taken.Whole m (length (spelling m))) ⊎ (t ≡ taken.Memory)
-only_from old t m behind took belongs at = took.only m (spelling m) behind (record { belongs = belongs; spelled = refl }) at
+pub only_from : (old : Reading) (t : Taken) (m : Message) (past : List ℕ) → Took old t → Belongs old.phase m → old.rest ≡ spelling m
+    ++ past → (t ≡ taken.Whole m (length (spelling m))) ⊎ (t ≡ taken.Memory)
+only_from old t m past took belongs at = took.only m (spelling m) past (record { belongs = belongs; spelled = refl }) at
 
 -- what `take` says of a reader's phase and bytes, said of the reader
 pub took_from : (old : Reading) (p : Phase) (bytes : List ℕ) (t : Taken) → p ≡ old.phase → bytes ≡ old.rest
@@ -87,8 +87,8 @@ took_from old p bytes t phase_is rest_is found only exact = record {
 -- the same of a step that gives the message
 pub given_message : (old new : Reading) (t : Taken) (m n : Message) (used : ℕ) → Took old t → t ≡ taken.Whole m used → new
     ≡ given old m used → step.Message m ≡ step.Message n
-    → Belongs old.phase n × ((behind : List ℕ) × (old.rest ≡ spelling n ++ behind)
-    × (new ≡ record { phase = after old.phase n; place = capped (old.place + length (spelling n)); rest = behind }))
+    → Belongs old.phase n × ((past : List ℕ) × (old.rest ≡ spelling n ++ past)
+    × (new ≡ record { phase = after old.phase n; place = capped (old.place + length (spelling n)); rest = past }))
 given_message old new t m n used took is new_is e =
     let same : m ≡ n = cc in
     rw (← same) (found_from old new t m used took is new_is)

@@ -44,9 +44,9 @@ read_within p q bytes rest (m ∷ ms) read =
     omega (arith, ap length read.1.1, length-append (spelling m) read.1.0, read_within (after p m) q read.1.0 rest ms read.1.2)
 
 -- a message at the front
-pub read_one : (p : Phase) (bytes behind : List ℕ) (m : Message) → Belongs p m → bytes ≡ spelling m ++ behind
-    → AreRead p bytes (m ∷ []) (after p m) behind
-read_one p bytes behind m belongs parts = (belongs, (behind, parts, (refl, refl)))
+pub read_one : (p : Phase) (bytes past : List ℕ) (m : Message) → Belongs p m → bytes ≡ spelling m ++ past
+    → AreRead p bytes (m ∷ []) (after p m) past
+read_one p bytes past m belongs parts = (belongs, (past, parts, (refl, refl)))
 
 -- no message is without bytes
 pub spelling_some : (m : Message) → 0 < length (spelling m)
@@ -55,29 +55,29 @@ spelling_some (message.Front m) = omega arith
 spelling_some (message.Back m) = omega arith
 
 -- where a reader gives a message, less is left
-pub rest_less : (now new : Reading) (m : Message) (behind : List ℕ) → now.rest ≡ spelling m ++ behind → new
-    ≡ record { phase = after now.phase m; place = capped (now.place + length (spelling m)); rest = behind }
+pub rest_less : (now new : Reading) (m : Message) (past : List ℕ) → now.rest ≡ spelling m ++ past → new
+    ≡ record { phase = after now.phase m; place = capped (now.place + length (spelling m)); rest = past }
     → length new.rest < length now.rest
-rest_less now new m behind parts next =
-    omega (arith, spelling_some m, ap (λ (r : Reading). length r.rest) next, ap length parts, length-append (spelling m) behind)
+rest_less now new m past parts next =
+    omega (arith, spelling_some m, ap (λ (r : Reading). length r.rest) next, ap length parts, length-append (spelling m) past)
 
 -- ---- no message is in front
 
 abbrev pub IsStuck : Phase → List ℕ → Type 0
-IsStuck p bytes = (m : Message) (behind : List ℕ) → Belongs p m → bytes ≡ spelling m ++ behind → ⊥
+IsStuck p bytes = (m : Message) (past : List ℕ) → Belongs p m → bytes ≡ spelling m ++ past → ⊥
 
 pub stuck_short : (p : Phase) (bytes : List ℕ) → judge p bytes ≡ taken.Short → IsStuck p bytes
-stuck_short p bytes short m behind belongs is =
-    elim (is_only p bytes taken.Short short m (spelling m) behind (record { belongs = belongs; spelled = refl }) is) [
+stuck_short p bytes short m past belongs is =
+    elim (is_only p bytes taken.Short short m (spelling m) past (record { belongs = belongs; spelled = refl }) is) [
       | inl e ↦ absurd cc
       | inr e ↦ absurd cc
     ]
 
 -- what is refused is refused whatever follows it, and is not nothing
 pub stuck_wrong : (p : Phase) (bytes more : List ℕ) (f : WireFault) → judge p bytes ≡ taken.Wrong f → IsStuck p (bytes ++ more)
-stuck_wrong p bytes more f wrong m behind belongs is =
+stuck_wrong p bytes more f wrong m past belongs is =
     let still : judge p (bytes ++ more) ≡ taken.Wrong f = judge_more p bytes more (rw wrong tt) ∙ wrong in
-    elim (is_only p (bytes ++ more) (taken.Wrong f) still m (spelling m) behind (record { belongs = belongs; spelled = refl }) is) [
+    elim (is_only p (bytes ++ more) (taken.Wrong f) still m (spelling m) past (record { belongs = belongs; spelled = refl }) is) [
       | inl e ↦ absurd cc
       | inr e ↦ absurd cc
     ]
@@ -106,10 +106,10 @@ front_one p m n bytes x y a b e f =
 pub record Further (q : Phase) (rest : List ℕ) (ms ns : List Message) : Type 0 where
   pub message : Message
   pub more : List Message
-  pub behind : List ℕ
+  pub past : List ℕ
   pub longer : ns ≡ ms ++ message ∷ more
   pub belongs : Belongs q message
-  pub parts : rest ≡ spelling message ++ behind
+  pub parts : rest ≡ spelling message ++ past
 
 -- both are the same, and leave the same
 pub record Alike (rest left : List ℕ) (ms ns : List Message) : Type 0 where
@@ -120,7 +120,7 @@ further_more : (q : Phase) (rest : List ℕ) (m : Message) (ms ns : List Message
 further_more q rest m ms ns f = record {
   message = f.message;
   more = f.more;
-  behind = f.behind;
+  past = f.past;
   longer = ap (λ (l : List Message). m ∷ l) f.longer;
   belongs = f.belongs;
   parts = f.parts;
@@ -131,9 +131,9 @@ pub readings : (p q s : Phase) (bytes rest left : List ℕ) (ms ns : List Messag
     → Alike rest left ms ns ⊎ Further q rest ms ns ⊎ Further s left ns ms
 readings p q s bytes rest left [] [] x y = inl (record { messages = refl; left_over = x.1 ∙ sym y.1 })
 readings p q s bytes rest left [] (n ∷ ns) x y = inr (inl (record
-    { message = n; more = ns; behind = y.1.0; longer = refl; belongs = rw x.0 y.0; parts = x.1 ∙ y.1.1 }))
+    { message = n; more = ns; past = y.1.0; longer = refl; belongs = rw x.0 y.0; parts = x.1 ∙ y.1.1 }))
 readings p q s bytes rest left (m ∷ ms) [] x y = inr (inr (record
-    { message = m; more = ms; behind = x.1.0; longer = refl; belongs = rw y.0 x.0; parts = y.1 ∙ x.1.1 }))
+    { message = m; more = ms; past = x.1.0; longer = refl; belongs = rw y.0 x.0; parts = y.1 ∙ x.1.1 }))
 readings p q s bytes rest left (m ∷ ms) (n ∷ ns) x y =
     let one = front_one p m n bytes x.1.0 y.1.0 x.0 y.0 x.1.1 y.1.1 in
     let others = readings (after p m) q s x.1.0 rest left ms ns x.1.2 (rw (one.0, one.1) y.1.2) in
@@ -146,7 +146,7 @@ readings p q s bytes rest left (m ∷ ms) (n ∷ ns) x y =
     ]
 
 pub none_further : (q : Phase) (ms ns : List Message) → Further q [] ms ns → ⊥
-none_further q ms ns f = omega (arith, spelling_some f.message, ap length f.parts, length-append (spelling f.message) f.behind)
+none_further q ms ns f = omega (arith, spelling_some f.message, ap length f.parts, length-append (spelling f.message) f.past)
 
 -- the messages that all the bytes are
 pub all_one : (p q s : Phase) (bytes : List ℕ) (ms ns : List Message) → AreRead p bytes ms q [] → AreRead p bytes ns s [] → ms ≡ ns

@@ -66,9 +66,9 @@ pub record IsInRange (p : Phase) (kind : List ℕ) (said : ℕ) : Type 0 where
 pub record IsFrameHead (p : Phase) (bytes : List ℕ) (size : ℕ) : Type 0 where
   pub kind : List ℕ
   pub said : ℕ
-  pub behind : List ℕ
+  pub past : List ℕ
   pub kinds : length kind ≡ head p
-  pub parts : bytes ≡ kind ++ (int32 said ++ behind)
+  pub parts : bytes ≡ kind ++ (int32 said ++ past)
   pub range : IsInRange p kind said
   pub size_is : size ≡ head p + said
 

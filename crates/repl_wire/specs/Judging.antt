@@ -193,7 +193,7 @@ copy_both_of body = do
 
 -- ---- frames
 
--- The body behind a length field, where the whole frame is there, or nothing yet, or the field's fault at
+-- The body after a length field, where the whole frame is there, or nothing yet, or the field's fault at
 -- this place. The length is at least that of the shortest body, and at most the limit.
 unfoldable pub frame_of : ℕ → ℕ → ℕ → List ℕ → Result (Option (List ℕ)) WireFault
 frame_of place least limit bytes =
@@ -211,7 +211,7 @@ ended_at end (Err left) = taken.Wrong (fault.Body (end - left))
 abbrev pub read_as : {A : Type 0} → (A → Message) → ℕ → Result A ℕ → Taken
 read_as make end r = ended_at end (made make r)
 
--- a startup packet's body, behind the length field: a code, and fields that are read so
+-- a startup packet's body, after the length field: a code, and fields that are read so
 abbrev pub read_packet : {A : Type 0} → (A → Startup) → (List ℕ → Result A ℕ) → List ℕ → Taken
 read_packet make read body = read_as (λ x. message.Startup (make x)) (length body + 4) (read (drop 4 body))
 
@@ -231,7 +231,7 @@ on_frame (Err f) read = taken.Wrong f
 unfoldable pub judge_startup : List ℕ → Taken
 judge_startup bytes = on_frame (frame_of 0 STARTUP_LEAST STARTUP_LIMIT bytes) judge_packet
 
--- A message of this kind, behind its type byte: its body has so many bytes at least, its length field is
+-- A message of this kind, after its type byte: its body has so many bytes at least, its length field is
 -- at most the limit, and the body is read so.
 abbrev pub judge_message : {A : Type 0} → (A → Front) → ℕ → ℕ → (List ℕ → Result A ℕ) → List ℕ → Taken
 judge_message make least limit read bytes =

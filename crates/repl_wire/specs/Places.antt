@@ -26,7 +26,7 @@ use Rattle.repl_wire.specs.declared.fault.WireFault.TheVariants as fault
 abbrev pub pair_fields : Pair → List (List ℕ)
 pair_fields p = string p.name ∷ string p.value ∷ []
 
--- those behind a startup packet's code
+-- those after a startup packet's code
 abbrev pub startup_fields : Startup → List (List ℕ)
 startup_fields (startup.Params pairs) = flat_map pair_fields pairs ++ (0 ∷ []) ∷ []
 startup_fields startup.Ssl = []
@@ -69,15 +69,15 @@ back_fields (back.CopyBoth format formats) = (format ∷ []) ∷ int16 (length f
 -- ---- where a body is left
 
 -- Whole fields stand before the place, where so many bytes are left. Some message goes on with them, none with a
--- field that stands behind them, and none ends there unless the body does.
+-- field that stands after them, and none ends there unless the body does.
 pub record LeavesAt {M : Type 0} (Fits : M → Type 0) (fields : M → List (List ℕ)) (body : List ℕ) (left : ℕ) : Type 0 where
   pub before : List (List ℕ)
   pub rest : List ℕ
   pub parts : body ≡ concat before ++ rest
   pub size : length rest ≡ left
   pub goes_on : (m : M) × Fits m × ((more : List (List ℕ)) × (fields m ≡ before ++ more))
-  pub stops : (m : M) (field : List ℕ) (more : List (List ℕ)) (behind : List ℕ) → Fits m → fields m ≡ before ++ field ∷ more
-      → rest ≢ field ++ behind
+  pub stops : (m : M) (field : List ℕ) (more : List (List ℕ)) (past : List ℕ) → Fits m → fields m ≡ before ++ field ∷ more
+      → rest ≢ field ++ past
   pub goes_further : (m : M) → Fits m → fields m ≡ before → rest ≢ []
 
 -- the messages of one code, and of one type byte
@@ -103,7 +103,7 @@ pub record IsOfBackKind (kind : ℕ) (m : Back) : Type 0 where
   pub sized : AreSized m
   pub kind_is : back_kind m ≡ kind
 
--- A request to cancel has one length, and another is refused at the first byte behind the code.
+-- A request to cancel has one length, and another is refused at the first byte after the code.
 abbrev pub LeavesPacket : ℕ → List ℕ → ℕ → Type 0
 LeavesPacket code fields left = ((code ≡ CANCEL_REQUEST) × (length fields ≢ 8) × (left ≡ length fields))
     ⊎ ((code ≢ CANCEL_REQUEST) × LeavesAt (IsOfCode code) startup_fields fields left)
@@ -143,10 +143,10 @@ pub record IsBodyFault (p : Phase) (bytes : List ℕ) (place : ℕ) : Type 0 whe
   pub kind : List ℕ
   pub said : ℕ
   pub body : List ℕ
-  pub behind : List ℕ
+  pub past : List ℕ
   pub left : ℕ
   pub kinds : length kind ≡ head p
-  pub parts : bytes ≡ kind ++ int32 said ++ body ++ behind
+  pub parts : bytes ≡ kind ++ int32 said ++ body ++ past
   pub counts : said ≡ length body + 4
   pub at : place + left ≡ length kind + said
   pub leaves : LeavesBody p (kind_of kind) body left

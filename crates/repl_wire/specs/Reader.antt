@@ -61,7 +61,7 @@ Answers old step.Memory new = new ≡ old
 abbrev pub AreRead : Phase → List ℕ → List Message → Phase → List ℕ → Type 0
 AreRead p bytes [] last rest = (last ≡ p) × (rest ≡ bytes)
 AreRead p bytes (m ∷ ms) last rest = Belongs p m
-    × ((behind : List ℕ) × (bytes ≡ spelling m ++ behind) × AreRead (after p m) behind ms last rest)
+    × ((past : List ℕ) × (bytes ≡ spelling m ++ past) × AreRead (after p m) past ms last rest)
 
 -- A reader that was fed these bytes has given these messages, one after another, and is now so. This is what a loop
 -- over a reader keeps.

@@ -22,7 +22,7 @@ pub enum Head {
 }
 
 /// Judges the head of the frame at the front of the bytes: the first five of them, or the first four of a startup
-/// packet. It reads none behind them. The type byte is judged at once, and the length field when its four bytes are
+/// packet. It reads none after them. The type byte is judged at once, and the length field when its four bytes are
 /// there: it is at least that of the shortest message of the type, and at most the limit.
 pub fn judge_head(phase: Phase, bytes: &[u8]) -> Head
     // Which answer it is.

@@ -26,9 +26,9 @@ pub fn any_cuts()
 /// piece; and what it gives of some bytes and then of others is what it gives of all of them.
 pub fn one_after_another()
     ensures nothing { (r : Reading) → r.place < 2 ^ 64 → HasGiven r [] [] r }
-    ensures message { (old now new : Reading) (bytes behind : List ℕ) (ms : List Message) (m : Message) → HasGiven old bytes ms now →
-        Belongs now.phase m → now.rest ≡ spelling m ++ behind →
-        new ≡ record { phase = after now.phase m; place = capped (now.place + length (spelling m)); rest = behind } →
+    ensures message { (old now new : Reading) (bytes past : List ℕ) (ms : List Message) (m : Message) → HasGiven old bytes ms now →
+        Belongs now.phase m → now.rest ≡ spelling m ++ past →
+        new ≡ record { phase = after now.phase m; place = capped (now.place + length (spelling m)); rest = past } →
         HasGiven old bytes (ms ++ m ∷ []) new }
     ensures piece { (old now : Reading) (bytes piece : List ℕ) (ms : List Message) → HasGiven old bytes ms now →
         HasGiven old (bytes ++ piece) ms (fed now piece) }
@@ -58,6 +58,6 @@ pub fn head_decides()
         judge p bytes ≡ Taken.Short }
     ensures whole { (p : Phase) (bytes : List ℕ) (size : ℕ) → head_of p bytes ≡ Head.Frame size → size ≤ length bytes →
         EndsAt size (judge p bytes) }
-    // Nothing behind the first five bytes counts.
+    // Nothing after the first five bytes counts.
     ensures first { (p : Phase) (bytes : List ℕ) → head_of p (take 5 bytes) ≡ head_of p bytes }
 {}

@@ -119,11 +119,11 @@ impl FrameReader {
         // Which answer it is, by the bytes that were fed and not given: how they were cut does not matter.
         ensures exact { Answers self.old result self.new }
         // A message is spelled so, and takes exactly its frame.
-        ensures found { (m : Message) → result ≡ Step.Message m → Belongs self.old.phase m × ((behind : List ℕ) ×
-            (self.old.rest ≡ spelling m ++ behind) ×
-            (self.new ≡ record { phase = after self.old.phase m; place = capped (self.old.place + length (spelling m)); rest = behind })) }
+        ensures found { (m : Message) → result ≡ Step.Message m → Belongs self.old.phase m × ((past : List ℕ) ×
+            (self.old.rest ≡ spelling m ++ past) ×
+            (self.new ≡ record { phase = after self.old.phase m; place = capped (self.old.place + length (spelling m)); rest = past })) }
         // What is spelled so is given, whatever follows it, unless memory runs out.
-        ensures only { (m : Message) (behind : List ℕ) → Belongs self.old.phase m → self.old.rest ≡ spelling m ++ behind →
+        ensures only { (m : Message) (past : List ℕ) → Belongs self.old.phase m → self.old.rest ≡ spelling m ++ past →
             (result ≡ Step.Message m) ⊎ (result ≡ Step.Memory) }
         // Memory runs out only where a whole frame stands there.
         ensures memory { result ≡ Step.Memory → HoldsFrame self.old.phase self.old.rest }

@@ -72,8 +72,8 @@ fn field_of(alloc: Global, bytes: &[u8]) -> Result<(Field, &[u8]), FieldFault>
     Ok((field, rest))
 }
 
-/// A value of DataRow, and the bytes after it. A length that no value has is no field of a body; with another, behind
-/// which too few bytes stand, a body goes on, and not with what stands behind it.
+/// A value of DataRow, and the bytes after it. A length that no value has is no field of a body; with another, after
+/// which too few bytes stand, a body goes on, and not with what stands after it.
 #[tactic(auto, unfolding(crate::specs::Judging::column_at))]
 fn column_of(alloc: Global, bytes: &[u8]) -> Result<(Column, &[u8]), FieldFault>
     ensures { Gives (λ x. (x.0, x.1.now)) result (column_at bytes.now) }
@@ -152,13 +152,13 @@ fn coded_of(alloc: Global, body: &[u8]) -> Result<(Vec<ErrorField>, &[u8]), Fiel
     let mut fields = Vec::new(alloc);
     let mut rest = body;
     for _ in 0..body.len() {
-        let Some((code, behind)) = rest.split_first() else {
+        let Some((code, past)) = rest.split_first() else {
             return Err(FieldFault::Left(0));
         };
         if *code == 0 {
-            return Ok((fields, behind));
+            return Ok((fields, past));
         }
-        let (text, after) = string_of(alloc, behind)?;
+        let (text, after) = string_of(alloc, past)?;
         fields.push(ErrorField { code: *code, text })?;
         rest = after;
     }

@@ -104,7 +104,7 @@ fn take_startup(alloc: Global, bytes: &[u8], size: usize) -> Taken
     take_packet(alloc, &bytes[4..size])
 }
 
-/// Reads a startup packet's body: its code, and what stands behind it.
+/// Reads a startup packet's body: its code, and what stands after it.
 #[tactic(auto, unfolding(crate::specs::Judging::judge_packet))]
 fn take_packet(alloc: Global, body: &[u8]) -> Taken
     requires { 4 ≤ length body.now }
@@ -136,7 +136,7 @@ fn cancel_packet(fields: &[u8]) -> Result<Message, FieldFault>
     Ok(Message::Startup(Startup::Cancel { pid, key }))
 }
 
-/// A packet that is only its code, behind which nothing stands.
+/// A packet that is only its code, after which nothing stands.
 fn request_packet(request: Startup, fields: &[u8]) -> Result<Message, FieldFault>
     ensures { Gives (λ m. m) result (made (λ _. Message.Startup request) (nothing_of fields.now)) }
 {

@@ -11,7 +11,7 @@ use rows_table::{Answer, Miss, said};
 use std::alloc::Global;
 use test_store_calls::{can_flush, can_raise, can_switch, can_write, child_at};
 
-/// No record is laid out behind this position.
+/// No record is laid out past this position.
 const FAR: u64 = 1 << 62;
 
 /// The store on the disk, which is taken.
@@ -78,7 +78,7 @@ fn item(alloc: Global, length: u64) -> Result<RecordIn, Miss> {
     })
 }
 
-/// The record at the written end, behind the one that starts at `prev`.
+/// The record at the written end, after the one that starts at `prev`.
 fn laid(
     alloc: Global,
     store: &Store<MemoryDisk>,
@@ -129,7 +129,7 @@ fn write_to(alloc: Global, store: &mut Store<MemoryDisk>, bytes: &[u8]) -> Resul
     done(store.write(alloc, bytes))
 }
 
-/// Goes over to another timeline behind the last whole record, as a promotion would.
+/// Goes over to another timeline after the last whole record, as a promotion would.
 pub fn switch(alloc: Global, disk: &mut MemoryDisk, tli: Tli) -> Answer {
     let mut store = opened(alloc, disk)?;
     let ended = switch_to(alloc, &mut store, tli);

@@ -51,8 +51,8 @@ fn damage(alloc: Global, disk: &mut MemoryDisk, call: &Call) -> Answer {
     if let Some([name, size]) = call.words("cut") {
         return damages::cut(alloc, disk, text(name)?, number(size)?);
     }
-    if let Some([name, bytes]) = call.words("behind") {
-        return damages::behind(alloc, disk, text(name)?, bytes);
+    if let Some([name, bytes]) = call.words("past") {
+        return damages::past(alloc, disk, text(name)?, bytes);
     }
     if let Some([name, bytes]) = call.words("instead") {
         return damages::instead(alloc, disk, text(name)?, bytes);

@@ -18,7 +18,7 @@ pub fn changed(alloc: Global, disk: &mut MemoryDisk, name: &str, at: u64, bytes:
     answer
 }
 
-/// The file ends behind so many bytes. It has more.
+/// The file ends after so many bytes. It has more.
 pub fn cut(alloc: Global, disk: &mut MemoryDisk, name: &str, size: u64) -> Answer {
     let before = whole_file(alloc, disk, name)?;
     if size >= before.as_slice().len() as u64 {
@@ -31,8 +31,8 @@ pub fn cut(alloc: Global, disk: &mut MemoryDisk, name: &str, size: u64) -> Answe
     answer
 }
 
-/// More bytes stand behind the file's.
-pub fn behind(alloc: Global, disk: &mut MemoryDisk, name: &str, bytes: &[u8]) -> Answer {
+/// More bytes stand after the file's.
+pub fn past(alloc: Global, disk: &mut MemoryDisk, name: &str, bytes: &[u8]) -> Answer {
     let before = whole_file(alloc, disk, name)?;
     put_at(disk, name, before.as_slice().len() as u64, bytes)?;
     let answer = check(alloc, disk);

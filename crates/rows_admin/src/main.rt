@@ -3,7 +3,7 @@
 //! `rows_table` says how a table is written. All its subjects have one disk in memory, which stays from row to row, and
 //! `fresh` begins anew. `tend` makes stores and looks at them; `damages` and `segments` make one store each, and then one thing
 //! wrong with it after another: a row does damage to a file, has the store judged, and puts the file back. `slots` has files of
-//! slots beside stores, and what is flushed behind the whole end of one.
+//! slots beside stores, and what is flushed past the whole end of one.
 #![tactic(auto)]
 
 mod building;

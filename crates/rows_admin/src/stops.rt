@@ -33,7 +33,7 @@ fn calls_made(alloc: Global, words: &[Vec<u8>]) -> Result<u64, Miss> {
     Ok(disk.calls())
 }
 
-/// A disk without files whose call behind so many fails, or, by `fuse`, each from there on.
+/// A disk without files whose call after so many fails, or, by `fuse`, each from there on.
 fn disk_that_stops(alloc: Global, how: &[u8], passed: u64) -> Result<MemoryDisk, Miss> {
     let mut failing = Vec::new(alloc);
     match text(how)? {
@@ -50,7 +50,7 @@ fn disk_that_stops(alloc: Global, how: &[u8], passed: u64) -> Result<MemoryDisk,
     }
 }
 
-/// How the making ends on this disk, and what `status` tells behind a crash.
+/// How the making ends on this disk, and what `status` tells after a crash.
 fn stopped(alloc: Global, disk: MemoryDisk, keep: bool, words: &[Vec<u8>]) -> Answer {
     let mut disk = disk;
     let ended = init(alloc, &mut disk, words)?;
@@ -102,7 +102,7 @@ impl Told {
         Ok(())
     }
 
-    /// Puts the last answer behind the others.
+    /// Puts the last answer after the others.
     fn put(&mut self, alloc: Global) -> Result<(), Miss> {
         let head = format!(in alloc; "{} of ", self.count)?;
         self.text.extend_from_slice(head.as_bytes())?;

@@ -4,7 +4,7 @@ use repl_exit::{Status, status_line};
 use rows_table::{Answer, joined};
 use std::alloc::Global;
 
-/// How a tool ended, and behind that what it wrote.
+/// How a tool ended, and after that what it wrote.
 pub fn told(alloc: Global, end: Tended, written: &[u8]) -> Answer {
     let end = ended(alloc, end)?;
     if written.is_empty() {

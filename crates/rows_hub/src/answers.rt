@@ -91,7 +91,7 @@ pub fn certificate(alloc: Global, told: &Certificate) -> Answer {
     joined(alloc, &[head.as_bytes(), &list, &counted])
 }
 
-/// Each session's number, its standby's name, and how far that was, with `;` behind.
+/// Each session's number, its standby's name, and how far that was, with `;` after.
 fn counted(alloc: Global, told: &CountedList) -> Answer {
     let mut line = Vec::new(alloc);
     for one in told.as_slice() {

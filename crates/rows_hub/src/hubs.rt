@@ -88,7 +88,7 @@ fn init(alloc: Global, place: &mut Option<HubState<MemoryDisk>>, role: Role, sys
     }
 }
 
-/// Makes a hub of the node that is opened again behind a crash, which keeps what was not synced or loses it. With a fuse so
+/// Makes a hub of the node that is opened again after a crash, which keeps what was not synced or loses it. With a fuse so
 /// many calls of the disk pass from then on, and then each fails.
 fn mount(
     alloc: Global,

@@ -160,7 +160,7 @@ fn read<D: Disk>(alloc: Global, disk: &mut D, name: &str, at: u64, room: u64) ->
 }
 
 /// A disk with the synced file `a` of the bytes `old`, on which `a` is replaced by `newer` and the program crashes: how
-/// the replacement ended, and what `a` is then. The replacement's call of this number fails, or the disk fails behind so
+/// the replacement ended, and what `a` is then. The replacement's call of this number fails, or the disk fails after so
 /// many calls.
 fn replacing(alloc: Global, keep: bool, how: &str, calls: u64) -> Answer {
     let mut disk = failing(alloc, how, calls, BEFORE)?;
@@ -175,7 +175,7 @@ fn replacing(alloc: Global, keep: bool, how: &str, calls: u64) -> Answer {
     crashed(alloc, disk, keep, &ended)
 }
 
-/// A disk without files, on which the call of this number behind those before fails where that is the way.
+/// A disk without files, on which the call of this number after those before fails where that is the way.
 pub fn failing(alloc: Global, how: &str, calls: u64, before: u64) -> Result<MemoryDisk, Miss> {
     let mut failing = Vec::new(alloc);
     match how {

@@ -79,7 +79,7 @@ pub fn place(at: u64) -> Result<Lsn, Miss>
     }
 }
 
-/// A record with this body, laid at the position behind the record that starts at `prev`. Where the fields are 0, its
+/// A record with this body, laid at the position after the record that starts at `prev`. Where the fields are 0, its
 /// transaction, its info and its resource manager are 0, and else 3, 1 and 2.
 pub fn lay(
     alloc: Global,
@@ -123,7 +123,7 @@ fn part(alloc: Global, laid: Result<Laid, RecordRefusal>, from: u64, end: u64) -
     }
 }
 
-/// Where so many records with this body end, the first at 0/1000000, and where one without a body starts behind them.
+/// Where so many records with this body end, the first at 0/1000000, and where one without a body starts after them.
 fn chain(alloc: Global, count: &[u8], body: &[u8]) -> Answer {
     let mut at = 0x100_0000;
     let mut prev = Lsn(0);

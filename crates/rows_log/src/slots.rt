@@ -122,7 +122,7 @@ fn put(alloc: Global, all: &mut Vec<u8>, number: Option<u64>) -> Result<(), Miss
 }
 
 /// A disk with the slot `a` saved at 1, on which it is saved at 2 and the program crashes: how that save ended, and what is
-/// mounted then. The save's call of this number fails, or the disk fails behind so many calls.
+/// mounted then. The save's call of this number fails, or the disk fails after so many calls.
 fn saving(alloc: Global, way: &[u8], how: &str, calls: u64) -> Answer {
     let keep = disks::is_keep(way)?;
     let mut disk = disks::failing(alloc, how, calls, SAVE)?;

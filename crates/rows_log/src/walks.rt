@@ -2,7 +2,7 @@
 use crate::records::{ident, lay, place};
 use repl_lsn::{Lsn, Tli};
 use repl_record::{BODY_LIMIT, WalkStep, Walker};
-use repl_walk::{Rest, RestStep, WalkFault, rest_on_page, walk, walk_behind_any};
+use repl_walk::{Rest, RestStep, WalkFault, rest_on_page, walk, walk_past_any};
 use rows_table::{Answer, Call, Miss, debug, number, said};
 use std::alloc::{AllocError, Global};
 
@@ -25,8 +25,8 @@ pub fn answer(alloc: Global, call: &Call) -> Answer {
     if let Some([size, place, byte, words @ ..]) = call.words("walked_fault") {
         return walked_fault(alloc, size, place, byte, words);
     }
-    if let Some([page, words @ ..]) = call.words("behind") {
-        return behind_of(alloc, page, words);
+    if let Some([page, words @ ..]) = call.words("past") {
+        return past_of(alloc, page, words);
     }
     Err(Miss::Call)
 }
@@ -54,10 +54,10 @@ fn walked_of(alloc: Global, size: &[u8], shown: &[u8], words: &[Vec<u8>]) -> Ans
     }
 }
 
-fn behind_of(alloc: Global, page: &[u8], words: &[Vec<u8>]) -> Answer {
+fn past_of(alloc: Global, page: &[u8], words: &[Vec<u8>]) -> Answer {
     let from = number(page)?.saturating_mul(8192);
     match log(alloc, words)?.get(from as usize..) {
-        Some(rest) => behind(alloc, rest, ORIGIN.saturating_add(from)),
+        Some(rest) => past(alloc, rest, ORIGIN.saturating_add(from)),
         None => Err(Miss::Words),
     }
 }
@@ -197,7 +197,7 @@ fn fault(alloc: Global, log: &[u8], place: u64, byte: u64, shown: u64) -> Answer
     }
     let answer = walk.take(alloc, &wrong[shown - 1..shown])?;
     if walk.take(alloc, &wrong[shown..])? != answer {
-        return said(alloc, "another answer behind");
+        return said(alloc, "another answer past");
     }
     debug(alloc, &answer)
 }
@@ -231,8 +231,8 @@ fn told(alloc: Global, walker: &Walker, answer: Result<(), WalkFault>) -> Answer
 }
 
 /// What a log has of which all before this page is gone: how many bytes of a record are to come, where they end, and where
-/// the last whole record behind them starts and ends.
-fn behind(alloc: Global, log: &[u8], from: u64) -> Answer {
+/// the last whole record after them starts and ends.
+fn past(alloc: Global, log: &[u8], from: u64) -> Answer {
     if log.len() < 24 {
         return Err(Miss::Words);
     }
@@ -245,7 +245,7 @@ fn behind(alloc: Global, log: &[u8], from: u64) -> Answer {
     if walker.position().0 >= 1 << 62 || records.len() as u64 >= 1 << 62 {
         return Err(Miss::Words);
     }
-    let answer = walk_behind_any(&mut walker, end, Tli(1), records);
+    let answer = walk_past_any(&mut walker, end, Tli(1), records);
     let mut line = format!(in alloc; "{left} 0x{:x} ", end.0)?.into_bytes();
     line.extend_from_slice(&told(alloc, &walker, answer)?)?;
     Ok(line)

@@ -99,7 +99,7 @@ fn init(alloc: Global, place: &mut Option<Node<MemoryDisk>>, role: Role) -> Answ
     }
 }
 
-/// Opens the node again behind a crash, which keeps what was not synced or loses it.
+/// Opens the node again after a crash, which keeps what was not synced or loses it.
 fn crash(alloc: Global, place: &mut Option<Node<MemoryDisk>>, keep: bool) -> Answer {
     match place.take() {
         Some(node) => mount(alloc, place, node.into_disk().crash(keep)),

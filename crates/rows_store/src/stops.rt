@@ -86,7 +86,7 @@ impl Told {
         Ok(())
     }
 
-    /// Puts the last answer behind the others.
+    /// Puts the last answer after the others.
     fn put(&mut self, alloc: Global) -> Result<(), Miss> {
         let head = format!(in alloc; "{} of ", self.count)?;
         self.text.extend_from_slice(head.as_bytes())?;

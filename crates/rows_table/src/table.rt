@@ -107,24 +107,24 @@ impl<R: Rows + Drop> Table<R> {
     fn row(&self, line: &str) -> Result<Row, Miss> {
         let mut words = Vec::new(self.alloc);
         let mut answer = Vec::new(self.alloc);
-        let mut behind = 0u64;
+        let mut past = 0u64;
         for word in words_of(self.alloc, line.as_bytes())? {
-            if behind == 0 && word.as_slice() == b"=".as_slice() {
-                behind = 1;
+            if past == 0 && word.as_slice() == b"=".as_slice() {
+                past = 1;
                 continue;
             }
             let value = self.names.value(self.alloc, &word)?;
-            if behind == 0 {
+            if past == 0 {
                 words.push(value)?;
                 continue;
             }
-            if behind > 1 {
+            if past > 1 {
                 answer.push(b' ')?;
             }
             answer.extend_from_slice(&value)?;
-            behind = 2;
+            past = 2;
         }
-        if behind == 0 {
+        if past == 0 {
             Err(Miss::Words)
         } else {
             Ok(Row { words, answer })

@@ -67,7 +67,7 @@ impl Names {
         Ok(value)
     }
 
-    /// Puts what a part between `+` stands for behind the value.
+    /// Puts what a part between `+` stands for after the value.
     fn add(&self, alloc: Global, part: &[u8], value: &mut Vec<u8>) -> Result<(), Miss> {
         let times = pieces(alloc, part, b'*')?;
         let (atom, count) = match times.as_slice() {
@@ -108,7 +108,7 @@ impl Names {
 #[derive(Clone, Copy)]
 enum Reading {
     Out,
-    Behind,
+    Past,
     First,
     Second(u8),
 }
@@ -119,14 +119,14 @@ fn unescaped(alloc: Global, text: &[u8]) -> Result<Vec<u8>, Miss> {
     let mut state = Reading::Out;
     for byte in text {
         state = match state {
-            Reading::Out if *byte == b'\\' => Reading::Behind,
-            Reading::Behind if *byte == b'x' => Reading::First,
+            Reading::Out if *byte == b'\\' => Reading::Past,
+            Reading::Past if *byte == b'x' => Reading::First,
             Reading::First => Reading::Second(digit(*byte)?),
             Reading::Out => {
                 bytes.push(*byte)?;
                 Reading::Out
             }
-            Reading::Behind => {
+            Reading::Past => {
                 bytes.push(escaped(*byte)?)?;
                 Reading::Out
             }
@@ -162,7 +162,7 @@ fn digit(byte: u8) -> Result<u8, Miss> {
     }
 }
 
-/// The number that a word writes, decimal or behind `0x` hexadecimal.
+/// The number that a word writes, decimal or after `0x` hexadecimal.
 pub fn number(word: &[u8]) -> Result<u64, Miss> {
     let text = text(word)?;
     let read = match text.strip_prefix("0x") {

@@ -23,10 +23,10 @@ impl<'a> Call<'a> {
         }
     }
 
-    /// The same call with the words before the first `:`, and behind it those that follow.
+    /// The same call with the words before the first `:`, and after it those that follow.
     pub fn apart(&self) -> Result<(&'a [Vec<u8>], Call<'a>), Miss> {
-        let (words, behind) = apart(self.words)?;
-        Ok((words, Call::new(self.name, behind)))
+        let (words, past) = apart(self.words)?;
+        Ok((words, Call::new(self.name, past)))
     }
 }
 
@@ -57,7 +57,7 @@ pub fn joined(alloc: Global, words: &[&[u8]]) -> Answer {
     Ok(all)
 }
 
-/// The words before the first `:`, and those behind it.
+/// The words before the first `:`, and those after it.
 pub fn apart(args: &[Vec<u8>]) -> Result<(&[Vec<u8>], &[Vec<u8>]), Miss> {
     for (place, word) in args.iter().enumerate() {
         if word.as_slice() == b":".as_slice() {

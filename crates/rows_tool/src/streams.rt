@@ -48,7 +48,7 @@ fn bytewise(alloc: Global, bytes: &[u8]) -> Answer {
     joined(alloc, &[&sent, sink.taken(), &writes])
 }
 
-/// Reads with these rooms from a source of std, with a blank behind each.
+/// Reads with these rooms from a source of std, with a blank after each.
 fn std_source(alloc: Global, bytes: &[u8], rooms: &[Vec<u8>]) -> Answer {
     let mut source = StdSource::new(bytes);
     let mut all = Vec::new(alloc);

@@ -21,7 +21,7 @@ pub fn answer(alloc: Global, call: &Call) -> Answer {
     ran(alloc, words, &call)
 }
 
-/// A run of the tool: its words stand before a `:`, and what it reads and writes behind it.
+/// A run of the tool: its words stand before a `:`, and what it reads and writes after it.
 fn ran(alloc: Global, words: &[Vec<u8>], call: &Call) -> Answer {
     if let Some([input]) = call.words("tool") {
         return steady(alloc, words, input);
@@ -113,7 +113,7 @@ fn failing(alloc: Global, words: &[Vec<u8>], input: &[u8]) -> Answer {
     told(alloc, &status, out.written())
 }
 
-/// The run over links in memory, and behind it what a further read of 40 bytes answers.
+/// The run over links in memory, and after it what a further read of 40 bytes answers.
 fn left(alloc: Global, words: &[Vec<u8>], input: &[u8]) -> Answer {
     let mut input = SteadyLink::new(alloc, input.to_vec(alloc)?)?;
     let mut out = SteadyLink::new(alloc, Vec::new(alloc))?;

@@ -107,7 +107,7 @@ fn again(alloc: Global, history: &History, printed: &[u8]) -> Answer {
     joined(alloc, &[head.as_bytes(), printed])
 }
 
-/// The number of the history, and behind it each parent's number, switch point and reason.
+/// The number of the history, and after it each parent's number, switch point and reason.
 pub fn shown(alloc: Global, history: &History) -> Answer {
     let mut out = format!(in alloc; "{}", history.own().number())?.into_bytes();
     for part in history.parents().as_slice() {
@@ -118,7 +118,7 @@ pub fn shown(alloc: Global, history: &History) -> Answer {
     Ok(out)
 }
 
-/// The history of these words: its number, and behind it each parent's number, switch point and reason. `None` where
+/// The history of these words: its number, and after it each parent's number, switch point and reason. `None` where
 /// they make no history.
 fn made(alloc: Global, words: &[Vec<u8>]) -> Result<Option<History>, Miss> {
     let [own, rest @ ..] = words else {

@@ -53,7 +53,7 @@ pub fn list(alloc: Global, text: &[u8]) -> Result<StandbyList, Miss> {
     parse_names(alloc, text).ok().ok_or(Miss::Words)
 }
 
-/// The method, the number, and the names, each with `|` behind it.
+/// The method, the number, and the names, each with `|` after it.
 fn shown(alloc: Global, list: &StandbyList) -> Answer {
     let (method, number) = (list.method(), list.number());
     let mut out = format!(in alloc; "{method:?} {number} ")?.into_bytes();

@@ -45,7 +45,7 @@ fn put_stream(alloc: Global, before: &Vec<u8>, words: &[Vec<u8>]) -> Answer {
     encoded(alloc, before.clone()?, &stream_of(words)?)
 }
 
-/// The bytes, and behind them the payload.
+/// The bytes, and after them the payload.
 fn encoded(alloc: Global, mut out: Vec<u8>, stream: &Stream) -> Answer {
     if let Stream::Wal { bytes, .. } = stream {
         if bytes.len() as u64 > WAL_LIMIT {

@@ -7,7 +7,7 @@ use repl_message::{
 use rows_table::{Answer, Call, Miss, debug, joined, said, short, text};
 use std::alloc::Global;
 
-/// The message is spelled behind the bytes of the first word.
+/// The message is spelled after the bytes of the first word.
 pub fn answer(alloc: Global, call: &Call) -> Answer {
     if let Some([before, kind, words @ ..]) = call.words("startup") {
         return spelled_startup(alloc, before, kind, words);
@@ -67,7 +67,7 @@ fn spelled_back(alloc: Global, before: &Vec<u8>, kind: &[u8], words: &[Vec<u8>])
     spelled(alloc, encode_back(&message, &mut out), out)
 }
 
-/// What is spelled, behind the fault where there is one.
+/// What is spelled, after the fault where there is one.
 fn spelled(alloc: Global, done: Result<(), EncodeFault>, out: Vec<u8>) -> Answer {
     match done {
         Ok(()) => Ok(out),

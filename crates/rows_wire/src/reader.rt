@@ -132,7 +132,7 @@ fn read_in(alloc: Global, side: &[u8], bytes: &[u8], sizes: (&[u8], &[u8])) -> A
     let wanted = read(alloc, side, bytes, first as usize)?;
     for size in first..last {
         if read(alloc, side, bytes, size as usize + 1)? != wanted {
-            return Ok(format!(in alloc; "another answer behind {size}")?.into_bytes());
+            return Ok(format!(in alloc; "another answer past {size}")?.into_bytes());
         }
     }
     let head = format!(in alloc; "each of {}:", last - first + 1)?;

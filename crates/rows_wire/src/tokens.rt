@@ -30,7 +30,7 @@ pub fn answer(alloc: Global, call: &Call) -> Answer {
     Err(Miss::Call)
 }
 
-/// Each token, with `|` behind it. A text has no more tokens than bytes.
+/// Each token, with `|` after it. A text has no more tokens than bytes.
 fn tokens(alloc: Global, text: &[u8]) -> Answer {
     let mut told = Vec::new(alloc);
     let mut at = 0;

@@ -1,7 +1,7 @@
 //! `test_commit`: commits at each setting, on a hub over a disk in memory, one line each.
 //!
 //! No names are in force, so nobody is waited for: at `remote_write` and above a commit is released as it begins to wait, with
-//! a certificate that nobody had to meet. A record here has 32 bytes, behind the log's first header of 40.
+//! a certificate that nobody had to meet. A record here has 32 bytes, after the log's first header of 40.
 #![tactic(auto)]
 
 use bytes::Bytes;
@@ -58,8 +58,8 @@ fn try_all(
     act(rt, pass, HubEvent::Promote(0));
     commit(rt, pass, "on, on timeline 2", 6, Setting::On)?;
     act(rt, pass, HubEvent::Stop);
-    commit(rt, pass, "on, behind a stop", 6, Setting::On)?;
-    commit(rt, pass, "local, behind a stop", 6, Setting::Local)
+    commit(rt, pass, "on, past a stop", 6, Setting::On)?;
+    commit(rt, pass, "local, past a stop", 6, Setting::Local)
 }
 
 /// Makes an event.

@@ -29,7 +29,7 @@ const SCRIPT: [(Ask, &str); 35] = [
     (Ask::Write("a", 5, b"f"), "done"),
     (Ask::Write("a", 1, b"B"), "done"),
     (Ask::Size("a"), "6"),
-    // The gap is zeros, and the room behind the end stays.
+    // The gap is zeros, and the room past the end stays.
     (Ask::Read("a", 0, 8), "6 [97, 66, 99, 0, 0, 102, 45, 45]"),
     (Ask::Read("a", 4, 1), "1 [0]"),
     (Ask::Read("a", 6, 1), "0 [45]"),

@@ -17,7 +17,7 @@ const ROUNDS: usize = 4_000;
 // How many changes those who wait see.
 const CHANGES: usize = 20;
 
-// Keeps lines, one behind another. What is awaited is the bytes that stand there.
+// Keeps lines, one after another. What is awaited is the bytes that stand there.
 #[derive(Drop)]
 struct Lines {
     bytes: Vec<u8>,

@@ -9,7 +9,7 @@ use repl_disk::MemoryDisk;
 use repl_node::Node;
 use std::alloc::Global;
 
-/// Where a copy stops: behind so many calls of the new disk, or of the other node's.
+/// Where a copy stops: after so many calls of the new disk, or of the other node's.
 #[derive(Clone, Copy)]
 pub enum Stop {
     Never,
@@ -60,7 +60,7 @@ pub fn copy(
     }
 }
 
-/// Goes on behind a crash of a copy that stopped: it is there, or is made again, unless the other node is broken.
+/// Goes on after a crash of a copy that stopped: it is there, or is made again, unless the other node is broken.
 pub fn go_on(
     alloc: Global,
     counts: &mut Counts,
@@ -77,7 +77,7 @@ pub fn go_on(
     }
 }
 
-/// Looks which of both a stop left behind a crash where this node was being made: its control is written last, so that either
+/// Looks which of both a stop left after a crash where this node was being made: its control is written last, so that either
 /// the whole node is there, or none.
 pub fn look(
     alloc: Global,

@@ -15,9 +15,9 @@ pub struct Counts {
     pub bytes: u64,
     /// Failures of the disk in a call.
     pub stops: u64,
-    /// Mounts behind a crash.
+    /// Mounts after a crash.
     pub crashes: u64,
-    /// Crashes behind a stop, which left the state of before, one between, or the new one.
+    /// Crashes after a stop, which left the state of before, one between, or the new one.
     pub left_old: u64,
     pub left_between: u64,
     pub left_new: u64,
@@ -98,7 +98,7 @@ impl Counts {
         all
     }
 
-    /// Counts which of so many states a crash left behind a stop.
+    /// Counts which of so many states a crash left after a stop.
     pub fn leave(&mut self, place: usize, states: usize) {
         if place == 0 {
             more(&mut self.left_old);

@@ -1,8 +1,8 @@
 //! `twin_node`: `Node` against a plain twin, whose whole log is one list of bytes.
 //!
 //! First 1,000 random scripts of 80 deeds with two or three nodes over disks in memory. After each call the answer, and what
-//! the node tells of itself, are compared with its twin's, and behind each crash the whole log too. A call that the disk
-//! stops on its way has to leave, behind a crash, one of the states that its twin says. Then some calls are stopped at each
+//! the node tells of itself, are compared with its twin's, and after each crash the whole log too. A call that the disk
+//! stops on its way has to leave, after a crash, one of the states that its twin says. Then some calls are stopped at each
 //! call of the disk that they make, each from a fixed state and with both kinds of crash.
 //!
 //! How many calls of a kind are refused, and how many stops a call has, is known from a run alone: it may stand in `stdout`
@@ -97,7 +97,7 @@ fn tell_counts(rt: &impl Print, counts: &Counts) -> io::Result<()> {
     Ok(())
 }
 
-/// What crashes behind stops left.
+/// What crashes after stops left.
 fn tell_left(rt: &impl Print, counts: &Counts) -> io::Result<()> {
     println!(rt;
         "{} stops; crashes left {} times the state of before, {} times one between, {} times the new one",

@@ -1,4 +1,4 @@
-//! A stop at each call of the disk by which a node is made, new or as a copy, with both kinds of crash behind it.
+//! A stop at each call of the disk by which a node is made, new or as a copy, with both kinds of crash after it.
 use crate::copies::{Copied, Found, Stop, go_on, look, try_copy};
 use crate::counts::{Counts, Miss, more};
 use crate::openings::{Opening, open};
@@ -85,8 +85,8 @@ pub fn try_target(
     Ok(calls)
 }
 
-/// Stops the copy behind so many calls of the new disk. Behind a crash it is there, or can be made again; and then it is
-/// mounted behind another one.
+/// Stops the copy after so many calls of the new disk. After a crash it is there, or can be made again; and then it is
+/// mounted after another one.
 fn stop_target(
     alloc: Global,
     counts: &mut Counts,
@@ -128,8 +128,8 @@ fn copy_whole(alloc: Global, counts: &mut Counts, other: &mut Pair) -> Result<()
     }
 }
 
-/// Stops a copy of the node in this state behind so many calls of that node's disk. There is no copy then, and the node is
-/// broken until it is mounted behind a crash.
+/// Stops a copy of the node in this state after so many calls of that node's disk. There is no copy then, and the node is
+/// broken until it is mounted after a crash.
 fn stop_source(
     alloc: Global,
     counts: &mut Counts,
@@ -146,7 +146,7 @@ fn stop_source(
     Ok(())
 }
 
-/// The disk of a copy whose source fails behind so many calls.
+/// The disk of a copy whose source fails after so many calls.
 fn refused_copy(
     alloc: Global,
     counts: &mut Counts,

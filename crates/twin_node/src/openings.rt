@@ -49,7 +49,7 @@ pub fn model(alloc: Global) -> Result<Plain, AllocError> {
     Ok(model)
 }
 
-/// The log of a second timeline, which was begun behind the first three of these records.
+/// The log of a second timeline, which was begun after the first three of these records.
 pub fn second_model(alloc: Global) -> Result<Plain, AllocError> {
     let mut model = model(alloc)?;
     model.cut(third_end(&model));
@@ -70,7 +70,7 @@ fn third_end(model: &Plain) -> u64 {
     }
 }
 
-/// The bytes of this log up to here that are behind the other one's, on its timeline.
+/// The bytes of this log up to here that are after the other one's, on its timeline.
 pub fn receive(alloc: Global, plain: &Plain, from: &Plain, to: u64) -> Result<Call, AllocError> {
     let start = plain.written();
     let bytes = from.part(start, to.saturating_sub(start));

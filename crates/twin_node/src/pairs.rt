@@ -198,7 +198,7 @@ pub fn mount(
             pair.compare_log(alloc, counts)?;
             Ok(pair)
         }
-        None => differs("the state behind a crash"),
+        None => differs("the state past a crash"),
     }
 }
 

@@ -6,7 +6,7 @@ use repl_control::Role;
 use std::alloc::{AllocError, Global};
 
 impl Plain {
-    /// What is mounted behind a crash where no call was on its way: what is flushed, and the slots that were saved.
+    /// What is mounted after a crash where no call was on its way: what is flushed, and the slots that were saved.
     pub fn crashed(&self, alloc: Global) -> Result<Plain, AllocError> {
         let mut left = self.copy(alloc)?;
         left.cut(self.flushed);
@@ -25,7 +25,7 @@ impl Plain {
         Ok(copy)
     }
 
-    /// The states of which a crash leaves one where it comes in this call, or behind its failure: first the one from before,
+    /// The states of which a crash leaves one where it comes in this call, or after its failure: first the one from before,
     /// and last the one that the call makes.
     pub fn left(&self, alloc: Global, call: &Call) -> Result<Vec<Plain>, AllocError> {
         let mut left = Vec::new(alloc);

@@ -142,9 +142,9 @@ fn of_read(out: ReadOut, room: Vec<u8>) -> Reply {
     }
 }
 
-/// So many bytes at the front of the room, behind which nothing may have been written.
+/// So many bytes at the front of the room, after which nothing may have been written.
 fn bytes_of(room: Vec<u8>, count: usize) -> Reply {
-    if !is_blank_behind(&room, count) {
+    if !is_blank_past(&room, count) {
         return Reply::Refused(Refusal::Unknown);
     }
     let mut bytes = room;
@@ -152,8 +152,8 @@ fn bytes_of(room: Vec<u8>, count: usize) -> Reply {
     Reply::Bytes(bytes)
 }
 
-/// Whether the room behind so many bytes is as it was.
-fn is_blank_behind(room: &[u8], count: usize) -> bool {
+/// Whether the room after so many bytes is as it was.
+fn is_blank_past(room: &[u8], count: usize) -> bool {
     match room.get(count..) {
         Some(rest) => rest.iter().all(|byte| *byte == BLANK),
         None => false,

@@ -6,7 +6,7 @@ use crate::paths::{Step, history};
 use crate::plain::Plain;
 use std::alloc::{AllocError, Global};
 
-/// All or some of the other one's bytes behind the own ones; or those at a wrong place, of a wrong timeline, with a wrong
+/// All or some of the other one's bytes after the own ones; or those at a wrong place, of a wrong timeline, with a wrong
 /// byte, or not the next ones.
 pub fn pull(
     alloc: Global,
@@ -42,7 +42,7 @@ pub fn pull(
     Ok(Call::Receive { tli, start, bytes })
 }
 
-/// All bytes of the other one behind the own ones.
+/// All bytes of the other one after the own ones.
 pub fn pull_all(alloc: Global, mine: &Plain, other: &Plain) -> Result<Call, AllocError> {
     let start = mine.written();
     let count = left_at(mine, other).saturating_sub(start);
@@ -72,7 +72,7 @@ fn left_at(mine: &Plain, other: &Plain) -> u64 {
     other.flushed
 }
 
-/// The history of the timeline behind the own one on the other one's path, if it has one.
+/// The history of the timeline after the own one on the other one's path, if it has one.
 pub fn next_child(alloc: Global, mine: &Plain, other: &Plain) -> Result<Call, AllocError> {
     let mut parents = Vec::new(alloc);
     let mut own = other.own;

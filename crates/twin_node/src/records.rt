@@ -18,7 +18,7 @@ const FRONT: usize = 20;
 /// A field of so many bytes from a place on, the lowest first, and its number.
 type Field = (usize, usize, u64);
 
-/// What the bytes behind the last record are.
+/// What the bytes after the last record are.
 #[derive(Drop)]
 pub enum Verdict {
     /// The whole records among them.
@@ -27,7 +27,7 @@ pub enum Verdict {
     Bad(u64, WalkReason),
 }
 
-/// What is read so far behind the last record.
+/// What is read so far after the last record.
 #[derive(Drop)]
 struct Reading<'a> {
     plain: &'a Plain,
@@ -43,7 +43,7 @@ struct Reading<'a> {
     found: Vec<Record>,
 }
 
-/// Judges what stands in the log behind its last record.
+/// Judges what stands in the log after its last record.
 pub fn judge(alloc: Global, plain: &Plain) -> Result<Verdict, AllocError> {
     let last = plain.last_record(u64::MAX);
     let mut reading = Reading {
@@ -109,7 +109,7 @@ impl Reading<'_> {
         None
     }
 
-    /// Takes a byte of a record, or one behind it up to the next multiple of 8.
+    /// Takes a byte of a record, or one after it up to the next multiple of 8.
     fn take_content(&mut self, byte: u8) -> Result<Option<WalkReason>, AllocError> {
         self.content.push(byte)?;
         let count = self.content.len();
@@ -180,7 +180,7 @@ fn header_size(page: u64) -> u64 {
     if page % SEGMENT == 0 { 40 } else { 24 }
 }
 
-/// Where a record starts whose image begins here: behind the page's header, where a page starts here.
+/// Where a record starts whose image begins here: after the page's header, where a page starts here.
 pub fn start_of(from: u64) -> u64 {
     if from % PAGE == 0 {
         from.saturating_add(header_size(from))
@@ -189,7 +189,7 @@ pub fn start_of(from: u64) -> u64 {
     }
 }
 
-/// What the header of the page that starts here has to say, where so many bytes of a record go on behind it. Only the first
+/// What the header of the page that starts here has to say, where so many bytes of a record go on after it. Only the first
 /// page of a segment has the last three fields.
 fn header_fields(plain: &Plain, page: u64, remaining: u64) -> [Field; 8] {
     let continues = if remaining > 0 { 1 } else { 0 };
@@ -206,7 +206,7 @@ fn header_fields(plain: &Plain, page: u64, remaining: u64) -> [Field; 8] {
     ]
 }
 
-/// The image of a record behind the last one: with a header where a page starts, and zeros up to the next multiple of 8.
+/// The image of a record after the last one: with a header where a page starts, and zeros up to the next multiple of 8.
 pub fn image(alloc: Global, plain: &Plain, item: Item) -> Result<Vec<u8>, AllocError> {
     let content = content_of(alloc, plain, item)?;
     let total = content.len() as u64;

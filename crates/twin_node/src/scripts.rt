@@ -13,7 +13,7 @@ use repl_disk::MemoryDisk;
 use repl_node::Node;
 use std::alloc::Global;
 
-/// How many deeds a script has behind its beginning.
+/// How many deeds a script has after its beginning.
 const DEEDS: u64 = 80;
 
 /// With how many bytes of body, and how often, the log is filled up over a segment.
@@ -221,7 +221,7 @@ impl Script {
         }
     }
 
-    /// Mounts each node once more behind a crash.
+    /// Mounts each node once more after a crash.
     fn end(&mut self, counts: &mut Counts) -> Result<(), Miss> {
         for place in 0..self.pairs.len() {
             let keep = self.numbers.one_in(2);

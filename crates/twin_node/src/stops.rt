@@ -1,4 +1,4 @@
-//! A stop at each call of the disk that a call makes, with both kinds of crash behind it.
+//! A stop at each call of the disk that a call makes, with both kinds of crash after it.
 use crate::calls::Call;
 use crate::counts::{Counts, Miss};
 use crate::openings::{Opening, child, item, model, open, receive};
@@ -99,7 +99,7 @@ pub fn try_case(alloc: Global, counts: &mut Counts, number: usize) -> Result<u64
     Ok(calls)
 }
 
-/// Stops the call behind so many calls of the disk, looks at the broken node, crashes, and goes on.
+/// Stops the call after so many calls of the disk, looks at the broken node, crashes, and goes on.
 fn stop(
     alloc: Global,
     counts: &mut Counts,

@@ -9,7 +9,7 @@ use Rattle.repl_node.specs.Making.{mounted_node}
 use Rattle.repl_slots.specs.SlotFile.{IsMounted, entries_of}
 use Rattle.repl_slots.specs.Stored.{Stores}
 use Rattle.repl_store.specs.Durable.{Durable, StandsFor}
-use Rattle.repl_admin.proofs.Behind.{tail_fits}
+use Rattle.repl_admin.proofs.Past.{tail_fits}
 use Rattle.repl_admin.proofs.Ending.{slots_right}
 use Rattle.repl_admin.proofs.Refused.{refused_stated}
 use Rattle.repl_admin.proofs.Stating.{mounted_stated}

@@ -1,9 +1,9 @@
--- The words stop at the lead, at the command, or behind its name, or are a line.
+-- The words stop at the lead, at the command, or after its name, or are a line.
 use Rattle.std.proofs.Common.{◌≢◌, ◌+◌, All, refl, subst, ◌∙◌, arith}
 use Rattle.repl_text.specs.Language.{StopsAt}
 use Rattle.repl_args.specs.Words.{texts}
 use Rattle.repl_args.specs.Forms.{PlainForm, plain, plain_form}
-use Rattle.repl_args.specs.Rests.{IsBehindName}
+use Rattle.repl_args.specs.Rests.{IsPastName}
 use Rattle.repl_args.proofs.WordLists.{text_is, texts_tail, texts_long}
 use Rattle.repl_args.proofs.Names.{are_apart}
 use Rattle.repl_args.proofs.Lines.{stops_at_command, named, reads}
@@ -35,8 +35,8 @@ returns-in_default-clause-wrong g c =
           c.in-Ok.ensures.goes_on;
     }
 
-pub returns-in-Ok-read_behind_name-clause-read : goal.returns-in-Ok-read_behind_name-clause-read
-returns-in-Ok-read_behind_name-clause-read g c =
+pub returns-in-Ok-read_past_name-clause-read : goal.returns-in-Ok-read_past_name-clause-read
+returns-in-Ok-read_past_name-clause-read g c =
     let words = c.args.words.now in
     let table = plain c.args.table.now in
     let form = plain_form c.in-Some.form.now in
@@ -44,21 +44,21 @@ returns-in-Ok-read_behind_name-clause-read g c =
     let read = c.as_str.ensures.value ∙ text_is words first c.index-words-first.result (omega arith) c.index-words-first.is in
     reads g.K.Kind.is table form (texts words) _ c.in-Some.ensures.one refl (omega (arith, texts_long words)) refl c.in-Ok.ensures.read
     (c.in-Some.ensures.named ∙ read)
-    (subst (λ l. IsBehindName g.K.Kind.is form l) (texts_tail words (first + 1)) c.in-Ok-read_behind_name.ensures.read)
+    (subst (λ l. IsPastName g.K.Kind.is form l) (texts_tail words (first + 1)) c.in-Ok-read_past_name.ensures.read)
 
-pub returns-in-Err-read_behind_name-clause-wrong : goal.returns-in-Err-read_behind_name-clause-wrong
-returns-in-Err-read_behind_name-clause-wrong g c =
+pub returns-in-Err-read_past_name-clause-wrong : goal.returns-in-Err-read_past_name-clause-wrong
+returns-in-Err-read_past_name-clause-wrong g c =
     let words = c.args.words.now in
     let table = plain c.args.table.now in
     let form = plain_form c.in-Some.form.now in
     let first = c.in-Ok.first in
-    let place = c.in-Err-read_behind_name.place in
+    let place = c.in-Err-read_past_name.place in
     let read = c.as_str.ensures.value ∙ text_is words first c.index-words-first.result (omega arith) c.index-words-first.is in
     let on = named g.K.Kind.is table form (texts words) first (are_apart table c.requires) c.in-Some.ensures.one
     (omega (arith, texts_long words)) (c.in-Some.ensures.named ∙ read) c.in-Ok.ensures.goes_on in
     record {
       place = first + 1 + place;
       number = omega arith;
-      stops = on.stops place (subst (λ l. StopsAt (IsBehindName g.K.Kind.is form) l place) (texts_tail words (first + 1))
-          c.in-Err-read_behind_name.ensures.wrong);
+      stops = on.stops place (subst (λ l. StopsAt (IsPastName g.K.Kind.is form) l place) (texts_tail words (first + 1))
+          c.in-Err-read_past_name.ensures.wrong);
     }

@@ -1,9 +1,9 @@
--- The first pair has the name, or those behind it have what all have.
+-- The first pair has the name, or those after it have what all have.
 use Rattle.std.proofs.Common.{◌≡◌, ◌≢◌, ◌<◌, ◌+◌, drop, length, ◌≤◌, sym, subst, ◌∙◌, arith, rules}
 use Rattle.repl_args.specs.Words.{texts}
 use Rattle.repl_args.specs.Options.{HasValue}
 use Rattle.repl_args.proofs.WordLists.{text_is, texts_long}
-use Rattle.repl_args.proofs.OptionWords.{has_here, has_later, has_only_later, has_none_behind}
+use Rattle.repl_args.proofs.OptionWords.{has_here, has_later, has_only_later, has_none_past}
 use Rattle.repl_args.proofs.options.option_value.Goals as goal
 use Rattle.repl_args.proofs.options.option_value.Goals.{then-loop-place-test+else-words-place-gt1, else-loop-place-test}
 
@@ -40,4 +40,4 @@ returns-clause-none c =
       | then-loop-place-test+else-words-place-gt1 w ↦ omega arith
       | else-loop-place-test w ↦ omega arith
     ] in
-    λ h. has_none_behind (texts words) place c.args.name.now h.0 (omega (arith, texts_long words, short)) (c.loop-place.invariant.there h.0 h.1)
+    λ h. has_none_past (texts words) place c.args.name.now h.0 (omega (arith, texts_long words, short)) (c.loop-place.invariant.there h.0 h.1)

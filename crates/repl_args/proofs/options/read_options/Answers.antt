@@ -3,7 +3,7 @@ use Rattle.std.proofs.Common.{◌≡◌, ◌≢◌, ◌+◌, [], map, get_or, ta
 use Rattle.std.proofs.lemmas.Bool.{both_ways}
 use Rattle.repl_args.specs.Words.{texts}
 use Rattle.repl_args.specs.Forms.{PlainOption, plain_option}
-use Rattle.repl_args.specs.Options.{AreOptions, AreOptionsBehind}
+use Rattle.repl_args.specs.Options.{AreOptions, AreOptionsPast}
 use Rattle.repl_args.specs.Rests.{GoesOn}
 use Rattle.repl_args.proofs.WordLists.{text_is, texts_front, texts_long}
 use Rattle.repl_args.proofs.OptionWords.{name_is_gone, name_is_none, stops_at_name, stops_at_value, pair, has_moved}
@@ -63,5 +63,5 @@ loop-place-preserved g c =
     c.in-Some.ensures.one (c.in-Some.ensures.named ∙ named) takes.1 c.loop-place.invariant.goes_on in
     record {
       within = omega (arith, takes.0);
-      goes_on = subst (λ n. GoesOn L ws (AreOptionsBehind g.K.Kind.is options (take n ws)) n) e on;
+      goes_on = subst (λ n. GoesOn L ws (AreOptionsPast g.K.Kind.is options (take n ws)) n) e on;
     }

@@ -1,6 +1,6 @@
--- The copy behind a look whether the control is there.
+-- The copy after a look whether the control is there.
 use Rattle.std.proofs.Common.{None, Err, ℕ, subst}
-use Rattle.repl_clone.proofs.Copies.{asked_quiet, done_behind, known_behind, moments_behind, reads_behind}
+use Rattle.repl_clone.proofs.Copies.{asked_quiet, done_past, known_past, moments_past, reads_past}
 use Rattle.repl_disk.specs.Answers.{OnlyWhereThere}
 use Rattle.repl_disk.specs.declared.disk.DiskError.{DiskError}
 use Rattle.repl_store.specs.Durable.{control_name}
@@ -26,14 +26,14 @@ pub returns-in-Err-Missing-clause-done : goal.returns-in-Err-Missing-clause-done
 returns-in-Err-Missing-clause-done g c =
     let state = g.D.Disk.state in
     let There : DiskError → Type 0 = λ e. OnlyWhereThere {A = ℕ} (state c.args.disk.now).files control_name (Err e) in
-    done_behind (g.E.Disk.state c.args.from.now.disk) c.args.from.now.head (state c.args.disk.now) (state c.size.new.self)
+    done_past (g.E.Disk.state c.args.from.now.disk) c.args.from.now.head (state c.args.disk.now) (state c.size.new.self)
     (state c.copy_files.new.disk) c.size.ensures.files c.size.ensures.crash c.copy_files.result
     (subst There c.in-Err-Missing.field-0-is c.in-Err-Missing.ensures.there) c.copy_files.ensures.copied
 
 pub returns-in-Err-Missing-clause-reads : goal.returns-in-Err-Missing-clause-reads
 returns-in-Err-Missing-clause-reads g c =
     let state = g.D.Disk.state in
-    reads_behind (g.E.Disk.state c.args.from.now.disk) c.args.from.now.head (state c.args.disk.now) (state c.size.new.self)
+    reads_past (g.E.Disk.state c.args.from.now.disk) c.args.from.now.head (state c.args.disk.now) (state c.size.new.self)
     (state c.copy_files.new.disk) c.size.ensures.files c.size.ensures.crash
     (g.met.D.Disk.never_falls c.size.new.self c.copy_files.new.disk c.copy_files.ensures.keeps).tells
     (g.met.D.Disk.as_it_reads c.copy_files.new.disk) c.copy_files.result c.copy_files.ensures.copied
@@ -41,7 +41,7 @@ returns-in-Err-Missing-clause-reads g c =
 pub returns-in-Err-Missing-clause-known : goal.returns-in-Err-Missing-clause-known
 returns-in-Err-Missing-clause-known g c s known backs heard =
     let state = g.D.Disk.state in
-    known_behind (g.E.Disk.state c.args.from.now.disk) c.args.from.now.head (state c.args.disk.now) (state c.size.new.self)
+    known_past (g.E.Disk.state c.args.from.now.disk) c.args.from.now.head (state c.args.disk.now) (state c.size.new.self)
     (state c.copy_files.new.disk) c.size.ensures.files c.size.ensures.crash
     (g.met.D.Disk.never_falls c.size.new.self c.copy_files.new.disk c.copy_files.ensures.keeps).tells
     (g.met.D.Disk.as_it_reads c.copy_files.new.disk) c.copy_files.result s known backs heard c.copy_files.ensures.copied
@@ -49,7 +49,7 @@ returns-in-Err-Missing-clause-known g c s known backs heard =
 pub returns-in-Err-Missing-clause-moments : goal.returns-in-Err-Missing-clause-moments
 returns-in-Err-Missing-clause-moments g c =
     let state = g.D.Disk.state in
-    moments_behind (g.E.Disk.state c.args.from.now.disk) c.args.from.now.head (state c.args.disk.now) (state c.size.new.self)
+    moments_past (g.E.Disk.state c.args.from.now.disk) c.args.from.now.head (state c.args.disk.now) (state c.size.new.self)
     (state c.copy_files.new.disk) c.size.ensures.files c.size.ensures.crash (g.met.D.Disk.only_now c.args.disk.now) c.size.ensures.ends.time
     c.copy_files.ensures.moments
 

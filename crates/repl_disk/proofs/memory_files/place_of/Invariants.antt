@@ -1,4 +1,4 @@
--- The search by halves: names before the place are less, and those behind are not.
+-- The search by halves: names before the place are less, and those after are not.
 use Rattle.std.proofs.Common.{◌≡◌, drop}
 use Rattle.repl_disk.proofs.memory_files.place_of.Given as goal
 use Rattle.repl_disk.proofs.Places.{places_later}

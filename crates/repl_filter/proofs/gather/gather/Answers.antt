@@ -21,20 +21,20 @@ loop-preserved g c =
       | in-Bytes+in_ok-extend_from_slice-in-Bytes w ↦
           let read = w.in-Bytes.ensures.reads.moved in
           let room = c.read.new.room in
-          let behind : List ℕ = drop c.min-some.result c.loop.room in
+          let past : List ℕ = drop c.min-some.result c.loop.room in
           let items = items_of_same c.match-read.bytes w.extend_from_slice.new.self
-          (c.loop.bytes.items ++ take w.in-Bytes.count (room ++ behind)) w.bytes-is
+          (c.loop.bytes.items ++ take w.in-Bytes.count (room ++ past)) w.bytes-is
           w.in_ok-extend_from_slice-in-Bytes.ensures.items in
           let len = len_of_same c.match-read.bytes w.extend_from_slice.new.self
-          (vec_len c.loop.bytes + length (take w.in-Bytes.count (room ++ behind))) w.bytes-is
+          (vec_len c.loop.bytes + length (take w.in-Bytes.count (room ++ past))) w.bytes-is
           w.in_ok-extend_from_slice-in-Bytes.ensures.len in
-          let size : length (take w.in-Bytes.count (room ++ behind)) ≡ w.in-Bytes.count =
-          omega (arith, length-take w.in-Bytes.count (room ++ behind), length-append room behind, read.fits) in
+          let size : length (take w.in-Bytes.count (room ++ past)) ≡ w.in-Bytes.count =
+          omega (arith, length-take w.in-Bytes.count (room ++ past), length-append room past, read.fits) in
           let some : length room ≤ c.min-some.result = omega (arith, c.read.auto.room, length-take c.min-some.result c.loop.room) in
           record {
             few = omega (arith, len, size, some, read.fits, c.min-some.ensures, c.len.ensures);
             lost = Lost-more (g.S.Source.source c.args.input.now).left (g.S.Source.source c.loop.input).left
-                (g.S.Source.source c.read.new.self).left c.loop.bytes.items _ room behind w.in-Bytes.count c.loop.invariant.lost read.lost
+                (g.S.Source.source c.read.new.self).left c.loop.bytes.items _ room past w.in-Bytes.count c.loop.invariant.lost read.lost
                 read.fits items;
             quiets = omega (arith, len, size, read.some, w.in-Bytes.ensures.reads.quiets, c.loop.invariant.quiets);
             faults = w.in-Bytes.ensures.reads.faults ∙ c.loop.invariant.faults;

@@ -1,4 +1,4 @@
--- Refused requests, the greeting and the answers, one behind another, are the answer.
+-- Refused requests, the greeting and the answers, one after another, are the answer.
 use Rattle.std.proofs.Common.{◌≡◌, ap, ◌∙◌, ◌++◌}
 use Rattle.std.specs.List.{flat_map}
 use Rattle.repl_message.specs.Message.{back_spelling}

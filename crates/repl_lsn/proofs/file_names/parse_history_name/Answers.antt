@@ -2,7 +2,7 @@
 use Rattle.std.proofs.Common.{◌≡◌, rules, ◌<◌, refl, inr, sym, ap, ◌∙◌, subst, drop, codes, Ok, arith}
 use Rattle.std.proofs.lemmas.Grind.{common_steps}
 use Rattle.repl_lsn.specs.Segment.{NamesHistory}
-use Rattle.repl_lsn.proofs.HistoryNames.{lacks_none, number_of_name, behind_is, name_read, suffix_tested}
+use Rattle.repl_lsn.proofs.HistoryNames.{lacks_none, number_of_name, past_is, name_read, suffix_tested}
 use Rattle.repl_lsn.proofs.file_names.parse_history_name.Goals as goal
 
 pub returns-in_err-timeline-clause-only : goal.returns-in_err-timeline-clause-only
@@ -19,7 +19,7 @@ returns-in_err-tli-clause-only c = λ tli n.
 
 pub returns-then-ne-clause-only : goal.returns-then-ne-clause-only
 returns-then-ne-clause-only c = λ tli n.
-    absurd ((suffix_tested c.args.text.now c.ne.result c.ne.ensures).0 c.if-ne.true (behind_is c.args.text.now tli n))
+    absurd ((suffix_tested c.args.text.now c.ne.result c.ne.ensures).0 c.if-ne.true (past_is c.args.text.now tli n))
 
 pub returns-then-ne-clause-refused : goal.returns-then-ne-clause-refused
 returns-then-ne-clause-refused c =
@@ -34,10 +34,10 @@ pub returns-clause-read : goal.returns-clause-read
 returns-clause-read c =
     let some : 0 < c.in_ok-timeline.timeline = search rules in
     let same : c.in_ok-timeline.timeline ≡ c.in_ok-tli.tli = search rules in
-    let behind : drop 8 c.args.text.now ≡ codes ".history" =
+    let past : drop 8 c.args.text.now ≡ codes ".history" =
     (suffix_tested c.args.text.now c.ne.result c.ne.ensures).1 c.if-ne.false in
     subst (NamesHistory c.args.text.now) same (name_read c.args.text.now c.in_ok-timeline.timeline c.in_ok-timeline.ensures.read some
-    behind)
+    past)
 
 pub returns-clause-only : goal.returns-clause-only
 returns-clause-only c = λ tli n.

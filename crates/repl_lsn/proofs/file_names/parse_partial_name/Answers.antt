@@ -2,7 +2,7 @@
 use Rattle.std.proofs.Common.{ℕ, List, codes, sym, subst, ◌∙◌, inl}
 use Rattle.std.proofs.lemmas.Result.{err_from_is_err_and}
 use Rattle.repl_lsn.specs.Segment.{Names, IsNameFault}
-use Rattle.repl_lsn.proofs.FileNames.{front_names, behind_is, partial_read, behind_tested}
+use Rattle.repl_lsn.proofs.FileNames.{front_names, past_is, partial_read, past_tested}
 use Rattle.repl_lsn.proofs.file_names.parse_partial_name.Goals as goal
 
 pub returns-in_err-named-clause-only : goal.returns-in_err-named-clause-only
@@ -21,15 +21,15 @@ returns-in_err-named-clause-refused c =
 
 pub returns-then-ne-clause-only : goal.returns-then-ne-clause-only
 returns-then-ne-clause-only c = λ tli seg n.
-    let differ = (behind_tested c.split_name.result.1.now (codes ".partial") c.ne.result c.ne.ensures).0 c.if-ne.true in
-    absurd (differ (c.split_name.ensures.behind ∙ behind_is c.args.size c.args.text.now tli seg c.parse_seg_name.ensures.size n))
+    let differ = (past_tested c.split_name.result.1.now (codes ".partial") c.ne.result c.ne.ensures).0 c.if-ne.true in
+    absurd (differ (c.split_name.ensures.past ∙ past_is c.args.size c.args.text.now tli seg c.parse_seg_name.ensures.size n))
 
 pub returns-clause-read : goal.returns-clause-read
 returns-clause-read c =
     let named = c.in_ok-named.named in
-    let same = (behind_tested c.split_name.result.1.now (codes ".partial") c.ne.result c.ne.ensures).1 c.if-ne.false in
+    let same = (past_tested c.split_name.result.1.now (codes ".partial") c.ne.result c.ne.ensures).1 c.if-ne.false in
     partial_read c.args.size c.args.text.now named.0 named.1 (subst (λ (front : List ℕ). Names c.args.size front named.0 named.1)
-    c.split_name.ensures.front c.in_ok-named.ensures.read) (sym c.split_name.ensures.behind ∙ same)
+    c.split_name.ensures.front c.in_ok-named.ensures.read) (sym c.split_name.ensures.past ∙ same)
 
 pub returns-clause-only : goal.returns-clause-only
 returns-clause-only c = λ tli seg n.

@@ -1,8 +1,8 @@
--- The word behind blanks is the number, or none stands there.
+-- The word after blanks is the number, or none stands there.
 use Rattle.std.proofs.Common.{◌≡◌, ◌<◌, sym, ap, subst, ◌∙◌, arith}
 use Rattle.std.proofs.lemmas.Grind.{common_steps}
 use Rattle.repl_lsn.specs.History.{HasNumber}
-use Rattle.repl_lsn.proofs.Blanks.{inked, word_of, behind_word}
+use Rattle.repl_lsn.proofs.Blanks.{inked, word_of, past_word}
 use Rattle.repl_lsn.proofs.LineWords.{IsNumber, has_number, number_is}
 use Rattle.repl_lsn.proofs.history_line.number_of.Goals as goal
 
@@ -10,8 +10,8 @@ pub returns-then-is_empty : goal.returns-then-is_empty
 returns-then-is_empty c =
     let word : c.split_word.result.0.now ≡ word_of (inked c.args.line.now) = c.split_word.ensures.word
     ∙ ap word_of c.after_blanks.ensures in
-    λ n behind h.
-    let is : IsNumber c.split_word.result.0.now n = subst (λ w. IsNumber w n) (sym word) (number_is c.args.line.now n behind h).0 in
+    λ n past h.
+    let is : IsNumber c.split_word.result.0.now n = subst (λ w. IsNumber w n) (sym word) (number_is c.args.line.now n past h).0 in
     let some = is.some in
     grind (arith, common_steps)
 
@@ -19,16 +19,16 @@ pub returns-in_err-decimal_value : goal.returns-in_err-decimal_value
 returns-in_err-decimal_value c =
     let word : c.split_word.result.0.now ≡ word_of (inked c.args.line.now) = c.split_word.ensures.word
     ∙ ap word_of c.after_blanks.ensures in
-    rw c.from_residual.ensures (λ n behind h.
-    let is : IsNumber c.split_word.result.0.now n = subst (λ w. IsNumber w n) (sym word) (number_is c.args.line.now n behind h).0 in
+    rw c.from_residual.ensures (λ n past h.
+    let is : IsNumber c.split_word.result.0.now n = subst (λ w. IsNumber w n) (sym word) (number_is c.args.line.now n past h).0 in
     c.in_err-decimal_value.ensures is.digits)
 
 pub returns-in_default : goal.returns-in_default
 returns-in_default c =
     let word : c.split_word.result.0.now ≡ word_of (inked c.args.line.now) = c.split_word.ensures.word
     ∙ ap word_of c.after_blanks.ensures in
-    λ n behind h.
-    let is : IsNumber c.split_word.result.0.now n = subst (λ w. IsNumber w n) (sym word) (number_is c.args.line.now n behind h).0 in
+    λ n past h.
+    let is : IsNumber c.split_word.result.0.now n = subst (λ w. IsNumber w n) (sym word) (number_is c.args.line.now n past h).0 in
     let value = is.value in
     let read = c.in_ok-decimal_value.ensures in
     let low : c.in_ok-decimal_value.field-0 < 4294967296 = omega (arith, read.1) in
@@ -38,8 +38,8 @@ pub returns-in_err-new : goal.returns-in_err-new
 returns-in_err-new c =
     let word : c.split_word.result.0.now ≡ word_of (inked c.args.line.now) = c.split_word.ensures.word
     ∙ ap word_of c.after_blanks.ensures in
-    rw c.from_residual-in_err-new.ensures (λ n behind h.
-    let is : IsNumber c.split_word.result.0.now n = subst (λ w. IsNumber w n) (sym word) (number_is c.args.line.now n behind h).0 in
+    rw c.from_residual-in_err-new.ensures (λ n past h.
+    let is : IsNumber c.split_word.result.0.now n = subst (λ w. IsNumber w n) (sym word) (number_is c.args.line.now n past h).0 in
     let number = c.in-Ok.ensures in
     let read = c.in_ok-decimal_value.ensures in
     c.in_err-new.ensures (omega (arith, is.value, is.in_range.0, read.1, number.1)))
@@ -48,8 +48,8 @@ pub returns : goal.returns
 returns c =
     let word : c.split_word.result.0.now ≡ word_of (inked c.args.line.now) = c.split_word.ensures.word
     ∙ ap word_of c.after_blanks.ensures in
-    let rest : c.split_word.result.1.now ≡ behind_word (inked c.args.line.now) = c.split_word.ensures.rest
-    ∙ ap behind_word c.after_blanks.ensures in
+    let rest : c.split_word.result.1.now ≡ past_word (inked c.args.line.now) = c.split_word.ensures.rest
+    ∙ ap past_word c.after_blanks.ensures in
     let number = c.in-Ok.ensures in
     let tli = c.in_ok-new.ensures in
     let read = c.in_ok-decimal_value.ensures in

@@ -4,7 +4,7 @@ use Rattle.std.proofs.lemmas.Grind.{common_steps}
 use Rattle.std.proofs.lemmas.Result.{err_from_is_err_and}
 use Rattle.repl_lsn.specs.Segment.{in_four_gib}
 use Rattle.repl_lsn.proofs.Names.{numbers_of, names_read}
-use Rattle.repl_lsn.proofs.NameFaults.{fault_in_timeline, fault_in_high, fault_in_low, fault_of_low, fault_behind, no_lack, no_large_low, no_zero, only_these}
+use Rattle.repl_lsn.proofs.NameFaults.{fault_in_timeline, fault_in_high, fault_in_low, fault_of_low, fault_past, no_lack, no_large_low, no_zero, only_these}
 use Rattle.repl_lsn.proofs.segment.parse_seg_name.Goals as goal
 
 pub returns-in_err-timeline-clause-only : goal.returns-in_err-timeline-clause-only
@@ -70,7 +70,7 @@ pub returns-then-text-gt-NAME_LENGTH-clause-refused : goal.returns-then-text-gt-
 returns-then-text-gt-NAME_LENGTH-clause-refused c =
     let some : 0 < c.in_ok-timeline.timeline = search rules in
     let below : c.in_ok-low.low < in_four_gib c.args.size = search rules in
-    fault_behind c.args.size c.args.text.now c.in_ok-timeline.timeline c.in_ok-high.high c.in_ok-low.low c.in_ok-timeline.ensures.read some
+    fault_past c.args.size c.args.text.now c.in_ok-timeline.timeline c.in_ok-high.high c.in_ok-low.low c.in_ok-timeline.ensures.read some
     c.in_ok-high.ensures.read c.in_ok-low.ensures.read below c.if-text-gt-NAME_LENGTH.true
 
 pub returns-clause-read : goal.returns-clause-read

@@ -5,5 +5,5 @@ use Rattle.repl_node.proofs.laws.save_keeps.Goals as goal
 pub returns-clause-moments : goal.returns-clause-moments
 returns-clause-moments c = λ n is kept above d saved left. saved_left n is kept above d saved left
 
-pub returns-clause-behind : goal.returns-clause-behind
-returns-clause-behind c = λ n is above. above_kept n is above
+pub returns-clause-past : goal.returns-clause-past
+returns-clause-past c = λ n is above. above_kept n is above

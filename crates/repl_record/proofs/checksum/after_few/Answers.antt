@@ -1,4 +1,4 @@
--- Each byte goes on, and behind the last one there is none.
+-- Each byte goes on, and after the last one there is none.
 use Rattle.std.proofs.Common.{sym, ◌∙◌, arith}
 use Rattle.repl_record.proofs.ChecksumPieces.{remainder-next, remainder_past}
 use Rattle.repl_record.proofs.checksum.after_few.Goals as goal

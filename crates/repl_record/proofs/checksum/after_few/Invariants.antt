@@ -1,4 +1,4 @@
--- The register and the bytes behind the index leave what all of them do.
+-- The register and the bytes after the index leave what all of them do.
 use Rattle.std.proofs.Common.{◌≡◌, drop}
 use Rattle.repl_record.specs.Checksum.{remainder, message}
 use Rattle.repl_record.proofs.checksum.after_few.Given as goal

@@ -1,4 +1,4 @@
--- The record's bytes are put in two pieces, and zeros behind them.
+-- The record's bytes are put in two pieces, and zeros after them.
 use Rattle.std.proofs.Common.{◌≡◌, ℕ, ◌+◌, ◌%◌, ◌<◌, List, [], ◌++◌, length, replicate, sym, ap, ◌∙◌, arith, length-append}
 use Rattle.repl_record.specs.declared.laying.Place.{Place}
 use Rattle.repl_record.specs.Record.{IsImage, content}
@@ -11,10 +11,10 @@ use Rattle.repl_record.proofs.laying.lay_out.Goals as goal
 none_laid : (size from : ℕ) (log : List ℕ) → log ≡ [] → length (content size from log) ≡ 0
 none_laid size from log none = ap (λ (t : List ℕ). length (content size from t)) none ∙ ap length (content-nil size from)
 
-place_of : goal.After-start_behind → Place
+place_of : goal.After-start_past → Place
 place_of c = record { ident = c.args.ident.now; tli = c.args.tli; at = c.args.at; total = 24 + length c.as_slice-body.result.now }
 
-finished : (c : goal.After-start_behind) → IsFinished (place_of c) c.args.prev c.args.item.now c.put-2.new.out.items
+finished : (c : goal.After-start_past) → IsFinished (place_of c) c.args.prev c.args.item.now c.put-2.new.out.items
     c.in_ok-from_vec.field-0
 unfolding place_of
 finished c =
@@ -78,7 +78,7 @@ returns-clause-length c =
     let laid : log ≡ c.round_up.new.out.items = c.in_ok-from_vec.ensures.ok in
     let image : IsImage c.args.ident.now (λ _. c.args.tli) c.args.at c.args.prev item log = IsImage-finished (place_of c) c.args.prev item
     c.put-2.new.out.items log c.written_agrees.ensures (finished c) in
-    c.position_behind-end.ensures
+    c.position_past-end.ensures
     ∙ ap (λ (t : List ℕ). c.args.at + length t) (sym laid)
     ∙ same_image_end c.args.ident.now (λ _. c.args.tli) c.args.at c.args.prev item log c.read_fields.ensures.headers.size image
 

@@ -1,4 +1,4 @@
--- What is written before the body: the front, and behind it the checksum, which goes on from that of the body.
+-- What is written before the body: the front, and after it the checksum, which goes on from that of the body.
 use Rattle.std.proofs.Common.{◌≡◌, ℕ, ◌-◌, List, ◌++◌, [], length, take, drop, refl, ap, ◌∙◌, length-append, length-drop, arith}
 use Rattle.std.proofs.lemmas.List.{take_at, drop_all, length-take}
 use Rattle.byteorder.specs.Endian.{little_bytes}
@@ -8,12 +8,12 @@ use Rattle.repl_record.specs.Record.{front_bytes}
 use Rattle.repl_record.proofs.ChecksumPieces.{goes_on}
 use Rattle.repl_record.proofs.laying.write_head.Goals as goal
 
--- a number of four bytes is written over the rest behind the front
-written_behind : (front old : List ℕ) (sum : ℕ) → length front ≡ 20 → length old ≡ 24
+-- a number of four bytes is written over the rest after the front
+written_past : (front old : List ℕ) (sum : ℕ) → length front ≡ 20 → length old ≡ 24
     → let whole = front ++ drop 20 old in
     put_mid 20 (length whole - 20) whole (little_bytes 4 sum ++ drop 4 (take (length whole - 20) (drop 20 whole))) ≡ front
     ++ little_bytes 4 sum
-written_behind front old sum front_is old_is =
+written_past front old sum front_is old_is =
     let whole = front ++ drop 20 old in
     let k = length whole - 20 in
     let counted : length whole ≡ 24 = omega (arith, length-append front (drop 20 old), length-drop 20 old) in
@@ -38,7 +38,7 @@ head_is front old room body sum of_body front_is old_is of_body_is sum_is room_i
     let same : sum ≡ checksum (body ++ front) =
     sum_is ∙ ap (checksum_from of_body) (take_at front (drop 20 old) 20 front_is) ∙ ap (λ (n : ℕ). checksum_from n front) of_body_is
     ∙ goes_on 0 body front in
-    ap (put_mid 20 (length whole - 20) whole) room_is ∙ written_behind front old sum front_is old_is
+    ap (put_mid 20 (length whole - 20) whole) room_is ∙ written_past front old sum front_is old_is
     ∙ ap (λ (n : ℕ). front ++ little_bytes 4 n) same
 
 pub returns : goal.returns

@@ -7,7 +7,7 @@ use Rattle.repl_record.proofs.length.image_end.Goals as goal
 pub loop-left-preserved : goal.loop-left-preserved
 loop-left-preserved c =
     turn_kept c.args.size c.loop-left.position c.loop-left.left c.start.inside.0 c.left_on_page.result c.min-count.result _ _
-    c.start_behind-start.ensures.size (omega (arith, c.start.view_is, c.start_behind-start.ensures.value))
+    c.start_past-start.ensures.size (omega (arith, c.start.view_is, c.start_past-start.ensures.value))
     c.loop-left-test.true (omega (arith, c.start.view_is, c.left_on_page.ensures))
     (omega (arith, c.min-count.ensures)) c.loop-left.invariant
 

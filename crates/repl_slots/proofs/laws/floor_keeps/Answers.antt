@@ -5,7 +5,7 @@ use Rattle.repl_slots.specs.Slot.{IsFloor, IsKeptFrom, held, held_positions}
 use Rattle.repl_slots.specs.declared.slot.Slot.{Slot}
 use Rattle.repl_slots.proofs.laws.floor_keeps.Goals as goal
 
--- of a slot and the ones behind it
+-- of a slot and the ones after it
 split_none : (h : Option ℕ) (ps : List ℕ) → option_to_list h ++ ps ≡ [] → IsKeptFrom None h × (ps ≡ [])
 split_none None ps none = (tt, none)
 split_none (Some p) ps none = absurd cc

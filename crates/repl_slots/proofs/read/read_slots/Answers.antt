@@ -5,7 +5,7 @@ use Rattle.repl_slots.specs.SlotFile.{EntryStops, FileStops, IsAt}
 use Rattle.repl_slots.specs.Slot.{IsNew, names_of}
 use Rattle.repl_slots.specs.declared.slot.Slot.{Slot}
 use Rattle.repl_slots.specs.declared.slot.TheConstants.{SLOT_LIMIT}
-use Rattle.repl_slots.proofs.Reading.{SoFar, at_weaker, more, stops_behind, stops_in_slot}
+use Rattle.repl_slots.proofs.Reading.{SoFar, at_weaker, more, stops_past, stops_in_slot}
 use Rattle.repl_slots.proofs.read.read_slots.Goals as goal
 
 pub returns-in_err-slot-clause-refused : goal.returns-in_err-slot-clause-refused
@@ -36,5 +36,5 @@ loop-preserved c =
     read.end.1 (omega arith) few)
 
 pub returns-then-at-file-clause-refused : goal.returns-then-at-file-clause-refused
-returns-then-at-file-clause-refused c = stops_behind c.args.file.now c.in_ok-count.count c.loop.slots.items c.loop.at c.loop.counter
+returns-then-at-file-clause-refused c = stops_past c.args.file.now c.in_ok-count.count c.loop.slots.items c.loop.at c.loop.counter
     c.loop.invariant (omega arith) (omega arith) (omega arith)

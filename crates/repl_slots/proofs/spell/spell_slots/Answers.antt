@@ -1,4 +1,4 @@
--- The parts are appended one behind another.
+-- The parts are appended one after another.
 use Rattle.std.proofs.Common.{◌++◌, List, ℕ, ap, ◌∙◌}
 use Rattle.repl_slots.specs.SlotFile.{entries_bytes, entries_of, int16, magic}
 use Rattle.repl_slots.proofs.Entries.{written_are}

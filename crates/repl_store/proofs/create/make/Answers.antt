@@ -1,4 +1,4 @@
--- A replacement behind a look whether the control is there.
+-- A replacement after a look whether the control is there.
 use Rattle.std.proofs.Common.{◌∙◌}
 use Rattle.repl_disk.specs.Runs.{where_told}
 use Rattle.repl_store.specs.Durable.{control_aside, control_name}

@@ -1,4 +1,4 @@
--- The last part stands behind all others.
+-- The last part stands after all others.
 use Rattle.std.proofs.Common.{◌<◌, length, ap, sym, ◌∙◌}
 use Rattle.repl_lsn.proofs.Order.{last_is}
 use Rattle.repl_lsn.specs.History.{last_switch}

@@ -44,5 +44,5 @@ pub returns-in-Init-clause-read : goal.returns-in-Init-clause-read
 returns-in-Init-clause-read c =
     let words = texts c.args.words.now in
     let read = of_command words c.in-Ok.line command.Init c.in-Init.is c.in-Ok.ensures.read in
-    init_line words c.in-Ok.line c.role_at.result c.system_at-in-Init.result c.magic_behind.result read c.role_at.ensures c.system_at-in-Init.ensures
-    c.magic_behind.ensures
+    init_line words c.in-Ok.line c.role_at.result c.system_at-in-Init.result c.magic_past.result read c.role_at.ensures c.system_at-in-Init.ensures
+    c.magic_past.ensures

@@ -1,4 +1,4 @@
--- Behind the limit no record ends within it.
+-- Past the limit no record ends within it.
 use Rattle.std.proofs.Common.{◌≡◌, true, false, arith}
 use Rattle.repl_record.proofs.ImageLength.{end_least}
 use Rattle.repl_wal.proofs.append.has_room.Goals as goal

@@ -1,4 +1,4 @@
--- The last parent stands behind as many as the path has.
+-- The last parent stands after as many as the path has.
 use Rattle.std.proofs.Common.{rules, ◌≡◌, ◌+◌, ◌-◌, ℕ, List, length, get_or, sym, ap, ◌∙◌, arith}
 use Rattle.repl_lsn.proofs.Order.{last_is}
 use Rattle.repl_lsn.specs.History.{last_switch}

@@ -1,7 +1,7 @@
--- What is wrong behind the whole end: a record's end, or the first fault.
+-- What is wrong past the whole end: a record's end, or the first fault.
 use Rattle.std.proofs.Common.{rules, ◌≡◌, ℕ, ◌%◌, ◌<◌, ◌++◌, List, refl, sym, ap, ◌∙◌, subst}
 use Rattle.repl_lsn.specs.Segment.{IsSegSize}
-use Rattle.repl_walk.specs.Faults.{IsFaultBehind}
+use Rattle.repl_walk.specs.Faults.{IsFaultPast}
 use Rattle.repl_page.specs.declared.ident.Ident.{Ident}
 use Rattle.repl_record.proofs.LogChains.{same_last}
 use Rattle.repl_record.proofs.LogEnds.{from_le}
@@ -22,12 +22,12 @@ returns-else-eq-clause-refused c timeline prev log walked on =
     let later : whole < last_end next = below_by whole (last_end next) low (λ same. apart (c.last_end.ensures ∙ sym same)) in
     (refl, (last_end next, last_start next, later, greatest.is_end))
 
--- the fault stands right behind the whole end
-right_behind : (i ident : Ident) (timeline : ℕ → ℕ) (whole prev end last at : ℕ) (log : List ℕ) (why : WalkReason) → i ≡ ident → IsSegSize i.size
-    → whole % 8 ≡ 0 → end ≡ whole → IsFaultBehind i timeline whole prev log end last at why → IsFaultBehind ident timeline whole prev log whole prev at why
-right_behind i ident timeline whole prev end last at log why same size eight ends behind =
-    let As : Ident → ℕ → ℕ → Type 0 = λ j. λ e. λ l. IsFaultBehind j timeline whole prev log e l at why in
-    let here : As i whole last = subst (λ (e : ℕ). As i e last) ends behind in
+-- the fault stands right past the whole end
+right_past : (i ident : Ident) (timeline : ℕ → ℕ) (whole prev end last at : ℕ) (log : List ℕ) (why : WalkReason) → i ≡ ident → IsSegSize i.size
+    → whole % 8 ≡ 0 → end ≡ whole → IsFaultPast i timeline whole prev log end last at why → IsFaultPast ident timeline whole prev log whole prev at why
+right_past i ident timeline whole prev end last at log why same size eight ends past =
+    let As : Ident → ℕ → ℕ → Type 0 = λ j. λ e. λ l. IsFaultPast j timeline whole prev log e l at why in
+    let here : As i whole last = subst (λ (e : ℕ). As i e last) ends past in
     let first : last ≡ prev = same_last i timeline whole prev log whole last prev size eight here.records origin in
     subst (λ (j : Ident). As j whole prev) same (subst (As i whole) first here)
 
@@ -40,5 +40,5 @@ returns-in-Err-clause-refused c timeline prev log walked on =
     let same : c.last_end.result ≡ whole = search rules in
     let size : IsSegSize (identity next).size = subst IsSegSize (ap (λ (i : Ident). i.size) (c.ident.ensures ∙ sym c.in-Err.ensures.ident))
     c.bytes-size.ensures.size in
-    right_behind (identity next) (identity w) timeline whole prev (last_end next) (last_start next) c.in-Err.fault.at (log ++ c.args.piece.now)
-    c.in-Err.fault.why c.in-Err.ensures.ident size walked.aligned (sym c.last_end.ensures ∙ same) met.behind
+    right_past (identity next) (identity w) timeline whole prev (last_end next) (last_start next) c.in-Err.fault.at (log ++ c.args.piece.now)
+    c.in-Err.fault.why c.in-Err.ensures.ident size walked.aligned (sym c.last_end.ensures ∙ same) met.past

@@ -58,7 +58,7 @@ enough disk head s at count backs low within = omega (
 -- the piece ends within what is flushed
 bounds : (at whole flushed left inner place count room : ℕ) → whole ≤ at → place ≡ at → inner ≡ flushed → count ≡ min (inner - place) room
     → at < flushed → (at + count ≤ flushed) × (count ≤ room)
-bounds at whole flushed left inner place count room behind here end is before = (omega (arith, here, end, is, before), omega (arith, is))
+bounds at whole flushed left inner place count room past here end is before = (omega (arith, here, end, is, before), omega (arith, is))
 
 above : (head : Head) → IsHead head → head.control.floor ≤ head.control.whole
 above head is = let below = div-mul-le_self head.control.whole head.size in omega (arith, is.right.floor.2, below)
@@ -71,9 +71,9 @@ returns-in-Ok-judge-clause-of_state g c s backs taken =
     let count = c.min-count.result in
     let at : c.position-at.result ≡ position w = c.position-at.ensures in
     let end : c.status.inside.0.1.1.1.1.1.0.0 ≡ head.control.flushed = ap (λ (t : StoreStatus). t.flushed) (c.status.view_is ∙ c.requires.status) in
-    let behind : head.control.whole ≤ position w = omega (arith, c.requires.taken.behind) in
-    let low : head.control.floor ≤ position w = omega (arith, behind, above head c.requires.right) in
-    let bound = bounds (position w) head.control.whole head.control.flushed 0 c.status.inside.0.1.1.1.1.1.0.0 c.at.inside.0 count (length room) behind
+    let past : head.control.whole ≤ position w = omega (arith, c.requires.taken.past) in
+    let low : head.control.floor ≤ position w = omega (arith, past, above head c.requires.right) in
+    let bound = bounds (position w) head.control.whole head.control.flushed 0 c.status.inside.0.1.1.1.1.1.0.0 c.at.inside.0 count (length room) past
     (c.at.view_is ∙ at) end c.min-count.ensures c.requires.before in
     let from = drop (position w - head.control.floor) (log s) in
     let got : c.read_into.new.room ≡ take (length (take count room)) from = subst (λ (p : ℕ). c.read_into.new.room ≡ take (length (take count room))
@@ -91,9 +91,9 @@ returns-in-Err-judge-clause-refused g c =
     let count = c.min-count.result in
     let at : c.position-at.result ≡ position w = c.position-at.ensures in
     let end : c.status.inside.0.1.1.1.1.1.0.0 ≡ head.control.flushed = ap (λ (t : StoreStatus). t.flushed) (c.status.view_is ∙ c.requires.status) in
-    let behind : head.control.whole ≤ position w = omega (arith, c.requires.taken.behind) in
-    let low : head.control.floor ≤ position w = omega (arith, behind, above head c.requires.right) in
-    let bound = bounds (position w) head.control.whole head.control.flushed 0 c.status.inside.0.1.1.1.1.1.0.0 c.at.inside.0 count (length room) behind
+    let past : head.control.whole ≤ position w = omega (arith, c.requires.taken.past) in
+    let low : head.control.floor ≤ position w = omega (arith, past, above head c.requires.right) in
+    let bound = bounds (position w) head.control.whole head.control.flushed 0 c.status.inside.0.1.1.1.1.1.0.0 c.at.inside.0 count (length room) past
     (c.at.view_is ∙ at) end c.min-count.ensures c.requires.before in
     let piece = take count (c.read_into.new.room ++ drop count room) in
     let disk = g.D.Disk.state c.args.store.now.disk in

@@ -12,7 +12,7 @@ use Rattle.repl_wal.specs.declared.fault.NodeFault.{NodeFault}
 use Rattle.repl_wal.proofs.Opening.{backs_reads, opened_reads}
 use Rattle.repl_wal.proofs.mount.walk_pieces.Goals as goal
 
--- behind pieces that were read
+-- after pieces that were read
 module _ (old mid : DiskState) (head now : Head) (same : now ≡ head) (only : OnlyReads old mid) where
   backs_mid : (s : State) → Backs old head s → Backs mid now s
   backs_mid s backs = subst (λ (h : Head). Backs mid h s) (sym same) (backs_reads old mid head s only backs)

@@ -15,15 +15,15 @@ reads_to : (n : LogState) (path : Path) (status : StoreStatus) (tli end : ℕ) (
 reads_to n path status tli end None same told is = inl (is.0 ∙ ap (λ (p : Path). p.own) same, is.1 ∙ ap (λ (s : StoreStatus). s.flushed) told)
 reads_to n path status tli end (Some next) same told is = inr (subst (λ (p : Path). EndsAt p tli end) same is.0)
 
-behind_refuses : (n : LogState) (path : Path) (status : StoreStatus) (tli at end : ℕ) (next : Option ℕ) (e : NodeFault) → path ≡ path_of n
+past_refuses : (n : LogState) (path : Path) (status : StoreStatus) (tli at end : ℕ) (next : Option ℕ) (e : NodeFault) → path ≡ path_of n
     → status ≡ status_of_log n → IsEnd path status.flushed tli end next → end < at
     → MatchOption next (e ≡ fault.Ahead end) (λ t. e ≡ fault.AfterSwitch t end) → IsReadRefusal n tli at e
-behind_refuses n path status tli at end None e same told is past answer = subst (IsReadRefusal n tli at) (sym answer) (
+past_refuses n path status tli at end None e same told is past answer = subst (IsReadRefusal n tli at) (sym answer) (
   is.0 ∙ ap (λ (p : Path). p.own) same,
   is.1 ∙ ap (λ (s : StoreStatus). s.flushed) told,
   past,
 )
-behind_refuses n path status tli at end (Some next) e same told is past answer = subst (IsReadRefusal n tli at) (sym answer) (
+past_refuses n path status tli at end (Some next) e same told is past answer = subst (IsReadRefusal n tli at) (sym answer) (
   subst (λ (p : Path). EndsAt p tli end) same is.0,
   subst (λ (p : Path). IsNext p tli next) same is.1,
   past,
@@ -33,8 +33,8 @@ pub returns-then-lt-clause-refused : goal.returns-then-lt-clause-refused
 returns-then-lt-clause-refused c n same told =
     let found = c.in-Ok.found in
     let past : found.0 < c.args.at = search rules in
-    behind_refuses n c.args.path.now c.args.status.now c.args.tli c.args.at found.0 found.1 c.behind.result same told c.in-Ok.ensures.end past
-    c.behind.ensures
+    past_refuses n c.args.path.now c.args.status.now c.args.tli c.args.at found.0 found.1 c.past.result same told c.in-Ok.ensures.end past
+    c.past.ensures
 
 pub returns-then-lt-2-clause-refused : goal.returns-then-lt-2-clause-refused
 returns-then-lt-2-clause-refused c n same told =

@@ -1,4 +1,4 @@
--- An image goes on behind records, and records are a prefix of records.
+-- An image goes on after records, and records are a prefix of records.
 use Rattle.repl_walk.proofs.Ends.{image_goes_on, records_begin_none}
 use Rattle.repl_walk.proofs.end_laws.ends_go_on.Goals as goal
 

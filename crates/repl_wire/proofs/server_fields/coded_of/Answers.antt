@@ -24,6 +24,6 @@ pub loop-preserved : goal.loop-preserved
 loop-preserved c =
     let f : ErrorField = record { code = c.in-Some.code.now; text = c.in_ok-text.text } in
     let e : c.push.new.self.items ≡ c.loop.fields.items ++ f ∷ [] = c.in_ok-push.ensures.items in
-    rw e (code_read c.loop.fields.items (length c.args.body.now) c.loop.counter c.loop.rest.now f c.in-Some.behind.now
+    rw e (code_read c.loop.fields.items (length c.args.body.now) c.loop.counter c.loop.rest.now f c.in-Some.past.now
     c.in_ok-text.after.now _ c.loop-test.true c.in-Some.ensures.cases.0 (omega (arith, c.if-code-eq0.false)) c.in_ok-text.ensures
     c.loop.invariant)

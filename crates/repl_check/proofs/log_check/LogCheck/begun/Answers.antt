@@ -15,7 +15,7 @@ returns-then-eq-clause-stage c timeline floor log judged =
     let bytes = c.args.bytes.now in
     let stage = c.first_stage.result in
     let here : c.args.self.now.at ≡ c.args.self.now.floor = search rules in
-    let empty : log ≡ [] = nil_from_length log (omega (arith, here, judged.begins, judged.behind)) in
+    let empty : log ≡ [] = nil_from_length log (omega (arith, here, judged.begins, judged.past)) in
     subst (λ (t : List ℕ). IsAtStage ident timeline (rest_of ident floor (t ++ bytes)) floor t stage) (sym empty)
     (subst (λ (f : ℕ). IsAtStage ident timeline (rest_of ident f bytes) f [] stage) judged.begins (c.first_stage.ensures.stage timeline))
 
@@ -27,7 +27,7 @@ returns-else-eq-clause-stage c timeline floor log judged =
       arith,
       away,
       judged.begins,
-      judged.behind,
+      judged.past,
       judged.on_page,
       c.requires.page,
       header_is ident.size floor,
@@ -40,4 +40,4 @@ returns-else-eq-clause-placed c =
     let some = c.requires.judging.1 in
     let judged = some.judged in
     stage_placed (check_identity c.args.self.now) c.requires.judging.0 _ some.floor c.args.self.now.at some.log c.args.self.now.stage judged.on_page
-    judged.behind c.requires.page judged.at_stage
+    judged.past c.requires.page judged.at_stage

@@ -19,4 +19,4 @@ returns-else-rest-gt0-clause-stage c timeline =
     (sym c.rest-rest.ensures ∙ omega (arith, c.if-rest-gt0.false)) walker.ensures.ident (walker.ensures.stands timeline)
 
 pub returns-else-rest-gt0-clause-placed : goal.returns-else-rest-gt0-clause-placed
-returns-else-rest-gt0-clause-placed c = omega (arith, (c.new-else-rest-gt0.ensures.stands (λ page. page)).keeps.behind)
+returns-else-rest-gt0-clause-placed c = omega (arith, (c.new-else-rest-gt0.ensures.stands (λ page. page)).keeps.past)

@@ -15,7 +15,7 @@ returns-clause-judged c timeline floor log judged on =
     let begun = subst (λ (f : ℕ). IsAtStage (check_identity old) timeline (rest_of (check_identity old) floor all) f log c.begun-begun.result)
     (sym judged.begins) (c.begun-begun.ensures.stage timeline floor log judged) in
     let stage = c.through-self-inside.ensures timeline (rest_of (check_identity old) floor all) log begun
-    (subst IsPage (sym judged.begins) judged.on_page) (judged.behind ∙ ap (λ (f : ℕ). f + length log) (sym judged.begins)) on in
+    (subst IsPage (sym judged.begins) judged.on_page) (judged.past ∙ ap (λ (f : ℕ). f + length log) (sym judged.begins)) on in
     let same = c.self.view_is in
     judged_on old _ timeline floor log bytes (ap (λ (check : LogCheck). check.ident) same) (ap (λ (check : LogCheck). check.floor) same)
     (omega (arith, ap (λ (check : LogCheck). check.at) same)) judged stage

@@ -20,7 +20,7 @@ through_records-requires c =
     record {
       room = omega (
         arith,
-        (c.new-walker.ensures.stands (λ page. page)).keeps.behind,
+        (c.new-walker.ensures.stands (λ page. page)).keeps.past,
         c.requires.room,
         c.in-Whole.ensures.takes.1,
         ap (λ (check : LogCheck). check.at) c.self.view_is,
@@ -30,11 +30,11 @@ through_records-requires c =
     }
 
 pub returns-in-Short : goal.returns-in-Short
-returns-in-Short c timeline count log is on_page behind on =
+returns-in-Short c timeline count log is on_page past on =
     let ident = check_identity c.args.self.now in
     let floor = check_floor c.args.self.now in
     let bytes = c.args.bytes.now in
-    let passed = is.passed (subst IsPage behind c.requires.page) in
+    let passed = is.passed (subst IsPage past c.requires.page) in
     let pages = subst (λ (p : ℕ). AreOn timeline c.args.tli p (length bytes)) (sym c.requires.placed) on in
     record {
       some = is.some;
@@ -45,10 +45,10 @@ returns-in-Short c timeline count log is on_page behind on =
     }
 
 pub returns-in-Bad : goal.returns-in-Bad
-returns-in-Bad c timeline count log is on_page behind on =
+returns-in-Bad c timeline count log is on_page past on =
     let floor = check_floor c.args.self.now in
     let bytes = c.args.bytes.now in
-    let passed = is.passed (subst IsPage behind c.requires.page) in
+    let passed = is.passed (subst IsPage past c.requires.page) in
     let pages = subst (λ (p : ℕ). AreOn timeline c.args.tli p (length bytes)) (sym c.requires.placed) on in (
       is.some,
       subst (λ (i : Ident). IsRestFault i timeline count floor (log ++ bytes) c.in-Bad.at c.in-Bad.why) is.of_log
@@ -56,7 +56,7 @@ returns-in-Bad c timeline count log is on_page behind on =
     )
 
 pub returns-in-Whole : goal.returns-in-Whole
-returns-in-Whole c timeline count log is on_page behind on =
+returns-in-Whole c timeline count log is on_page past on =
     let ident = check_identity c.args.self.now in
     let floor = check_floor c.args.self.now in
     let bytes = c.args.bytes.now in
@@ -65,7 +65,7 @@ returns-in-Whole c timeline count log is on_page behind on =
     let walker = c.new-walker.result in
     let at = ap (λ (check : LogCheck). check.at) c.self.view_is in
     let takes = c.in-Whole.ensures.takes in
-    let passed = is.passed (subst IsPage behind c.requires.page) in
+    let passed = is.passed (subst IsPage past c.requires.page) in
     let pages = subst (λ (p : ℕ). AreOn timeline c.args.tli p (length bytes)) (sym c.requires.placed) on in
     let whole = subst (λ (i : Ident). IsRestWhole i timeline count floor (log ++ bytes) end) is.of_log (c.in-Whole.ensures.answers timeline
     count floor log passed pages) in
@@ -73,14 +73,14 @@ returns-in-Whole c timeline count log is on_page behind on =
     let begun = rest_done ident timeline count floor end used _ log bytes walker on_page is.some whole goes (omega (arith, takes.1)) (omega (
       arith,
       at,
-      behind,
+      past,
     )) (c.new-walker.ensures.ident ∙ ap (λ (check : LogCheck). check.ident) c.self.view_is) (c.new-walker.ensures.stands timeline) in
     let rest = drop used bytes in
     let part : take (length bytes - used) rest ≡ rest = take_rest bytes used in
     let next : AreOn timeline c.args.tli (position walker) (length (take (length bytes - used) rest)) = λ page is_page from below.
-    on page is_page (omega (arith, (c.new-walker.ensures.stands timeline).keeps.behind, at, from)) (omega (
+    on page is_page (omega (arith, (c.new-walker.ensures.stands timeline).keeps.past, at, from)) (omega (
       arith,
-      (c.new-walker.ensures.stands timeline).keeps.behind,
+      (c.new-walker.ensures.stands timeline).keeps.past,
       at,
       below,
       takes.1,

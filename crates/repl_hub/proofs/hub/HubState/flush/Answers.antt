@@ -2,7 +2,7 @@
 use Rattle.std.proofs.Common.{ℕ, subst}
 use Rattle.repl_hub.specs.Holding.{Comes, HeldHub, Holds}
 use Rattle.repl_hub.specs.Log.{IsFlush}
-use Rattle.repl_hub.proofs.Nodes.{held_with, kept_behind, of_node, over_any, untold}
+use Rattle.repl_hub.proofs.Nodes.{held_with, kept_past, of_node, over_any, untold}
 use Rattle.repl_node.specs.State.{LeftOf, NodeState}
 use Rattle.repl_node.specs.Steps.{OfLog}
 use Rattle.repl_wal.specs.Writing.{FlushLeaves, Flushes}
@@ -14,7 +14,7 @@ invariant_of-self g c =
     let result = c.flush.result in
     let before : HeldHub g.row.D.Denot = record { node = c.self.inside.node; sync = c.self.inside.sync; links = c.self.inside.links.items; last = c.self.inside.last; stopped = c.self.inside.stopped } in
     let n : NodeState = untold c.self.invariant.node in
-    kept_behind {A = ℕ} result (state before.node.wal.store.disk) (state c.flush.new.self.wal.store.disk) before c.flush.new.self c.self.invariant
+    kept_past {A = ℕ} result (state before.node.wal.store.disk) (state c.flush.new.self.wal.store.disk) before c.flush.new.self c.self.invariant
     (OfLog n (Flushes n.log result)) (LeftOf n (FlushLeaves n.log))
     (c.flush.ensures.steps n (over_any (state before.node.wal.store.disk) before.node c.self.invariant.node c.self.invariant.remembers))
 

@@ -2,7 +2,7 @@
 use Rattle.std.proofs.Common.{ℕ, Ok, Err, refl, subst}
 use Rattle.repl_hub.specs.Holding.{Comes, HeldHub, Holds}
 use Rattle.repl_hub.specs.Log.{IsPromote}
-use Rattle.repl_hub.proofs.Nodes.{held_with, kept_behind, kept_told, of_both, over_any, untold}
+use Rattle.repl_hub.proofs.Nodes.{held_with, kept_past, kept_told, of_both, over_any, untold}
 use Rattle.repl_hub.proofs.Numbers.{of_timeline}
 use Rattle.repl_node.specs.State.{LeftOf, NodeState}
 use Rattle.repl_node.specs.Steps.{OfLog}
@@ -24,7 +24,7 @@ invariant_of-self-in-Err g c =
     let state = g.D.Disk.state in
     let before : HeldHub g.row.D.Denot = record { node = c.self.inside.node; sync = c.self.inside.sync; links = c.self.inside.links.items; last = c.self.inside.last; stopped = c.self.inside.stopped } in
     let n : NodeState = untold c.self.invariant.node in
-    kept_behind {A = ℕ × ℕ} (Err c.in-Err.fault) (state before.node.wal.store.disk) (state c.promote.new.self.wal.store.disk) before c.promote.new.self
+    kept_past {A = ℕ × ℕ} (Err c.in-Err.fault) (state before.node.wal.store.disk) (state c.promote.new.self.wal.store.disk) before c.promote.new.self
     c.self.invariant (OfLog n (Promotes n.log c.args.at_least (Err c.in-Err.fault))) (LeftOf n (PromoteLeaves n.log c.args.at_least))
     (c.in-Err.ensures.steps n (over_any (state before.node.wal.store.disk) before.node c.self.invariant.node c.self.invariant.remembers))
 

@@ -4,7 +4,7 @@ use Rattle.std.proofs.lemmas.List.{take_at}
 use Rattle.repl_hub.specs.Holding.{Comes, HeldHub, Holds}
 use Rattle.repl_hub.specs.Log.{IsCarried, IsRead, read_room}
 use Rattle.repl_hub.specs.declared.reply.LogRead.{LogRead}
-use Rattle.repl_hub.proofs.Nodes.{held_with, kept_behind, over_any, remembered, untold}
+use Rattle.repl_hub.proofs.Nodes.{held_with, kept_past, over_any, remembered, untold}
 use Rattle.repl_hub.proofs.Reading.{carried_sound, read_broken, read_comes, read_refused, read_told, read_wants, sound_node}
 use Rattle.repl_node.specs.State.{LeftOf, NodeState}
 use Rattle.repl_node.specs.Steps.{OfLog, SameLeft}
@@ -43,7 +43,7 @@ invariant_of-self g c =
     let state = g.D.Disk.state in
     let before : HeldHub g.row.D.Denot = record { node = c.self.inside.node; sync = c.self.inside.sync; links = c.self.inside.links.items; last = c.self.inside.last; stopped = c.self.inside.stopped } in
     let n : NodeState = untold c.self.invariant.node in
-    kept_behind {A = ReadOut} (Err c.in-Err-read.fault) (state before.node.wal.store.disk) (state c.read.new.self.wal.store.disk) before
+    kept_past {A = ReadOut} (Err c.in-Err-read.fault) (state before.node.wal.store.disk) (state c.read.new.self.wal.store.disk) before
     c.read.new.self c.self.invariant
     (OfLog n (Reads n.log c.args.tli c.args.at c.deref_mut.result.now c.read.new.room (Err c.in-Err-read.fault))) (LeftOf n (Old n.log))
     (c.in-Err-read.ensures.steps n
@@ -54,7 +54,7 @@ invariant_of-self-2 g c =
     let state = g.D.Disk.state in
     let before : HeldHub g.row.D.Denot = record { node = c.self.inside.node; sync = c.self.inside.sync; links = c.self.inside.links.items; last = c.self.inside.last; stopped = c.self.inside.stopped } in
     let n : NodeState = untold c.self.invariant.node in
-    kept_behind {A = ReadOut} (Ok c.in-Ok-read.out) (state before.node.wal.store.disk) (state c.read.new.self.wal.store.disk) before
+    kept_past {A = ReadOut} (Ok c.in-Ok-read.out) (state before.node.wal.store.disk) (state c.read.new.self.wal.store.disk) before
     c.read.new.self c.self.invariant
     (OfLog n (Reads n.log c.args.tli c.args.at c.deref_mut.result.now c.read.new.room (Ok c.in-Ok-read.out))) (LeftOf n (Old n.log))
     (c.in-Ok-read.ensures.steps n

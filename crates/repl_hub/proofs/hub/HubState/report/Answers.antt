@@ -1,9 +1,9 @@
--- No position counts behind the flushed end.
+-- No position counts past the flushed end.
 use Rattle.std.proofs.Common.{subst}
 use Rattle.repl_hub.specs.Holding.{Goes, HeldHub, Holds}
 use Rattle.repl_hub.specs.Sessions.{IsReport}
 use Rattle.repl_hub.proofs.Nodes.{held_with, kept_sync}
-use Rattle.repl_hub.proofs.Numbers.{of_report as numbers_behind}
+use Rattle.repl_hub.proofs.Numbers.{of_report as numbers_past}
 use Rattle.repl_hub.proofs.Resting.{of_report, told_end}
 use Rattle.repl_node.specs.Steps.{SameLeft}
 use Rattle.repl_hub.proofs.hub.HubState.report.Goals as goal
@@ -11,7 +11,7 @@ use Rattle.repl_hub.proofs.hub.HubState.report.Goals as goal
 pub invariant_of-self : goal.invariant_of-self
 invariant_of-self g c =
     let before : HeldHub g.row.D.Denot = record { node = c.self.inside.node; sync = c.self.inside.sync; links = c.self.inside.links.items; last = c.self.inside.last; stopped = c.self.inside.stopped } in
-    kept_sync before c.report.new.self c.self.invariant (numbers_behind c.self.inside.sync c.report.new.self c.args.session _ _ _ c.report.result c.report.ensures)
+    kept_sync before c.report.new.self c.self.invariant (numbers_past c.self.inside.sync c.report.new.self c.args.session _ _ _ c.report.result c.report.ensures)
 
 pub returns-clause-steps : goal.returns-clause-steps
 returns-clause-steps g c h =

@@ -1,4 +1,4 @@
--- No position counts behind the flushed end.
+-- No position counts past the flushed end.
 use Rattle.std.proofs.Common.{◌≡◌, ◌∙◌, ap, map, min, ℕ, subst}
 use Rattle.repl_hub.specs.Holding.{Goes, HeldHub, Holds}
 use Rattle.repl_hub.specs.Slots.{IsSlotConfirm}

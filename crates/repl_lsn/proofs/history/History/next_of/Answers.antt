@@ -1,4 +1,4 @@
--- The part behind the one with the number, or the own timeline behind the last.
+-- The part after the one with the number, or the own timeline after the last.
 use Rattle.std.proofs.Common.{◌≡◌, ◌<◌, ◌≤◌, ◌+◌, length, get_or, refl, sym, ap, subst, ◌∙◌, arith}
 use Rattle.std.proofs.lemmas.Bool.{ltb-true, ltb-false}
 use Rattle.repl_lsn.specs.Path.{IsNext}

@@ -1,4 +1,4 @@
--- The timeline that is found stands behind those before it.
+-- The timeline that is found stands after those before it.
 use Rattle.std.proofs.Common.{◌≡◌, ◌<◌, length, get_or, sym, ◌∙◌, rules}
 use Rattle.std.proofs.lemmas.Bool.{eqb-true}
 use Rattle.repl_lsn.proofs.Timelines.{item_stands}

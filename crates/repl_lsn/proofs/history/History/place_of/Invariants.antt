@@ -8,6 +8,6 @@ abbrev pub invariant-loop-place : goal.invariant-loop-place
 invariant-loop-place l =
     record {
       parents : l.part-items ≡ l.self.parents;
-      behind : (before : List Part) (p : Part) (after : List Part) → l.self.parents ≡ before ++ p ∷ after → p.tli ≡ l.tli
+      past : (before : List Part) (p : Part) (after : List Part) → l.self.parents ≡ before ++ p ∷ after → p.tli ≡ l.tli
           → l.place ≤ length before;
     }

@@ -1,4 +1,4 @@
--- The first timeline that ends behind the position holds it.
+-- The first timeline that ends past the position holds it.
 use Rattle.std.proofs.Common.{◌≡◌, ◌<◌, length, get_or, drop, [], Some, None, refl, sym, ap, subst, inl, inr, rules, arith}
 use Rattle.std.proofs.lemmas.List.{drop_all}
 use Rattle.repl_lsn.specs.Path.{IsOn, Holds}

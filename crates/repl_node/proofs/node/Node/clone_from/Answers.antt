@@ -23,7 +23,7 @@ use Rattle.repl_node.specs.Holding.{AllStore, HeldNode, Holds, Remembers}
 use Rattle.repl_node.specs.Making.{IsCleared, IsClearing, mounted_node}
 use Rattle.repl_node.proofs.Begun.{is_some_as, known_on, some_folder, without_slots}
 use Rattle.repl_node.proofs.Copied.{source_left}
-use Rattle.repl_node.proofs.Copying.{copying_cleared, copying_moments, joint, known_behind, passed}
+use Rattle.repl_node.proofs.Copying.{copying_cleared, copying_moments, joint, known_past, passed}
 use Rattle.repl_node.proofs.node.Node.clone_from.Goals as goal
 
 -- the node of a log that is so, without slots
@@ -105,7 +105,7 @@ returns-clause-moments g c n known is =
     → MatchResult c.without_slots.result (λ node. All node.wal.store.disk) (λ e. All e.1) in
     let before : HeldNode g.row.E.Denot = record { wal = c.from.inside.wal; slots = c.from.inside.slots } in
     let here : From before = λ is.
-    let copy = c.clone_from.ensures.moments n.log known (known_behind old mid folder.0 slots (g.E.Disk.state before.wal.store.disk) before.wal n.log known is) in
+    let copy = c.clone_from.ensures.moments n.log known (known_past old mid folder.0 slots (g.E.Disk.state before.wal.store.disk) before.wal n.log known is) in
     passed c.clone_from.result c.without_slots.result (λ wal. Leaves wal.store.disk × Apart wal.store.disk) (λ node. All node.wal.store.disk)
     (λ e. Leaves e.1 × Apart e.1) (λ e. All e.1) c.without_slots.ensures.made c.without_slots.ensures.refused (λ node. every node.wal.store.disk)
     (λ e. every e.1) (joint c.clone_from.result (λ wal. Leaves wal.store.disk) (λ wal. Apart wal.store.disk) (λ e. Leaves e.1) (λ e. Apart e.1) copy
@@ -127,7 +127,7 @@ returns-clause-rose g c n known is =
     let here : From before = λ is.
     refused_as c.clone_from.result c.without_slots.result Rises c.without_slots.ensures.refused
     (if_err c.clone_from.result First Rises (λ e rose same. subst (λ (k : ℕ). Rose k (state e.1).faults) c.in-Ok.ensures.caused.ok.0 (rose same))
-    (c.clone_from.ensures.rose n.log known (known_behind old mid folder.0 slots (g.E.Disk.state before.wal.store.disk) before.wal n.log known is))) in
+    (c.clone_from.ensures.rose n.log known (known_past old mid folder.0 slots (g.E.Disk.state before.wal.store.disk) before.wal n.log known is))) in
     subst From c.from.view_is here is
 
 -- ---- refusals that speak of the source

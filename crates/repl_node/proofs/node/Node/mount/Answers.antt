@@ -47,11 +47,11 @@ returns-in-Ok-mount-clause-stands g c =
 
 -- ---- what is refused
 
--- what is wrong behind right slots
-behind : (size : ℕ) (folder : Folder) (old mid : Folder → Type 0) (e : NodeFault) → ((image : Folder) → mid image → old image)
+-- what is wrong after right slots
+past : (size : ℕ) (folder : Folder) (old mid : Folder → Type 0) (e : NodeFault) → ((image : Folder) → mid image → old image)
     → IsMountRefusal size folder mid e → IsMountRefusal size folder old e
-behind size folder old mid e none (inl refused) = inl refused
-behind size folder old mid e none (inr (d, stands, wrong)) = inr (d, stands, λ all. wrong (λ image left. all image (none image left)))
+past size folder old mid e none (inl refused) = inl refused
+past size folder old mid e none (inr (d, stands, wrong)) = inr (d, stands, λ all. wrong (λ image left. all image (none image left)))
 
 pub returns-in-Err-mount-clause-refused : goal.returns-in-Err-mount-clause-refused
 returns-in-Err-mount-clause-refused g c =
@@ -63,7 +63,7 @@ returns-in-Err-mount-clause-refused g c =
     let found = told_so old.files folder (λ f. All IsMountedSlot slots.slots × Stores (entries_of slots.slots) f) tells c.in-Ok.ensures.slots.1 in
     let refused = told_so mid.files folder (λ f. IsMountRefusal VERSION_1_SIZE f mid.may_leave e) (c.in-Ok.ensures.only.stayed ∙ tells)
     c.in-Err-mount.ensures.refused in
-    inr (entries_of slots.slots, found.1, behind VERSION_1_SIZE folder old.may_leave mid.may_leave e c.in-Ok.ensures.only.none_new refused))
+    inr (entries_of slots.slots, found.1, past VERSION_1_SIZE folder old.may_leave mid.may_leave e c.in-Ok.ensures.only.none_new refused))
 
 pub returns-in-Err-clause-refused : goal.returns-in-Err-clause-refused
 returns-in-Err-clause-refused g c =

@@ -1,4 +1,4 @@
--- A new walker stands behind nothing.
+-- A new walker stands after nothing.
 use Rattle.std.proofs.Common.{refl, arith}
 use Rattle.repl_record.proofs.WalkerAtEnds.{begun}
 use Rattle.repl_record.proofs.walker.Walker.new.Goals as goal

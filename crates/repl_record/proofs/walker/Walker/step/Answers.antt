@@ -17,7 +17,7 @@ use Rattle.repl_record.proofs.walker.Walker.step.Goals as goal
 -- the pages of the rest are on the timeline, from where the walker stands
 pages_on : (old w : Walker) (timeline : ℕ → ℕ) (tli used : ℕ) (bytes : List ℕ) → Walked old w tli bytes used
     → AreOn timeline tli (position old) (length bytes) → AreOn timeline tli (position w) (length (drop used bytes))
-pages_on old w timeline tli used bytes walked on = subst (λ (p : ℕ). AreOn timeline tli p (length (drop used bytes))) (sym walked.behind)
+pages_on old w timeline tli used bytes walked on = subst (λ (p : ℕ). AreOn timeline tli p (length (drop used bytes))) (sym walked.past)
     (rest_on timeline tli (position old) used bytes walked.within on)
 
 pub returns-in-Some-image_at_once-clause-answers : goal.returns-in-Some-image_at_once-clause-answers
@@ -94,7 +94,7 @@ returns-then-is_over-clause-answers c timeline from prev log stands on =
       length-drop used bytes,
     ) in
     let whole = whole_from new timeline from prev log bytes (used + taken) size fits (omega (arith, took.0)) reached end in
-    let low : new.from ≤ 2 ^ 63 = omega (arith, reached.keeps.begins, reached.keeps.behind, took.2, walked.behind, c.requires, fits) in
+    let low : new.from ≤ 2 ^ 63 = omega (arith, reached.keeps.begins, reached.keeps.past, took.2, walked.past, c.requires, fits) in
     let next = c.begin_next.ensures.next low in
     let Same : Ident → Type 0 = λ ident. IsWhole ident timeline from prev (log ++ bytes) (start_of new.ident.size new.from) new.at in
     let Told : WalkStep → Type 0 = λ answer. Answers old.ident timeline from prev (log ++ bytes) answer in
@@ -121,12 +121,12 @@ returns-then-is_over-clause-goes_on c timeline from prev log stands on =
       length-take (length bytes - used) (drop used bytes),
       length-drop used bytes,
     ) in
-    let high : new.at ≤ 2 ^ 63 = omega (arith, took.2, walked.behind, c.requires, fits) in
-    let low : new.from ≤ 2 ^ 63 = omega (arith, reached.keeps.begins, reached.keeps.behind, high) in
+    let high : new.at ≤ 2 ^ 63 = omega (arith, took.2, walked.past, c.requires, fits) in
+    let low : new.from ≤ 2 ^ 63 = omega (arith, reached.keeps.begins, reached.keeps.past, high) in
     let next = c.begin_next.ensures.next low in
     let place : from + length log + (used + taken) ≡ new.at = omega (
       arith,
-      reached.keeps.behind,
+      reached.keeps.past,
       length-append log (take (used + taken) bytes),
       length-take (used + taken) bytes,
       fits,
@@ -154,7 +154,7 @@ returns-then-is_over-clause-passes c =
       length-drop used bytes,
     ) in
     passes_from c.args.self.now c.begin_next.new.self (length bytes) c.advance.new.self.at (used + taken) c.begin_next.result
-    c.begin_next.ensures.ended (omega (arith, took.0)) fits (omega (arith, c.begin_next.ensures.position, took.2, walked.behind))
+    c.begin_next.ensures.ended (omega (arith, took.0)) fits (omega (arith, c.begin_next.ensures.position, took.2, walked.past))
 
 pub loop-used-preserved : goal.loop-used-preserved
 loop-used-preserved c =

@@ -22,7 +22,7 @@ returns-then-any-clause-moved c timeline from prev log s =
     )) (omega arith) in
     let any = any_from_yields_List is_other _ _ c.any.result c.any.ensures.ran (YieldsList-from_slice (take taken bytes) cc) (λ x b q k.
     search (rules, tests)) in
-    let start : c.start.result ≡ start_of w.ident.size from = c.start.ensures (omega (arith, s.keeps.begins, s.keeps.behind))
+    let start : c.start.result ≡ start_of w.ident.size from = c.start.ensures (omega (arith, s.keeps.begins, s.keeps.past))
     ∙ ap (start_of w.ident.size) s.keeps.begins in
     gap_differs part (first_other (take taken bytes) (sym any ∙ c.if-any.true)) start
 

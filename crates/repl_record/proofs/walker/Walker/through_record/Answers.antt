@@ -32,7 +32,7 @@ returns-in-Err-clause-moved c timeline from prev log stands =
       c.type_inv.bytes i,
     )) (omega (arith, c.goal-goal.ensures, c.place.ensures)) in
     let begins : c.keep_record.new.self.from ≡ from = ap (λ (new : Walker). new.from) kept ∙ stands.keeps.begins in
-    let low : c.keep_record.new.self.from ≤ 2 ^ 63 = omega (arith, begins, stands.keeps.behind, c.requires.room) in
+    let low : c.keep_record.new.self.from ≤ 2 ^ 63 = omega (arith, begins, stands.keeps.past, c.requires.room) in
     let place = c.start.ensures low ∙ ap (λ (new : Walker). start_of new.ident.size new.from) kept
     ∙ ap (start_of w.ident.size) stands.keeps.begins in
     record_refused w timeline from prev log bytes taken c.start.result c.in-Err.why (omega arith) part

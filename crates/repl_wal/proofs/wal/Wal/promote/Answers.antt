@@ -9,7 +9,7 @@ use Rattle.repl_wal.specs.Promoting.{PromoteLeaves, Promotes}
 use Rattle.repl_wal.specs.State.{LogState, role_of}
 use Rattle.repl_wal.specs.declared.fault.NodeFault.TheVariants as fault
 use Rattle.repl_wal.proofs.Ending.{none_of, role_told, running, standby_not, untold, untold_holds, untouched}
-use Rattle.repl_wal.proofs.Promoting.{Begun, Chooses, Ends, behind, can_certain, can_go, childless, gone, remembers, unflushed, ungone, unlisted}
+use Rattle.repl_wal.proofs.Promoting.{Begun, Chooses, Ends, past, can_certain, can_go, childless, gone, remembers, unflushed, ungone, unlisted}
 use Rattle.repl_wal.proofs.StoreCalls.{Certain, Goes, Lists}
 use Rattle.repl_wal.proofs.wal.Wal.promote.Given.{Over}
 use Rattle.repl_wal.proofs.wal.Wal.promote.Goals.{After-known_numbers, After-path, After-stop, In-Err-child_for, In-Ok-child_for, After-drop-child-inside, In-Ok-flush, After-drop-child-inside-in-Ok-switch, After-stop-in-Err-switch}
@@ -99,15 +99,15 @@ lists g c =
       comes = is.comes;
     }
 
-pub child_for-requires-clause-behind : goal.child_for-requires-clause-behind
-child_for-requires-clause-behind g c =
+pub child_for-requires-clause-past : goal.child_for-requires-clause-past
+child_for-requires-clause-past g c =
     let state = g.D.Disk.state in
-    let at = goal.at.child_for-requires-clause-behind g c in
+    let at = goal.at.child_for-requires-clause-past g c in
     let was = old g at.After-known_numbers in
     let now = c.known_numbers.new.self in
     let n = c.self.invariant.0 in
     let holds = untold_holds (state was.store.disk) was n c.self.invariant.1 in
-    behind (state was.store.disk) (state now.disk) was now (untold n) c.args.at_least c.status-before.result (begun g at.After-known_numbers) holds c.in-Ok.known
+    past (state was.store.disk) (state now.disk) was now (untold n) c.args.at_least c.status-before.result (begun g at.After-known_numbers) holds c.in-Ok.known
     (lists g at.After-path) c.path.result.now c.last_end-whole.result c.path.ensures c.last_end-whole.ensures
 
 no_child : (g : Over) (c : In-Err-child_for g) (n : LogState)

@@ -1,6 +1,6 @@
 -- The bytes are added, or the log stays or stops.
 use Rattle.std.proofs.Common.{◌≡◌, ℕ, ◌+◌, ◌++◌, length, List, Ok, Err, refl, sym, ap, ◌∙◌, subst, arith}
-use Rattle.repl_walk.specs.Faults.{HasFault, IsFaultBehind}
+use Rattle.repl_walk.specs.Faults.{HasFault, IsFaultPast}
 use Rattle.repl_page.specs.declared.ident.Ident.{Ident}
 use Rattle.repl_record.specs.declared.answer.WalkReason.{WalkReason}
 use Rattle.repl_record.specs.Walker.{identity, last_end, last_start}
@@ -46,9 +46,9 @@ walk-requires g c =
 
 -- where a walker met it, there is a fault in the log with the bytes
 fault_found : (ident : Ident) (timeline : ℕ → ℕ) (from prev end last at : ℕ) (log : List ℕ) (why : WalkReason) (i : Ident) → i ≡ ident
-    → IsFaultBehind i timeline from prev log end last at why → HasFault ident timeline from prev log at why
-fault_found ident timeline from prev end last at log why i same behind =
-    record { end = end; last = last; behind = subst (λ (j : Ident). IsFaultBehind j timeline from prev log end last at why) same behind }
+    → IsFaultPast i timeline from prev log end last at why → HasFault ident timeline from prev log at why
+fault_found ident timeline from prev end last at log why i same past =
+    record { end = end; last = last; past = subst (λ (j : Ident). IsFaultPast j timeline from prev log end last at why) same past }
 
 pub returns-in-Err-walk-clause-steps : goal.returns-in-Err-walk-clause-steps
 returns-in-Err-walk-clause-steps g c n =
@@ -69,7 +69,7 @@ returns-in-Err-walk-clause-steps g c n =
     let on = on_own old.store.head old.walker n tli (length bytes) c.status-before.ensures.right runs.2 goes.own in
     let met = c.in-Err-walk.ensures.refuses (timeline_of n) (whole_end n) (start_kept n) (tail_of n) runs.2.walked on in
     let found = fault_found (ident_of n) (timeline_of n) (whole_end n) (start_kept n) (last_end c.walk.new.walker) (last_start c.walk.new.walker)
-    at (tail_of n ++ bytes) why (identity c.walk.new.walker) (c.in-Err-walk.ensures.ident ∙ runs.2.of_log) met.behind in
+    at (tail_of n ++ bytes) why (identity c.walk.new.walker) (c.in-Err-walk.ensures.ident ∙ runs.2.of_log) met.past in
     untouched (Err e) (state old.store.disk) old n (Receives n tli start bytes (Err e)) (Old n) (g.met.D.Disk.only_now old.store.disk) holds
     (runs.0, (goes, c.in-Ok.ensures.room, found), refl) (λ d was. was) (λ is. absurd cc) in
     subst Goes c.self.view_is here

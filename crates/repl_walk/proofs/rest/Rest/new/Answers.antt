@@ -8,7 +8,7 @@ pub returns-clause-passed : goal.returns-clause-passed
 returns-clause-passed c timeline = record {
   begins = refl;
   from_page = c.requires.page;
-  behind = omega arith;
+  past = omega arith;
   on_page = c.requires.page;
   left = omega (arith, ap length (content-nil c.args.ident.size c.args.from));
   some = c.requires.some;

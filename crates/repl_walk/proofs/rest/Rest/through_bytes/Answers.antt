@@ -1,4 +1,4 @@
--- The record's bytes go on behind the page, or end on it; then zeros follow, or a byte that is wrong.
+-- The record's bytes go on after the page, or end on it; then zeros follow, or a byte that is wrong.
 use Rattle.std.proofs.Common.{
   ◌≡◌,
   ◌≢◌,
@@ -193,4 +193,4 @@ returns-clause-answers c timeline rest from log passed on =
     (page_whole top due c.if-page-end.false (omega (arith, same, end.lower_bound)) (omega (arith, end.multiple)) all)
 
 pub returns-clause-goes_on : goal.returns-clause-goes_on
-returns-clause-goes_on c timeline rest from log passed on = omega (arith, passed.behind, ap (λ (n : Rest). n.at) c.self.view_is)
+returns-clause-goes_on c timeline rest from log passed on = omega (arith, passed.past, ap (λ (n : Rest). n.at) c.self.view_is)

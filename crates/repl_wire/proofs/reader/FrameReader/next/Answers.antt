@@ -1,4 +1,4 @@
--- What is taken of the bytes that are left is what the reader gives, and the rest is behind it.
+-- What is taken of the bytes that are left is what the reader gives, and the rest is after it.
 use Rattle.std.proofs.Common.{length, arith, ap, sym, ◌∙◌, inl, inr}
 use Rattle.repl_wire.specs.Reader.{Reading}
 use Rattle.repl_wire.proofs.Steps.{part_within, seen_given, judged_whole, only_from, took_from, given_message}
@@ -51,28 +51,28 @@ returns-in-Whole-clause-found c m e =
     c.self.inside.start c.self.inside.end c.in-Whole.used (sym c.self.view_is) within)) e
 
 pub returns-in-Whole-clause-only : goal.returns-in-Whole-clause-only
-returns-in-Whole-clause-only c m behind is at =
+returns-in-Whole-clause-only c m past is at =
     let took = took_from c.args.self.now c.self.inside.phase c.rest.result.now c.take.result (ap (λ (r : Reading). r.phase) c.self.view_is)
     c.rest.ensures.value c.take.ensures.found c.take.ensures.only c.take.ensures.exact in
-    elim (only_from c.args.self.now c.take.result m behind took is at) [
+    elim (only_from c.args.self.now c.take.result m past took is at) [
       | inl whole ↦ let e = sym c.in-Whole.is ∙ whole in inl cc
       | inr none ↦ let e = sym c.in-Whole.is ∙ none in absurd cc
     ]
 
 pub returns-in-Short-clause-only : goal.returns-in-Short-clause-only
-returns-in-Short-clause-only c m behind is at =
+returns-in-Short-clause-only c m past is at =
     let took = took_from c.args.self.now c.self.inside.phase c.rest.result.now c.take.result (ap (λ (r : Reading). r.phase) c.self.view_is)
     c.rest.ensures.value c.take.ensures.found c.take.ensures.only c.take.ensures.exact in
-    elim (only_from c.args.self.now c.take.result m behind took is at) [
+    elim (only_from c.args.self.now c.take.result m past took is at) [
       | inl whole ↦ let e = sym c.in-Short.is ∙ whole in absurd cc
       | inr none ↦ let e = sym c.in-Short.is ∙ none in absurd cc
     ]
 
 pub returns-in-Wrong-clause-only : goal.returns-in-Wrong-clause-only
-returns-in-Wrong-clause-only c m behind is at =
+returns-in-Wrong-clause-only c m past is at =
     let took = took_from c.args.self.now c.self.inside.phase c.rest.result.now c.take.result (ap (λ (r : Reading). r.phase) c.self.view_is)
     c.rest.ensures.value c.take.ensures.found c.take.ensures.only c.take.ensures.exact in
-    elim (only_from c.args.self.now c.take.result m behind took is at) [
+    elim (only_from c.args.self.now c.take.result m past took is at) [
       | inl whole ↦ let e = sym c.in-Wrong.is ∙ whole in absurd cc
       | inr none ↦ let e = sym c.in-Wrong.is ∙ none in absurd cc
     ]

@@ -1,6 +1,6 @@
 ghost use Rattle.std.specs.Prelude.{◌≡◌, ◌≢◌, ◌+◌, ◌^◌, ◌≤◌, ◌↔◌, ◌++◌, ℕ, List, length, IsOk, IfErr, IfSome, OnOk};
 ghost use Rattle.repl_record.specs.Walker.{AreOn, identity, position};
-ghost use Rattle.repl_walk.specs.Anywhere.{HasRefusedBehindAny, HasWalkedBehindAny, IsPrefixBehindAny, IsPrevFault};
+ghost use Rattle.repl_walk.specs.Anywhere.{HasRefusedPastAny, HasWalkedPastAny, IsPrefixPastAny, IsPrevFault};
 
 use crate::pieces::{WalkFault, walk};
 use repl_lsn::{Lsn, Tli};
@@ -8,20 +8,20 @@ use repl_record::{WalkReason, Walker};
 
 /// Takes a whole piece of a log of which the beginning is gone, as `walk` does: of the first record, whose image begins at
 /// `from`, it does not judge where the record before starts. Takes no memory.
-pub fn walk_behind_any(
+pub fn walk_past_any(
     walker: &mut Walker,
     from: Lsn,
     tli: Tli,
     bytes: &[u8],
 ) -> Result<(), WalkFault>
     requires { position walker.old + length bytes.now ≤ 2 ^ 63 }
-    // All bytes from there on are a prefix of records behind some record, or the piece is refused.
-    ensures exact { (timeline : ℕ → ℕ) (log : List ℕ) → HasWalkedBehindAny walker.old timeline from log → AreOn timeline tli (position walker.old) (length bytes.now)
-        → IsOk result ↔ IsPrefixBehindAny (identity walker.old) timeline from (log ++ bytes.now) }
-    ensures goes_on { OnOk result ((timeline : ℕ → ℕ) (log : List ℕ) → HasWalkedBehindAny walker.old timeline from log → AreOn timeline tli (position walker.old) (length bytes.now)
-        → HasWalkedBehindAny walker.new timeline from (log ++ bytes.now)) }
-    ensures refuses { IfErr result (λ fault. (timeline : ℕ → ℕ) (log : List ℕ) → HasWalkedBehindAny walker.old timeline from log → AreOn timeline tli (position walker.old) (length bytes.now)
-        → HasRefusedBehindAny walker.new timeline from (log ++ bytes.now) fault.at fault.why) }
+    // All bytes from there on are a prefix of records after some record, or the piece is refused.
+    ensures exact { (timeline : ℕ → ℕ) (log : List ℕ) → HasWalkedPastAny walker.old timeline from log → AreOn timeline tli (position walker.old) (length bytes.now)
+        → IsOk result ↔ IsPrefixPastAny (identity walker.old) timeline from (log ++ bytes.now) }
+    ensures goes_on { OnOk result ((timeline : ℕ → ℕ) (log : List ℕ) → HasWalkedPastAny walker.old timeline from log → AreOn timeline tli (position walker.old) (length bytes.now)
+        → HasWalkedPastAny walker.new timeline from (log ++ bytes.now)) }
+    ensures refuses { IfErr result (λ fault. (timeline : ℕ → ℕ) (log : List ℕ) → HasWalkedPastAny walker.old timeline from log → AreOn timeline tli (position walker.old) (length bytes.now)
+        → HasRefusedPastAny walker.new timeline from (log ++ bytes.now) fault.at fault.why) }
     ensures ident { identity walker.new ≡ identity walker.old }
     ensures passes { OnOk result (position walker.new ≡ position walker.old + length bytes.now) }
 {
@@ -37,8 +37,8 @@ pub fn walk_behind_any(
     if walker.last_end().0 != from.0 {
         return Err(fault);
     }
-    // The first record tells where the one before starts: it is walked over behind that one.
-    *walker = before.behind(found);
+    // The first record tells where the one before starts: it is walked over after that one.
+    *walker = before.past(found);
     walk(walker, tli, bytes)
 }
 

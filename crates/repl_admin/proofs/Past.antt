@@ -1,4 +1,4 @@
--- What is flushed behind the whole end: where the log is one, it is right, and then no damage of it can be told.
+-- What is flushed past the whole end: where the log is one, it is right, and then no damage of it can be told.
 use Rattle.std.proofs.Common.{◌≡◌, ◌-◌, ℕ, List, take, drop, ◌∙◌, ap, subst, arith}
 use Rattle.std.proofs.lemmas.List.{append-nil, length-drop, take_all}
 use Rattle.repl_control.specs.declared.control.TheConstants.{VERSION_1_SIZE}

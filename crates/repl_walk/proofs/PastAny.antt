@@ -1,4 +1,4 @@
--- A log behind a record that is not known: one start of that record fits at most, and the first record tells it.
+-- A log after a record that is not known: one start of that record fits at most, and the first record tells it.
 use Rattle.std.proofs.Common.{◌≡◌, ◌≢◌, ℕ, ◌-◌, ◌%◌, ◌<◌, ◌≤◌, List, ◌++◌, length, take, drop, refl, sym, ap, ◌∙◌, subst, inl, inr, arith}
 use Rattle.std.proofs.lemmas.Bool.{cases_lt, cases_order}
 use Rattle.std.proofs.lemmas.List.{length-take-le, take-append-le, take-take, take_all, take_at}
@@ -19,11 +19,11 @@ use Rattle.repl_record.proofs.ImageRightFields.{IsBegun, prev_begun}
 use Rattle.repl_record.proofs.ImageRightFronts.{image_begun, image_not_over, image_over}
 use Rattle.repl_record.proofs.LogChains.{first_record, same_last}
 use Rattle.repl_record.proofs.LogEnds.{from_le, kept_by_more}
-use Rattle.repl_walk.specs.Faults.{IsFaultBehind}
+use Rattle.repl_walk.specs.Faults.{IsFaultPast}
 use Rattle.repl_walk.specs.Walks.{HasRefused, HasWalked}
 use Rattle.repl_walk.proofs.Faults.{fault_greatest}
 
--- ---- faults behind another record
+-- ---- faults after another record
 
 -- what has no records is the beginning of one
 pub no_records : (ident : Ident) (timeline : ℕ → ℕ) (from prev : ℕ) (log : List ℕ) → (records : IsPrefixOfRecords ident timeline from prev log)
@@ -44,10 +44,10 @@ wrong_no_prefix ident timeline from prev n log reason size_is eight within opene
       | inl none ↦ (no_records ident timeline from prev log records none n (omega arith)).1 reason fault
       | inr first ↦ elim (cases_lt first.n n) [
         | inl before ↦ opened first.n before (image_over ident timeline from prev first.item (take first.n log) size_is first.image)
-        | inr behind ↦
+        | inr past ↦
             let counted = length-take-le first.n log first.within in
             image_right ident timeline from prev n first.item (take first.n log) size_is eight first.image (omega arith) reason
-            (subst (λ (t : List ℕ). IsFaultAt ident timeline from prev t reason) (sym (take-take n first.n log behind)) fault)
+            (subst (λ (t : List ℕ). IsFaultAt ident timeline from prev t reason) (sym (take-take n first.n log past)) fault)
       ]
     ]
 
@@ -85,7 +85,7 @@ told_prev ident timeline from prev other a b log size_is first second =
     sym (prev_begun other b bytes second.follows two (omega (arith, over.right, over.all)))
     ∙ prev_begun prev a bytes first.follows one (omega (arith, over.right, over.all))
 
--- so behind the first record that ends, it is known
+-- so after the first record that ends, it is known
 pub one_prev : (ident : Ident) (timeline : ℕ → ℕ) (from prev other end last : ℕ) (log : List ℕ) → IsSegSize ident.size → from < end
     → RecordEnd ident timeline from prev log end last → IsPrefixOfRecords ident timeline from other log → other ≡ prev
 one_prev ident timeline from prev other end last log size_is some ends records =
@@ -104,21 +104,21 @@ one_prev ident timeline from prev other end last log size_is some ends records =
 
 -- ---- a walk that met a fault
 
--- a fault that does not tell the record before is one behind each
-pub fault_behind : (ident : Ident) (timeline : ℕ → ℕ) (from prev other : ℕ) (log : List ℕ) (reason : WalkReason)
+-- a fault that does not tell the record before is one after each
+pub fault_past : (ident : Ident) (timeline : ℕ → ℕ) (from prev other : ℕ) (log : List ℕ) (reason : WalkReason)
     → ((found expected : ℕ) → reason ≢ why.Prev found expected) → IsFaultAt ident timeline from prev log reason
     → IsFaultAt ident timeline from other log reason
-fault_behind ident timeline from prev other log (why.Page fault) unlike is = is
-fault_behind ident timeline from prev other log (why.Length found) unlike is = is
-fault_behind ident timeline from prev other log (why.Prev found expected) unlike is = absurd (unlike found expected refl)
-fault_behind ident timeline from prev other log why.Reserved unlike is = is
-fault_behind ident timeline from prev other log (why.Checksum found computed) unlike is = is
-fault_behind ident timeline from prev other log why.Padding unlike is = is
+fault_past ident timeline from prev other log (why.Page fault) unlike is = is
+fault_past ident timeline from prev other log (why.Length found) unlike is = is
+fault_past ident timeline from prev other log (why.Prev found expected) unlike is = absurd (unlike found expected refl)
+fault_past ident timeline from prev other log why.Reserved unlike is = is
+fault_past ident timeline from prev other log (why.Checksum found computed) unlike is = is
+fault_past ident timeline from prev other log why.Padding unlike is = is
 
 -- the fault of the first record
 pub first_fault : {ident : Ident} {timeline : ℕ → ℕ} {from prev : ℕ} {log : List ℕ} {end last at : ℕ} {reason : WalkReason}
     → IsSegSize ident.size
-    → from % 8 ≡ 0 → IsFaultBehind ident timeline from prev log end last at reason → end ≡ from
+    → from % 8 ≡ 0 → IsFaultPast ident timeline from prev log end last at reason → end ≡ from
     → IsFirstFault ident timeline from prev log at reason
 first_fault {ident = ident} {timeline = timeline} {from = from} {prev = prev} {log = log} {end = end} {last = last} {at = at} {reason =
     reason}
@@ -131,22 +131,22 @@ first_fault {ident = ident} {timeline = timeline} {from = from} {prev = prev} {l
     is.fault))
 
 -- no start of the record before fits where the first record has another fault, or a record was whole
-pub refused_behind_any : (w : Walker) (timeline : ℕ → ℕ) (from prev other at : ℕ) (reason : WalkReason) (log : List ℕ)
+pub refused_past_any : (w : Walker) (timeline : ℕ → ℕ) (from prev other at : ℕ) (reason : WalkReason) (log : List ℕ)
     → IsSegSize (identity w).size → HasRefused w timeline from prev log at reason
     → ((found expected : ℕ) → last_end w ≡ from → reason ≢ why.Prev found expected)
     → ¬ IsPrefixOfRecords (identity w) timeline from prev log → ¬ IsPrefixOfRecords (identity w) timeline from other log
-refused_behind_any w timeline from prev other at reason log size_is is unlike none records =
+refused_past_any w timeline from prev other at reason log size_is is unlike none records =
     let ident = identity w in
-    let above = from_le ident timeline from prev log (last_end w) (last_start w) is.behind.records in
+    let above = from_le ident timeline from prev log (last_end w) (last_start w) is.past.records in
     elim (cases_lt from (last_end w)) [
       | inl some ↦
-          let same = one_prev ident timeline from prev other (last_end w) (last_start w) log size_is some is.behind.records records in
+          let same = one_prev ident timeline from prev other (last_end w) (last_start w) log size_is some is.past.records records in
           none (subst (λ (p : ℕ). IsPrefixOfRecords ident timeline from p log) same records)
       | inr zero ↦
           let same : last_end w ≡ from = omega arith in
-          let fault = first_fault size_is is.aligned is.behind same in
+          let fault = first_fault size_is is.aligned is.past same in
           wrong_no_prefix ident timeline from other fault.n log reason size_is is.aligned fault.within (λ m below. (fault.first m below).0)
-          (fault_behind ident timeline from prev other (take fault.n log) reason (λ found expected. unlike found expected same) fault.fault)
+          (fault_past ident timeline from prev other (take fault.n log) reason (λ found expected. unlike found expected same) fault.fault)
           records
     ]
 
@@ -157,7 +157,7 @@ pub other_refused : (w : Walker) (timeline : ℕ → ℕ) (from prev other at fo
     → HasRefused w timeline from prev log at (why.Prev found expected) → last_end w ≡ from → other ≢ found
     → ¬ IsPrefixOfRecords (identity w) timeline from other log
 other_refused w timeline from prev other at found expected log size_is is same differs =
-    let fault = first_fault size_is is.aligned is.behind same in
+    let fault = first_fault size_is is.aligned is.past same in
     let wrong = fault.fault in
     wrong_no_prefix (identity w) timeline from other fault.n log (why.Prev found other) size_is is.aligned fault.within (λ m below.
     (fault.first m below).0) (wrong.0, wrong.1, wrong.2, refl, λ told. differs (sym told))
@@ -169,12 +169,12 @@ pub begun_anew : (before w : Walker) (timeline : ℕ → ℕ) (from prev at foun
     → ((timeline : ℕ → ℕ) (from other : ℕ) (log : List ℕ) → Stands before timeline from other log
     → length (content (identity before).size from log) < 16 → Stands new timeline from found log) → identity new ≡ identity before
     → HasWalked new timeline from found log
-begun_anew before w timeline from prev at found expected log bytes new size_is ident_is is refused same behind new_is =
+begun_anew before w timeline from prev at found expected log bytes new size_is ident_is is refused same past new_is =
     let ident = identity before in
     let size_before = subst (λ (i : Ident). IsSegSize i.size) ident_is size_is in
     let above = from_le ident timeline from prev log (last_end before) (last_start before) is.records in
     let greatest = (fault_greatest (identity w) timeline from prev (log ++ bytes) (last_end w) (last_start w) at (why.Prev found expected)
-    size_is refused.aligned refused.behind).greatest in
+    size_is refused.aligned refused.past).greatest in
     let kept = kept_by_more ident timeline from prev log bytes (last_end before) (last_start before) is.records in
     let below = greatest (last_end before) (last_start before) (subst (λ (i : Ident). RecordEnd i timeline from prev (log
     ++ bytes) (last_end
@@ -187,7 +187,7 @@ begun_anew before w timeline from prev at found expected log bytes new size_is i
     let Stood : ℕ → ℕ → ℕ → Type 0 = λ e l k. Stands before timeline e l (drop k log) in
     let stands : Stands before timeline from prev log = subst (Stood from prev) zero (subst (λ (l : ℕ). Stood from l (last_end before
     - from)) last (subst (λ (e : ℕ). Stood e (last_start before) (last_end before - from)) end is.stands)) in
-    let fault = first_fault size_is refused.aligned refused.behind same in
+    let fault = first_fault size_is refused.aligned refused.past same in
     let front = take fault.n (log ++ bytes) in
     let inside : length log < fault.n = elim (cases_lt (length log) fault.n) [
       | inl less ↦ less
@@ -209,7 +209,7 @@ begun_anew before w timeline from prev at found expected log bytes new size_is i
       short,
       fault.fault.0.count_is,
     ) in
-    let now = behind timeline from prev log stands few in
+    let now = past timeline from prev log stands few in
     let at_end : from ≡ last_end new = sym now.keeps.begins in
     let at_start : found ≡ last_start new = sym now.keeps.follows in
     let Ends : ℕ → ℕ → Type 0 = λ e l. RecordEnd (identity new) timeline from found log e l in
@@ -229,8 +229,8 @@ pub told_anew : (w new : Walker) (timeline : ℕ → ℕ) (from prev at other fo
 told_anew w new timeline from prev at other found expected seen wanted log size_is same first begins second begun =
     let size = (identity w).size in
     let new_size = subst (λ (i : Ident). IsSegSize i.size) (sym same) size_is in
-    let a = first_fault size_is first.aligned first.behind begins in
-    let b = first_fault new_size second.aligned second.behind begun in
+    let a = first_fault size_is first.aligned first.past begins in
+    let b = first_fault new_size second.aligned second.past begun in
     let wrong = subst (λ (i : Ident). IsFaultAt i timeline from found (take b.n log) (why.Prev seen wanted)) same b.fault in
     let a_is = length-take-le a.n log a.within in
     let b_is = length-take-le b.n log b.within in

@@ -2,7 +2,7 @@
 use Rattle.std.proofs.Common.{rules, ◌≤◌, ◌^◌, length, arith}
 use Rattle.repl_record.proofs.ImageLength.{end_least}
 use Rattle.repl_record.specs.Length.{image_end}
-use Rattle.repl_wal.proofs.append.lay_behind.Goals as goal
+use Rattle.repl_wal.proofs.append.lay_past.Goals as goal
 
 pub lay_out-requires-clause-below : goal.lay_out-requires-clause-below
 lay_out-requires-clause-below c =

@@ -4,7 +4,7 @@ use Rattle.std.proofs.lemmas.List.{length-map}
 use Rattle.std.specs.Prelude.{string_bytes}
 use Rattle.repl_args.specs.Words.{texts}
 use Rattle.repl_top.proofs.Tails.{one_word}
-use Rattle.repl_top.proofs.task.magic_behind.Goals as goal
+use Rattle.repl_top.proofs.task.magic_past.Goals as goal
 
 pub magic_at-requires : goal.magic_at-requires
 magic_at-requires c =
