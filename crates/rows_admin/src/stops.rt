@@ -1,7 +1,7 @@
 //! `init`, stopped at each of its calls of the disk.
 use crate::tools::{init, status, take_disk};
 use repl_disk::MemoryDisk;
-use rows_table::{Answer, Miss, joined, text};
+use rows_table::{Answer, Miss, Tally, joined, text};
 use std::alloc::Global;
 
 /// More calls of the disk than `init` makes.
@@ -12,7 +12,7 @@ const STOPS: u64 = 64;
 /// answers in a row how many they are. The words are those of `init`.
 pub fn answer(alloc: Global, how: &[u8], way: &[u8], words: &[Vec<u8>]) -> Answer {
     let keep = is_keep(way)?;
-    let mut told = Told::new(alloc);
+    let mut told = Tally::new(alloc);
     for number in 0..calls_made(alloc, words)? {
         let came = stopped(alloc, disk_that_stops(alloc, how, number)?, keep, words)?;
         told.take(alloc, came)?;
@@ -70,48 +70,5 @@ fn is_keep(way: &[u8]) -> Result<bool, Miss> {
         "keep" => Ok(true),
         "lose" => Ok(false),
         _ => Err(Miss::Words),
-    }
-}
-
-/// Answers, each with how often it came in a row.
-#[derive(Drop)]
-struct Told {
-    text: Vec<u8>,
-    last: Vec<u8>,
-    count: u64,
-}
-
-impl Told {
-    fn new(alloc: Global) -> Told {
-        Told {
-            text: Vec::new(alloc),
-            last: Vec::new(alloc),
-            count: 0,
-        }
-    }
-
-    /// Takes the next answer.
-    fn take(&mut self, alloc: Global, came: Vec<u8>) -> Result<(), Miss> {
-        if self.count > 0 && came != self.last {
-            self.put(alloc)?;
-            self.text.extend_from_slice(b", ")?;
-            self.count = 0;
-        }
-        self.last = came;
-        self.count = self.count.saturating_add(1);
-        Ok(())
-    }
-
-    /// Puts the last answer after the others.
-    fn put(&mut self, alloc: Global) -> Result<(), Miss> {
-        let head = format!(in alloc; "{} of ", self.count)?;
-        self.text.extend_from_slice(head.as_bytes())?;
-        self.text.extend_from_slice(&self.last)?;
-        Ok(())
-    }
-
-    fn end(mut self, alloc: Global) -> Answer {
-        self.put(alloc)?;
-        Ok(self.text)
     }
 }

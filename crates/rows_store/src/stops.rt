@@ -3,7 +3,7 @@ use crate::calls;
 use crate::place::Place;
 use crate::told::known;
 use repl_control::Role;
-use rows_table::{Answer, Call, Miss, joined, text};
+use rows_table::{Answer, Call, Miss, Tally, joined, text};
 use std::alloc::Global;
 
 /// More calls of the disk than a call of a store makes here.
@@ -27,7 +27,7 @@ enum Stop {
 pub fn answer(alloc: Global, how: &[u8], way: &[u8], words: &[Vec<u8>]) -> Answer {
     let keep = calls::is_keep(way)?;
     let made = calls_made(alloc, words)?;
-    let mut told = Told::new(alloc);
+    let mut told = Tally::new(alloc);
     for number in 0..made {
         let came = stopped(alloc, stop_at(how, number)?, keep, words)?;
         told.take(alloc, came)?;
@@ -55,49 +55,6 @@ fn calls_made(alloc: Global, words: &[Vec<u8>]) -> Result<u64, Miss> {
         return Err(Miss::Words);
     }
     Ok(made)
-}
-
-/// Answers, each with how often it came in a row.
-#[derive(Drop)]
-struct Told {
-    text: Vec<u8>,
-    last: Vec<u8>,
-    count: u64,
-}
-
-impl Told {
-    fn new(alloc: Global) -> Told {
-        Told {
-            text: Vec::new(alloc),
-            last: Vec::new(alloc),
-            count: 0,
-        }
-    }
-
-    /// Takes the next answer.
-    fn take(&mut self, alloc: Global, came: Vec<u8>) -> Result<(), Miss> {
-        if self.count > 0 && came != self.last {
-            self.put(alloc)?;
-            self.text.extend_from_slice(b", ")?;
-            self.count = 0;
-        }
-        self.last = came;
-        self.count = self.count.saturating_add(1);
-        Ok(())
-    }
-
-    /// Puts the last answer after the others.
-    fn put(&mut self, alloc: Global) -> Result<(), Miss> {
-        let head = format!(in alloc; "{} of ", self.count)?;
-        self.text.extend_from_slice(head.as_bytes())?;
-        self.text.extend_from_slice(&self.last)?;
-        Ok(())
-    }
-
-    fn end(mut self, alloc: Global) -> Answer {
-        self.put(alloc)?;
-        Ok(self.text)
-    }
 }
 
 /// How the last call ends with this stop, and what is mounted after a crash.

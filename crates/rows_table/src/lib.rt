@@ -14,10 +14,12 @@
 
 mod miss;
 mod table;
+mod tally;
 mod values;
 mod words;
 
 pub use miss::{Answer, Miss};
 pub use table::{Rows, count_rows};
+pub use tally::Tally;
 pub use values::{number, pieces, short, text};
 pub use words::{Call, apart, debug, is, joined, said};

@@ -43,8 +43,8 @@ enum Answer {
 impl Machine for Lines {
     ghost use Rattle.std.specs.Prelude.{◌≡◌, ◌⊎◌, ℕ, true, false, List, ◌++◌, length};
     ghost use Rattle.std.proofs.Common.{sym, true≢false};
-    ghost use Rattle.test_threads.specs.declared.turns.Ask.TheVariants.{Add, Tell, Nap};
-    ghost use Rattle.test_threads.specs.declared.turns.Answer.TheVariants.{Added, Told, Rested, NoMemory};
+    ghost use Rattle.test_system.specs.declared.turns.Ask.TheVariants.{Add, Tell, Nap};
+    ghost use Rattle.test_system.specs.declared.turns.Answer.TheVariants.{Added, Told, Rested, NoMemory};
 
     type Event = Ask;
 

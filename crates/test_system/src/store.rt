@@ -1,3 +1,4 @@
+//! A store over a folder of the system: what was written is there again when it is mounted.
 ghost use Rattle.std.specs.Prelude.{◌≡◌, IfOk, Ok};
 
 use repl_control::{Role, version_1_size};

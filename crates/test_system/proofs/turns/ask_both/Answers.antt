@@ -2,7 +2,7 @@
 use Rattle.std.proofs.Common.{Some, ap, ◌∙◌}
 use Rattle.repl_turn.specs.History.{entry, number}
 use Rattle.repl_turn.proofs.Histories.{prefix_get}
-use Rattle.test_threads.proofs.turns.ask_both.Goals as goal
+use Rattle.test_system.proofs.turns.ask_both.Goals as goal
 
 pub returns-clause-first : goal.returns-clause-first
 returns-clause-first g c =

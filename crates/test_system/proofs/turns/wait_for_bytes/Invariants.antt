@@ -1,6 +1,6 @@
 -- The pass stays one of this turn.
 use Rattle.std.proofs.Common.{◌≡◌}
-use Rattle.test_threads.proofs.turns.add_slowly.Given as goal
+use Rattle.test_system.proofs.turns.wait_for_bytes.Given as goal
 
 abbrev pub invariant-loop : goal.invariant-loop
-invariant-loop g l = l.pass.turn ≡ l.turn
+invariant-loop g l = l.pass.turn ≡ l.initial.pass.turn

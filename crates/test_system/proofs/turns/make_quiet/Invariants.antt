@@ -1,6 +1,6 @@
 -- The pass stays one of this turn.
 use Rattle.std.proofs.Common.{◌≡◌}
-use Rattle.test_threads.proofs.turns.make_quiet.Given as goal
+use Rattle.test_system.proofs.turns.make_quiet.Given as goal
 
 abbrev pub invariant-loop : goal.invariant-loop
 invariant-loop g l = l.pass.turn ≡ l.initial.pass.turn
