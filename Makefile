@@ -8,7 +8,7 @@ WORDS = $(shell cat crates/pgnode/args)
 SHOW = od -A d -t x1z -v
 
 all: bin/.tried bin/pgnode
-	@echo 'bin/pgnode is ready: make demo answers the sample session by it, README.md shows its other commands, make test runs the gate.'
+	@echo 'bin/pgnode is ready: make demo answers the sample session by it, docs/OPERATING.md shows its other commands, make test runs the gate.'
 
 # A first look: rt try builds the program without its proofs.
 bin/.tried:
