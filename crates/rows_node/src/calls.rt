@@ -1,5 +1,5 @@
 //! The calls on a node, as rows make them.
-use crate::answers::{done, end, of_slots, read, slots, status};
+use crate::answers::{done, end, of_slots, read, slots, state, status, sum};
 use bytes::Bytes;
 use repl_disk::MemoryDisk;
 use repl_lsn::{Lsn, Tli, parse_history};
@@ -18,8 +18,20 @@ pub fn answer(alloc: Global, node: &mut Node<MemoryDisk>, call: &Call) -> Answer
     if let Some([]) = call.words("slots") {
         return slots(alloc, node.slots());
     }
+    if let Some([]) = call.words("state") {
+        return state(alloc, node);
+    }
+    of_log(alloc, node, call)
+}
+
+/// Calls by which the log becomes longer, and is flushed.
+fn of_log(alloc: Global, node: &mut Node<MemoryDisk>, call: &Call) -> Answer {
     if let Some([length]) = call.words("append") {
-        return append(alloc, node, number(length)?);
+        return append(alloc, node, &record(alloc, number(length)?)?);
+    }
+    if let Some([length, first, xid, info, rmid]) = call.words("append") {
+        let item = record_of(alloc, number(length)?, [first, xid, info, rmid])?;
+        return append(alloc, node, &item);
     }
     if let Some([count, length]) = call.words("appends") {
         return appends(alloc, node, number(count)?, number(length)?);
@@ -35,10 +47,11 @@ pub fn answer(alloc: Global, node: &mut Node<MemoryDisk>, call: &Call) -> Answer
     if let Some([]) = call.words("demote") {
         return done(alloc, node.demote());
     }
-    of_log(alloc, node, call)
+    of_path(alloc, node, call)
 }
 
-fn of_log(alloc: Global, node: &mut Node<MemoryDisk>, call: &Call) -> Answer {
+/// Calls that concern timelines, or how far the log is kept.
+fn of_path(alloc: Global, node: &mut Node<MemoryDisk>, call: &Call) -> Answer {
     if let Some([at_least]) = call.words("promote") {
         return promote(alloc, node, short(at_least)?);
     }
@@ -50,15 +63,16 @@ fn of_log(alloc: Global, node: &mut Node<MemoryDisk>, call: &Call) -> Answer {
         let at = Lsn(number(at)?);
         return read_log(alloc, node, tli, at, number(room)?);
     }
+    if let Some([tli, at, room]) = call.words("sum") {
+        let tli = timeline(tli)?;
+        let at = Lsn(number(at)?);
+        return sum_log(alloc, node, tli, at, number(room)?);
+    }
     if let Some([keep]) = call.words("trim") {
         return end(alloc, node.trim(number(keep)?));
     }
     if let Some([tli]) = call.words("history") {
         return history(alloc, node, timeline(tli)?);
-    }
-    if let Some([calls]) = call.words("fuse") {
-        node.fuse(number(calls)?);
-        return said(alloc, "done");
     }
     of_list(alloc, node, call)
 }
@@ -96,7 +110,8 @@ fn of_list(alloc: Global, node: &mut Node<MemoryDisk>, call: &Call) -> Answer {
     Err(Miss::Call)
 }
 
-fn timeline(word: &[u8]) -> Result<Tli, Miss> {
+/// A timeline by its number.
+pub fn timeline(word: &[u8]) -> Result<Tli, Miss> {
     Tli::new(short(word)?).ok_or(Miss::Words)
 }
 
@@ -107,23 +122,46 @@ fn position(word: &[u8]) -> Result<Option<Lsn>, Miss> {
     }
 }
 
-/// A record whose body has so many bytes, each its place's remainder by 256.
-fn record(alloc: Global, length: u64) -> Result<RecordIn, Miss> {
+/// A number below 256.
+fn byte(word: &[u8]) -> Result<u8, Miss> {
+    u8::try_from(number(word)?).ok().ok_or(Miss::Words)
+}
+
+/// So many bytes, each one more than the one before, by 256.
+fn body(alloc: Global, length: u64, first: u8) -> Result<Bytes, Miss> {
     let mut body = Vec::new(alloc);
-    for place in 0..length {
-        body.push((place % 256) as u8)?;
+    let mut byte = first;
+    for _ in 0..length {
+        body.push(byte)?;
+        byte = byte.wrapping_add(1);
     }
+    Ok(Bytes::from_vec(body)?)
+}
+
+/// A record with a body of so many bytes, from 0 on.
+fn record(alloc: Global, length: u64) -> Result<RecordIn, Miss> {
     Ok(RecordIn {
         xid: 0,
         info: 0,
         rmid: 0,
-        body: Bytes::from_vec(body)?,
+        body: body(alloc, length, 0)?,
     })
 }
 
-fn append(alloc: Global, node: &mut Node<MemoryDisk>, length: u64) -> Answer {
-    let item = record(alloc, length)?;
-    end(alloc, node.append(alloc, &item))
+/// A record with a body of so many bytes from the first one on, and with these three numbers.
+fn record_of(alloc: Global, length: u64, words: [&Vec<u8>; 4]) -> Result<RecordIn, Miss> {
+    let [first, xid, info, rmid] = words;
+    let body = body(alloc, length, byte(first)?)?;
+    Ok(RecordIn {
+        xid: short(xid)?,
+        info: byte(info)?,
+        rmid: byte(rmid)?,
+        body,
+    })
+}
+
+fn append(alloc: Global, node: &mut Node<MemoryDisk>, item: &RecordIn) -> Answer {
+    end(alloc, node.append(alloc, item))
 }
 
 /// Appends so many such records, and flushes them.
@@ -162,6 +200,16 @@ fn read_log(alloc: Global, node: &mut Node<MemoryDisk>, tli: Tli, at: Lsn, room:
     }
     let mut room = vec![in alloc; 0; room as usize]?;
     read(alloc, &node.read(alloc, tli, at, &mut room))
+}
+
+/// Reads into a room of zeros, and tells how many bytes came, and the checksum of the room.
+fn sum_log(alloc: Global, node: &mut Node<MemoryDisk>, tli: Tli, at: Lsn, room: u64) -> Answer {
+    if room > ROOM {
+        return Err(Miss::Words);
+    }
+    let mut room = vec![in alloc; 0; room as usize]?;
+    let came = node.read(alloc, tli, at, &mut room);
+    sum(alloc, &came, &room)
 }
 
 fn history(alloc: Global, node: &Node<MemoryDisk>, tli: Tli) -> Answer {
