@@ -912,7 +912,7 @@ class Run:
         self.draw = Draw(seed)
         self.seed = seed
         self.of_slots = seed % 10 == 3
-        self.is_long = seed % 125 == 50
+        self.is_long = seed % 25 == 0
         self.nodes = Nodes()
         self.numbers = []
         self.lines = []
@@ -960,7 +960,7 @@ class Run:
         self.row("node 3")
         self.row("init primary")
         if self.is_long:
-            self.row("appends 16 1048000")
+            self.row("appends 16 1045400")
         for _ in range(self.draw.below(6)):
             self.row(self.append())
         self.row("flush")
@@ -989,7 +989,8 @@ class Run:
         if self.of_slots and not self.draw.one_in(4):
             return "slot"
         deeds = OF_PRIMARY if self.node.role == "Primary" else OF_STANDBY
-        return self.draw.of([deed for deed, often in deeds.items() for _ in range(often)])
+        chosen = [deed for deed, often in deeds.items() for _ in range(often)]
+        return self.draw.of(chosen + 15 * ["trim", "slot"] if self.is_long else chosen)
 
     def call(self, words):
         """A call that may call the disk; now and then with a disk that fails from one of its calls on."""
@@ -1151,7 +1152,7 @@ class Run:
     def slot_name(self):
         if self.draw.one_in(16):
             return self.draw.of(ALL_NAMES)
-        return self.draw.of(MANY_NAMES if self.of_slots else SOME_NAMES)
+        return self.draw.of(MANY_NAMES if self.of_slots else SOME_NAMES[:2] if self.is_long else SOME_NAMES)
 
     # -- crashes and copies
 
