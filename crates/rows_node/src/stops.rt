@@ -2,7 +2,7 @@
 use crate::answers::state;
 use crate::making::crash;
 use crate::nodes::{Nodes, make};
-use rows_table::{Answer, Call, Miss, joined, text};
+use rows_table::{Answer, Call, Miss, Tally, joined, text};
 use std::alloc::Global;
 
 /// More calls of the disk than a call makes here.
@@ -24,55 +24,12 @@ pub fn answer(alloc: Global, keep: bool, words: &[Vec<u8>]) -> Answer {
     if count > STOPS {
         return Err(Miss::Words);
     }
-    let mut told = Told::new(alloc);
+    let mut told = Tally::new(alloc);
     for passing in 0..count {
         told.take(alloc, stopped(alloc, passing, keep, words)?)?;
     }
     told.take(alloc, stopped(alloc, count, keep, words)?)?;
     told.end(alloc)
-}
-
-/// Answers, each with how often it came in a row.
-#[derive(Drop)]
-struct Told {
-    text: Vec<u8>,
-    last: Vec<u8>,
-    count: u64,
-}
-
-impl Told {
-    fn new(alloc: Global) -> Told {
-        Told {
-            text: Vec::new(alloc),
-            last: Vec::new(alloc),
-            count: 0,
-        }
-    }
-
-    /// Takes the next answer.
-    fn take(&mut self, alloc: Global, came: Vec<u8>) -> Result<(), Miss> {
-        if self.count > 0 && came != self.last {
-            self.put(alloc)?;
-            self.text.extend_from_slice(b", ")?;
-            self.count = 0;
-        }
-        self.last = came;
-        self.count = self.count.saturating_add(1);
-        Ok(())
-    }
-
-    /// Puts the last answer after the others.
-    fn put(&mut self, alloc: Global) -> Result<(), Miss> {
-        let head = format!(in alloc; "{} of ", self.count)?;
-        self.text.extend_from_slice(head.as_bytes())?;
-        self.text.extend_from_slice(&self.last)?;
-        Ok(())
-    }
-
-    fn end(mut self, alloc: Global) -> Answer {
-        self.put(alloc)?;
-        Ok(self.text)
-    }
 }
 
 /// How many calls of the disk the last call makes.
