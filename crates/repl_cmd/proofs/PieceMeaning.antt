@@ -104,7 +104,7 @@ bytes_small (b ∷ bs) h (suc i) = bytes_small bs (All-tail (λ b. b < 256) b bs
 pub body_means : (body : List ℕ) → All (λ b. b < 256) body → MeansOne (Body body) (text_piece (encode_lower body))
 body_means body small = λ at. (refl, decode_of-encode_lower body (bytes_small body small))
 
-pub list_means : (list : Listing) → IsListing list → MeansOne (Names list) (text_piece (names.spelling list))
+pub list_means : (list : Listing) → IsListing list → MeansOne (Names list) (text_piece (names.list_spelling list))
 list_means list is = λ at. (refl, spelling_is_read list is)
 
 pub equals_means : MeansOne (Sign equals_piece.kind) equals_piece

@@ -13,7 +13,7 @@ use Rattle.repl_token.specs.Token as lexer
 use Rattle.repl_token.proofs.HasReading.{has_reading_as}
 use Rattle.repl_token.proofs.Leading.{Leads, leads_none, leads_more, leads_on, leads_all}
 use Rattle.repl_token.proofs.OneReading.{reads_as_one}
-use Rattle.repl_cmd.specs.Token.{Lexeme, Reads, command_class, command_token}
+use Rattle.repl_cmd.specs.Token.{Lexeme, ReadsLexemes, command_class, command_token}
 use Rattle.repl_cmd.specs.Command.{Says, IsSaid, SaysCommand}
 use Rattle.repl_cmd.specs.Refusal.{Leaves, IsCommandFault, IsFaultAt}
 use Rattle.repl_cmd.specs.Walk.{Steps, Runs, IsStop, finish}
@@ -56,7 +56,7 @@ walked_stops text at s token end f w is within stop =
     let rest = has_reading_as command_class command_token end (drop end text) in
     let more = leads_more command_class command_token text w.before at token end w.leads is within in
     let tokens = w.before ++ own ∷ rest.0 in
-    let all : Reads 0 text tokens = subst (Reads 0 text) (append_assoc w.before (own ∷ []) rest.0)
+    let all : ReadsLexemes 0 text tokens = subst (ReadsLexemes 0 text) (append_assoc w.before (own ∷ []) rest.0)
     (leads_on command_class command_token text (w.before ++ own ∷ []) rest.0 end more rest.1) in
     let cause : IsFaultAt w.before (own ∷ rest.0) (length text) f = step_fault w.before s own f w.runs stop in
     record {
@@ -105,8 +105,8 @@ leaves_unread text f c l = λ h. l.stops.refused (
       (reads_as_one command_class command_token 0 text h.tokens l.tokens h.reads l.reads) h.says,
 )
 
-pub stopped_front : (text other : List ℕ) (tokens more : List Lexeme) (index : ℕ) (c : Command) → Reads 0 text tokens
-    → StopsAt IsSaid tokens index → index < length tokens → Reads 0 other (take (index + 1) tokens ++ more) → ¬ SaysCommand other c
+pub stopped_front : (text other : List ℕ) (tokens more : List Lexeme) (index : ℕ) (c : Command) → ReadsLexemes 0 text tokens
+    → StopsAt IsSaid tokens index → index < length tokens → ReadsLexemes 0 other (take (index + 1) tokens ++ more) → ¬ SaysCommand other c
 stopped_front text other tokens more index c reads stops below front =
     λ h. stops.stops below (
       more,

@@ -223,7 +223,7 @@ commit_read v =
 
 names_means : (list : Listing) → IsListing list
     → Means (alter_words ++ Names list ∷ []) (word_piece (codes "ALTER") ∷ word_piece (codes "SYSTEM") ∷ word_piece
-    (codes "SET") ∷ word_piece (codes "synchronous_standby_names") ∷ equals_piece ∷ text_piece (names.spelling list) ∷ [])
+    (codes "SET") ∷ word_piece (codes "synchronous_standby_names") ∷ equals_piece ∷ text_piece (names.list_spelling list) ∷ [])
 names_means list is = (
   keyword_means (codes "ALTER") (codes "alter") refl,
   (
@@ -247,7 +247,7 @@ names_read list is =
     (keyword_is_piece (codes "synchronous_standby_names") (omega arith) refl) in
     let equals = front_space _ _ _ (written_more _ _ _ equals_piece name equals_is_piece) in
     written_is_read _ _ _ (alter_words ++ Names list ∷ []) (command.SetNames list)
-    (front_more _ _ _ (text_piece (names.spelling list)) equals (text_is_piece (names.spelling list)))
+    (front_more _ _ _ (text_piece (names.list_spelling list)) equals (text_is_piece (names.list_spelling list)))
     (names_means list is)
     (λ said f. inl f)
 

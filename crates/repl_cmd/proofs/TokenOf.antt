@@ -21,7 +21,7 @@ use Rattle.repl_token.specs.Token.{EndsBefore, quoted}
 use Rattle.repl_token.proofs.Runs.{run_of}
 use Rattle.repl_token.proofs.Written.{IsTokenAs, read_last, one_blank}
 use Rattle.repl_token.proofs.Written as written
-use Rattle.repl_cmd.specs.Token.{Lexeme, Reads, command_class, command_token, is_space, is_word_byte, is_run_byte, run_kind}
+use Rattle.repl_cmd.specs.Token.{Lexeme, ReadsLexemes, command_class, command_token, is_space, is_word_byte, is_run_byte, run_kind}
 
 -- ---- a token in front of those that were read
 
@@ -35,8 +35,8 @@ IsToken k text spelled past = IsTokenAs command_class command_token (token_of k 
 
 read_next : (at : ℕ) (blanks spelled past : List ℕ) (k : Kind) (text : List ℕ) (tokens : List Lexeme)
     → All (λ c. is_blank (command_class c) ≡ true) blanks
-    → IsToken k text spelled past → Reads (at + length blanks + length spelled) past tokens
-    → Reads at (blanks ++ spelled ++ past) (token_of k text (at + length blanks) ∷ tokens)
+    → IsToken k text spelled past → ReadsLexemes (at + length blanks + length spelled) past tokens
+    → ReadsLexemes at (blanks ++ spelled ++ past) (token_of k text (at + length blanks) ∷ tokens)
 read_next at blanks spelled past k text tokens blank is reads = written.read_next command_class command_token at blanks spelled past
     (token_of k text) tokens blank is reads
 
@@ -163,19 +163,19 @@ tokens_from at p (q ∷ qs) = record { kind = p.kind; place = at; text = p.text 
 
 -- such a text has these tokens
 pub spaced_reads : (at : ℕ) (blanks : List ℕ) (p : Piece) (ps : List Piece) → All (λ c. is_blank (command_class c) ≡ true) blanks
-    → ArePieces (p ∷ ps) → Reads at (blanks ++ spaced p ps) (tokens_from (at + length blanks) p ps)
+    → ArePieces (p ∷ ps) → ReadsLexemes at (blanks ++ spaced p ps) (tokens_from (at + length blanks) p ps)
 spaced_reads at blanks p [] blank are = read_last command_class command_token at blanks p.spelled (token_of p.kind p.text) blank
     (are.0 [] tt)
 spaced_reads at blanks p (q ∷ qs) blank are =
     let end : ℕ = at + length blanks + length p.spelled in
     let others = spaced_reads end (32 ∷ []) q qs one_space are.1 in
-    subst (λ (bytes : List ℕ). Reads at bytes (tokens_from (at + length blanks) p (q ∷ qs)))
+    subst (λ (bytes : List ℕ). ReadsLexemes at bytes (tokens_from (at + length blanks) p (q ∷ qs)))
     (append_assoc blanks p.spelled (32 ∷ spaced q qs))
     (read_next at blanks p.spelled (32 ∷ spaced q qs) p.kind p.text (tokens_from (end + 1) q qs) blank
     (are.0 (32 ∷ spaced q qs) refl) others)
 
 -- a text from its first byte on
-pub text_reads : (p : Piece) (ps : List Piece) → ArePieces (p ∷ ps) → Reads 0 (spaced p ps) (tokens_from 0 p ps)
+pub text_reads : (p : Piece) (ps : List Piece) → ArePieces (p ∷ ps) → ReadsLexemes 0 (spaced p ps) (tokens_from 0 p ps)
 text_reads p ps are = spaced_reads 0 [] p ps no_blank are
 
 -- ---- such texts, written from their front
@@ -204,8 +204,8 @@ written_none text p ps h = record { spelled = append-nil text ∙ h.spelled; pie
 pub written_as : (text other : List ℕ) (p : Piece) (ps : List Piece) → other ≡ text → IsWritten text p ps → IsWritten other p ps
 written_as text other p ps e h = record { spelled = e ∙ h.spelled; pieces = h.pieces }
 
-pub written_reads : (text : List ℕ) (p : Piece) (ps : List Piece) → IsWritten text p ps → Reads 0 text (tokens_from 0 p ps)
-written_reads text p ps h = subst (λ (bytes : List ℕ). Reads 0 bytes (tokens_from 0 p ps)) (sym h.spelled) (text_reads p ps h.pieces)
+pub written_reads : (text : List ℕ) (p : Piece) (ps : List Piece) → IsWritten text p ps → ReadsLexemes 0 text (tokens_from 0 p ps)
+written_reads text p ps h = subst (λ (bytes : List ℕ). ReadsLexemes 0 bytes (tokens_from 0 p ps)) (sym h.spelled) (text_reads p ps h.pieces)
 
 -- the text is these tokens and a space
 pub record IsFront (text : List ℕ) (p : Piece) (ps : List Piece) : Type 0 where

@@ -17,7 +17,7 @@ use Rattle.repl_cmd.specs.declared.token.Kind.{Kind}
 use Rattle.repl_cmd.specs.declared.token.Kind.TheVariants as kind
 use Rattle.repl_text.specs.SlotName.{IsSlotName}
 use Rattle.repl_cmd.specs.Name.{IsParameterName}
-use Rattle.repl_cmd.specs.Token.{Lexeme, Reads}
+use Rattle.repl_cmd.specs.Token.{Lexeme, ReadsLexemes}
 
 -- ---- tokens with a meaning
 
@@ -216,7 +216,7 @@ IsSaid tokens = (c : Command) × Says tokens c
 -- the text says the command
 pub record SaysCommand (text : List ℕ) (c : Command) : Type 0 where
   pub tokens : List Lexeme
-  pub reads : Reads 0 text tokens
+  pub reads : ReadsLexemes 0 text tokens
   pub says : Says tokens c
 
 -- ---- what is a command

@@ -37,7 +37,7 @@ spelling (command.StartReplication slot at timeline) = codes "START_REPLICATION 
     ++ position_text at ++ timeline_words timeline
 spelling (command.Append xid body) = codes "APPEND " ++ decimal xid ++ codes " " ++ quoted 39 (encode_lower body)
 spelling (command.SetCommit v) = codes "SET synchronous_commit = " ++ setting_word v
-spelling (command.SetNames list) = codes "ALTER SYSTEM SET synchronous_standby_names = " ++ quoted 39 (names.spelling list)
+spelling (command.SetNames list) = codes "ALTER SYSTEM SET synchronous_standby_names = " ++ quoted 39 (names.list_spelling list)
 spelling (command.Promote n) = codes "PROMOTE" ++ number_word n
 spelling command.Demote = codes "DEMOTE"
 spelling command.Trim = codes "TRIM"

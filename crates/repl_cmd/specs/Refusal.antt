@@ -8,7 +8,7 @@ use Rattle.repl_cmd.specs.declared.fault.CmdFault.TheVariants as fault
 use Rattle.repl_cmd.specs.declared.fault.Unsupported.{Unsupported}
 use Rattle.repl_cmd.specs.declared.fault.Unsupported.TheVariants as unsupported
 use Rattle.repl_cmd.specs.declared.token.Kind.TheVariants as kind
-use Rattle.repl_cmd.specs.Token.{Lexeme, Reads}
+use Rattle.repl_cmd.specs.Token.{Lexeme, ReadsLexemes}
 use Rattle.repl_cmd.specs.Command.{Keyword, Position, OneOf, IsSaid, IsKeyword, IsNaming, IsJudged, create_words, start_words, start_forms, alter_words}
 
 -- ---- what is wanted after tokens
@@ -79,7 +79,7 @@ IsFaultAt before (t ∷ past) end f = IsFaultOf before t f
 pub record Leaves (text : List ℕ) (f : CmdFault) : Type 0 where
   pub tokens : List Lexeme
   pub index : ℕ
-  pub reads : Reads 0 text tokens
+  pub reads : ReadsLexemes 0 text tokens
   pub stops : StopsAt IsSaid tokens index
   pub cause : IsFaultAt (take index tokens) (drop index tokens) (length text) f
 

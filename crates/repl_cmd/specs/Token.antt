@@ -75,5 +75,5 @@ abbrev pub command_token : RawToken → Lexeme
 command_token t = record { kind = kind_of t.kind t.text; place = t.place; text = t.text }
 
 -- these bytes, which begin at this place, are these tokens and blanks
-abbrev pub Reads : ℕ → List ℕ → List Lexeme → Type 0
-Reads at bytes tokens = ReadsAs command_class command_token at bytes tokens
+abbrev pub ReadsLexemes : ℕ → List ℕ → List Lexeme → Type 0
+ReadsLexemes at bytes tokens = ReadsAs command_class command_token at bytes tokens

@@ -1,7 +1,7 @@
 ghost use Rattle.std.specs.Prelude.{◌≡◌, ℕ, ◌+◌, ◌<◌, List, ◌++◌, length, take};
 ghost use Rattle.repl_text.specs.Language.{StopsAt};
 ghost use Rattle.repl_cmd.specs.declared.command.Command.{Command};
-ghost use Rattle.repl_cmd.specs.Token.{Lexeme, Reads};
+ghost use Rattle.repl_cmd.specs.Token.{Lexeme, ReadsLexemes};
 ghost use Rattle.repl_cmd.specs.Command.{IsCommand, SaysCommand, IsSaid};
 ghost use Rattle.repl_cmd.specs.Printing.{spelling};
 
@@ -19,6 +19,6 @@ pub fn one_command()
 /// Where a text leaves the grammar at a token, no text that has the same tokens up to there and that one says a
 /// command.
 pub fn refused_front()
-    ensures { (text other : List ℕ) (tokens more : List Lexeme) (index : ℕ) (c : Command) → Reads 0 text tokens →
-        StopsAt IsSaid tokens index → index < length tokens → Reads 0 other (take (index + 1) tokens ++ more) → ¬ SaysCommand other c }
+    ensures { (text other : List ℕ) (tokens more : List Lexeme) (index : ℕ) (c : Command) → ReadsLexemes 0 text tokens →
+        StopsAt IsSaid tokens index → index < length tokens → ReadsLexemes 0 other (take (index + 1) tokens ++ more) → ¬ SaysCommand other c }
 {}

@@ -2,7 +2,7 @@
 ghost use Rattle.std.specs.Prelude.{◌≡◌, ◌++◌, ◌<◌, All, IfOk, decimal};
 ghost use Rattle.hex.specs.Hex.{encode_lower};
 ghost use Rattle.repl_lsn.specs.Position.{position_text};
-ghost use Rattle.repl_names.specs.StandbyList.{IsListing, spelling};
+ghost use Rattle.repl_names.specs.StandbyList.{IsListing, list_spelling};
 ghost use Rattle.repl_token.specs.Token.{quoted};
 ghost use Rattle.repl_cmd.specs.Command.{IsTimeline, IsSlotOf};
 ghost use Rattle.repl_text.specs.SlotName.{IsSlotName};
@@ -125,7 +125,7 @@ pub(crate) fn put_names(
     out: &mut Vec<u8>,
     list: &StandbyList,
 ) -> Result<(), AllocError>
-    ensures exact { IfOk result (λ _. out.new.items ≡ out.old.items ++ quoted 39 (spelling list.now)) }
+    ensures exact { IfOk result (λ _. out.new.items ≡ out.old.items ++ quoted 39 (list_spelling list.now)) }
     ensures listing { IfOk result (λ _. IsListing list.now) }
 {
     let text = print_names(alloc, list)?;

@@ -16,9 +16,7 @@ pub const VERSION_1_SIZE: u32 = 16_777_216;
 const _: () = prove!(VERSION_1_SIZE == 16_777_216);
 
 /// The last position up to which bytes are flushed: 2^63.
-pub const FLUSHED_LIMIT: u64 = 1 << 63;
-
-const _: () = prove!(FLUSHED_LIMIT == 9_223_372_036_854_775_808);
+const FLUSHED_LIMIT: u64 = 1 << 63;
 
 /// The size of segments in a store whose control is of version 1.
 pub fn version_1_size() -> SegSize

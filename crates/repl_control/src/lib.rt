@@ -20,7 +20,7 @@ mod laws;
 mod read;
 mod write;
 
-pub use control::{CONTROL_SIZE, Control, FLUSHED_LIMIT, Role, VERSION_1_SIZE, version_1_size};
+pub use control::{CONTROL_SIZE, Control, Role, VERSION_1_SIZE, version_1_size};
 pub use fault::ControlFault;
 pub use laws::{one_control, one_control_fault, one_spelling, spelled_or_wrong, written_spells};
 pub use read::read_control;

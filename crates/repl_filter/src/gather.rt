@@ -12,12 +12,10 @@ use std::alloc::{AllocError, Global};
 pub const GATHER_LIMIT: usize = 65_537;
 
 /// The most reads of an input that is gathered: more than 2^62 of them are quiet where all are made.
-pub const TURNS: u64 = (1 << 62) + GATHER_LIMIT as u64;
+const TURNS: u64 = (1 << 62) + GATHER_LIMIT as u64;
 
-// The contracts take these from the code, so each is held to its number here.
+// The contracts take the limit from the code, so it is held to its number here.
 const _: () = prove!(GATHER_LIMIT == 65_537);
-
-const _: () = prove!(TURNS == 4_611_686_018_427_453_441);
 
 /// The most bytes of one read.
 const ROOM: usize = 8_192;

@@ -20,4 +20,4 @@ mod gather;
 
 pub use conversion::{Converted, convert};
 pub use converter::{Converter, Refused};
-pub use gather::{GATHER_LIMIT, TURNS};
+pub use gather::GATHER_LIMIT;

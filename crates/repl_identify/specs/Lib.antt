@@ -1,4 +1,3 @@
-pub mod Stream
 pub mod Session
 pub mod Apart
 pub mod Answer

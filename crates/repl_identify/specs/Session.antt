@@ -11,11 +11,10 @@ use Rattle.repl_message.specs.declared.message.Message.TheVariants as message
 use Rattle.repl_message.specs.declared.message.Side.TheVariants as side
 use Rattle.repl_message.specs.Lists.{IsLast}
 use Rattle.repl_message.specs.Message.{Spells}
-use Rattle.repl_wire.specs.Reader.{AreRead}
+use Rattle.repl_wire.specs.Reader.{AreRead, AreAll}
 use Rattle.repl_cmd.specs.declared.command.Command.TheVariants as command
 use Rattle.repl_cmd.specs.Command as commands
 use Rattle.repl_text.specs.Language.{Begins}
-use Rattle.repl_identify.specs.Stream.{AreAll}
 
 -- the values of `replication` that ask for physical replication
 abbrev pub IsTrueValue : List ℕ → Type 0

@@ -23,7 +23,7 @@ mod source;
 mod std_stream;
 mod steady;
 
-pub use link::{Link, send_all};
+pub use link::Link;
 pub use script::{LinkStep, ScriptLink};
 pub use sink::{Put, Sent, Sink, write_all};
 pub use source::{Got, Source};

@@ -1,8 +1,7 @@
 ghost use Rattle.std.specs.Prelude.{◌≡◌};
-ghost use Rattle.repl_io.specs.Sink.{Sends};
 
 use crate::script::ScriptLink;
-use crate::sink::{Put, Sent, Sink};
+use crate::sink::Sink;
 use crate::source::Source;
 use crate::steady::SteadyLink;
 
@@ -25,20 +24,4 @@ impl Link for ScriptLink {
     ghost reads_keep = { λ s t kept. kept };
 
     ghost writes_keep = { λ s t kept. kept };
-}
-
-/// Writes all the bytes to a link, as `write_all` does to a sink, and leaves its reading side as it was.
-pub fn send_all<L: Link>(link: &mut L, bytes: &[u8]) -> Sent
-    ensures sends { Sends result bytes.now (L.sink link.old) (L.sink link.new) }
-    ensures source { L.source link.new ≡ L.source link.old }
-{
-    let mut start = 0;
-    while start < bytes.len() {
-        match link.write(&bytes[start..]) {
-            Put::Wrote(n) => start += n,
-            Put::Failed => return Sent::Failed,
-            Put::Memory => return Sent::Memory,
-        }
-    }
-    Sent::All
 }

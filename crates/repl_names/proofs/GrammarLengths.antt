@@ -8,7 +8,7 @@ use Rattle.std.proofs.lemmas.Fmt.{length-decimal-le, decimal_is_IsNumeral}
 use Rattle.std.proofs.lemmas.Int.Digits.{digits_value-lt}
 use Rattle.repl_token.specs.Token.{doubled, quoted}
 use Rattle.repl_names.specs.declared.list.Method.{Method}
-use Rattle.repl_names.specs.StandbyList.{method_spelling, spelling, name_spelling, names_spelling}
+use Rattle.repl_names.specs.StandbyList.{method_spelling, list_spelling, name_spelling, names_spelling}
 
 pub decimal_length : (n k : ℕ) → 10 ^ k ≤ n → n < 10 * 10 ^ k → n < 2 ^ 64 → length (decimal n) ≡ k + 1
 decimal_length n k low high small =
@@ -55,7 +55,7 @@ names_length_is name (next ∷ names) =
     omega (arith, spelled, lengths, length-append (name_spelling name) (codes ", "), names_length_is next names)
 
 pub spelling_length_is : (m : Method) (n : ℕ) (names : List (List ℕ)) → 0 < length names
-    → length (spelling (record { method = m; number = n; names = names })) ≡ sum_by (λ n. length (name_spelling n) + 2) names +
+    → length (list_spelling (record { method = m; number = n; names = names })) ≡ sum_by (λ n. length (name_spelling n) + 2) names +
     (length (method_spelling m) + length (decimal n) + 2)
 spelling_length_is m n [] l = absurd (omega arith)
 spelling_length_is m n (name ∷ names) l =

@@ -6,7 +6,7 @@ use Rattle.repl_names.specs.declared.list.Method.{Method}
 use Rattle.repl_names.specs.declared.list.TheConstants.{NUMBER_LIMIT, SPELLING_LIMIT}
 use Rattle.repl_names.specs.declared.fault.NamesFault.{NamesFault}
 use Rattle.repl_names.specs.declared.fault.NamesFault.TheVariants as fault
-use Rattle.repl_names.specs.StandbyList.{Listing, Demands, spelling}
+use Rattle.repl_names.specs.StandbyList.{Listing, Demands, list_spelling}
 use Rattle.repl_names.specs.Token.{list_class, list_token}
 use Rattle.repl_names.specs.Grammar.{AreNames, Says, value_of, Spells, SaysList, Leaves, SaysNumber, SaysLength, IsListFault}
 use Rattle.repl_names.proofs.GrammarSays.{say_same}
@@ -82,7 +82,7 @@ number_read text list place n r s =
 length_read : (text : List ℕ) (list : Listing) (n : ℕ) → SaysList text list → SaysLength text n → n ≤ SPELLING_LIMIT
 length_read text list n r s =
     let e = spells_one text s.list list s.spells r.spells in
-    omega (arith, r.is_listing.short, s.size, ap (λ l. length (spelling l)) e)
+    omega (arith, r.is_listing.short, s.size, ap (λ l. length (list_spelling l)) e)
 
 pub refused_unread : (text : List ℕ) (list : Listing) (f : NamesFault) → SaysList text list → IsListFault text f → f ≡ fault.Memory
 refused_unread text list (fault.Syntax place) r (index, tokens, l, o) = absurd (leaves_unread text list place index tokens r l)

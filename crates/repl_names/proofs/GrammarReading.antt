@@ -8,8 +8,8 @@ use Rattle.repl_names.specs.declared.list.TheConstants.{SPELLING_LIMIT}
 use Rattle.repl_names.specs.declared.fault.NamesFault.{NamesFault}
 use Rattle.repl_names.specs.declared.fault.NamesFault.TheVariants as fault
 use Rattle.repl_names.specs.declared.grammar.Shape.{Shape}
-use Rattle.repl_names.specs.StandbyList.{Listing, IsListing, Demands, spelling}
-use Rattle.repl_names.specs.Token.{Reads}
+use Rattle.repl_names.specs.StandbyList.{Listing, IsListing, Demands, list_spelling}
+use Rattle.repl_names.specs.Token.{ReadsListTokens}
 use Rattle.repl_names.specs.Grammar.{Says, IsSaid, value_of, Spells, SaysList, IsListFault}
 use Rattle.repl_names.specs.Walk.{kind_at, shape_from, said_number, said_names, IsFaultOf, HaveDigits, IsTooLong, IsNumberOf}
 use Rattle.repl_names.proofs.GrammarSays.{shape_says}
@@ -19,18 +19,18 @@ use Rattle.repl_names.proofs.GrammarLists.{names_some, says_some, number_demands
 -- ---- the number
 
 digits_from : (text : List ℕ) (tokens : List Token) (m : Method) (index : ℕ) (o : Option Token) (names : List (List ℕ))
-    → Reads 0 text tokens → slice_get tokens index ≡ o → Says tokens m o names → HaveDigits o
+    → ReadsListTokens 0 text tokens → slice_get tokens index ≡ o → Says tokens m o names → HaveDigits o
 digits_from text tokens m index None names r e s = tt
 digits_from text tokens m index (Some number) names r e s = reads_number 0 text tokens index number r e
     (says_number_kind tokens m number names s)
 
-pub number_digits : (text : List ℕ) (tokens : List Token) (m : Method) (index : Option ℕ) (names : List (List ℕ)) → Reads 0 text tokens
+pub number_digits : (text : List ℕ) (tokens : List Token) (m : Method) (index : Option ℕ) (names : List (List ℕ)) → ReadsListTokens 0 text tokens
     → Says tokens m (said_number tokens index) names → HaveDigits (said_number tokens index)
 number_digits text tokens m None names r s = tt
 number_digits text tokens m (Some index) names r s = digits_from text tokens m index (slice_get tokens index) names r refl s
 
 pub fault_refused : (text : List ℕ) (tokens : List Token) (m : Method) (number : Option Token) (names : List (List ℕ)) (f : NamesFault)
-    → Reads 0 text tokens → Says tokens m number names → IsFaultOf number f → IsListFault text f
+    → ReadsListTokens 0 text tokens → Says tokens m number names → IsFaultOf number f → IsListFault text f
 fault_refused text tokens m (Some number) names (fault.Zero place) r s i =
     record { tokens = tokens; m = m; number = number; names = names; reads = r; says = s; place = i.0; value = sym i.1 }
 fault_refused text tokens m (Some number) names (fault.TooLarge place) r s i = (
@@ -78,7 +78,7 @@ pub tokens_demand : (tokens : List Token) (m : Method) (number : Option Token) (
 tokens_demand tokens m number names said n e s i = demands_said tokens m number names n (subst (Says tokens m number) (sym e) s) i
 
 pub tokens_spell : (text : List ℕ) (tokens : List Token) (m : Method) (number : Option Token) (names said : List (List ℕ)) (n : ℕ)
-    → Reads 0 text tokens → names ≡ said → Says tokens m number said → IsNumberOf tokens number n
+    → ReadsListTokens 0 text tokens → names ≡ said → Says tokens m number said → IsNumberOf tokens number n
     → Spells text (record { method = m; number = n; names = names })
 tokens_spell text tokens m number names said n r e s i =
     let says = subst (Says tokens m number) (sym e) s in
@@ -86,12 +86,12 @@ tokens_spell text tokens m number names said n r e s i =
 
 -- the length decides
 pub listing_of : (m : Method) (n : ℕ) (judged names : List (List ℕ)) (have : ℕ) → judged ≡ names → All IsText judged → Demands names m n
-    → have ≡ min (length (spelling (record { method = m; number = n; names = judged }))) (2 ^ 64 - 1) → have ≤ SPELLING_LIMIT
+    → have ≡ min (length (list_spelling (record { method = m; number = n; names = judged }))) (2 ^ 64 - 1) → have ≤ SPELLING_LIMIT
     → IsListing (record { method = m; number = n; names = names })
 listing_of m n judged names have e t d s l = record {
   texts = subst (All IsText) e t;
   demands = d;
-  short = omega (arith, ap (λ (ns : List (List ℕ)). length (spelling (record { method = m; number = n; names = ns }))) e);
+  short = omega (arith, ap (λ (ns : List (List ℕ)). length (list_spelling (record { method = m; number = n; names = ns }))) e);
 }
 
 abbrev pub list : Method → ℕ → List (List ℕ) → Listing
@@ -105,7 +105,7 @@ list_read text list (Err f) s i = i
 too_long : (text : List ℕ) (list : Listing) (f : NamesFault) → Spells text list → Demands list.names list.method list.number
     → IsTooLong list f → IsListFault text f
 too_long text list (fault.TooLong have) s d i = (
-  length (spelling list),
+  length (list_spelling list),
   record {
     list = list;
     spells = s;
@@ -131,10 +131,10 @@ only_read text (Err f) o e list i = inr (ap (λ x. Err x) (refused_unread text l
 -- ---- what is known after the judgment
 
 pub record Parsed (text : List ℕ) (tokens : List Token) (s : Shape) : Type 0 where
-  pub reads : Reads 0 text tokens
+  pub reads : ReadsListTokens 0 text tokens
   pub says : Says tokens s.method (said_number tokens s.number) (said_names (drop s.names tokens))
 
-pub parsed : (text : List ℕ) (tokens judged looked : List Token) (s : Shape) → Reads 0 text tokens → judged ≡ tokens → IsSaid judged
+pub parsed : (text : List ℕ) (tokens judged looked : List Token) (s : Shape) → ReadsListTokens 0 text tokens → judged ≡ tokens → IsSaid judged
     → looked ≡ tokens → s ≡ shape_from (kind_at looked 0) (kind_at looked 1) → Parsed text tokens s
 parsed text tokens judged looked s r d i e f = record {
   reads = r;

@@ -21,8 +21,8 @@ use Rattle.repl_names.specs.declared.list.Method.TheVariants as method
 use Rattle.repl_names.specs.declared.token.Kind.{Kind}
 use Rattle.repl_names.specs.declared.token.Kind.TheVariants as kind
 use Rattle.repl_names.specs.declared.token.Token.{Token}
-use Rattle.repl_names.specs.StandbyList.{Listing, IsListing, Demands, name_spelling, names_spelling, method_spelling, spelling_of, spelling}
-use Rattle.repl_names.specs.Token.{list_class, list_token, is_space, is_letter, sign_kind, said, Reads}
+use Rattle.repl_names.specs.StandbyList.{Listing, IsListing, Demands, name_spelling, names_spelling, method_spelling, spelling_of, list_spelling}
+use Rattle.repl_names.specs.Token.{list_class, list_token, is_space, is_letter, sign_kind, said, ReadsListTokens}
 use Rattle.repl_names.proofs.TokenKinds.{said_text}
 use Rattle.repl_names.specs.Grammar.{IsName, AreNames, Spells, SaysList, keyword, value_of}
 
@@ -40,8 +40,8 @@ IsToken k text spelled past = IsTokenAs list_class list_token (token_of k text) 
 
 read_next : (at : ℕ) (blanks spelled past : List ℕ) (k : Kind) (text : List ℕ) (tokens : List Token)
     → All (λ c. is_blank (list_class c) ≡ true) blanks
-    → IsToken k text spelled past → Reads (at + length blanks + length spelled) past tokens
-    → Reads at (blanks ++ spelled ++ past) (token_past at blanks k text ∷ tokens)
+    → IsToken k text spelled past → ReadsListTokens (at + length blanks + length spelled) past tokens
+    → ReadsListTokens at (blanks ++ spelled ++ past) (token_past at blanks k text ∷ tokens)
 read_next at blanks spelled past k text tokens blank is reads = written.read_next list_class list_token at blanks spelled past
     (token_of k text) tokens blank is reads
 
@@ -106,7 +106,7 @@ printed_name name past texts ends = by_test (bytes_eq name (codes "*")) refl
 record ReadsNames (at : ℕ) (bytes : List ℕ) (names : List (List ℕ)) : Type 0 where
   inside : List Token
   closing : Token
-  reads : Reads at bytes (inside ++ closing ∷ [])
+  reads : ReadsListTokens at bytes (inside ++ closing ∷ [])
   are_names : AreNames inside names
   closes : closing.kind ≡ kind.Closing
 
@@ -135,12 +135,12 @@ read_names at blanks (name ∷ second ∷ names) blank some texts =
     let comma : Token = token_past end [] kind.Comma [] in
     let parts : blanks ++ name_spelling name ++ 44 ∷ rest ≡ blanks ++ names_spelling (name ∷ second ∷ names) ++ codes ")" =
     simp append_assoc in
-    let reads_comma : Reads end (44 ∷ rest) (comma ∷ others.inside ++ others.closing ∷ []) =
+    let reads_comma : ReadsListTokens end (44 ∷ rest) (comma ∷ others.inside ++ others.closing ∷ []) =
     read_next end [] (codes ",") rest kind.Comma [] (others.inside ++ others.closing ∷ []) no_blank (comma_token rest) others.reads in
     record {
       inside = token_past at blanks p.kind_of name ∷ comma ∷ others.inside;
       closing = others.closing;
-      reads = subst (λ bytes. Reads at bytes (token_past at blanks p.kind_of name ∷ comma ∷ others.inside ++ others.closing ∷ [])) parts
+      reads = subst (λ bytes. ReadsListTokens at bytes (token_past at blanks p.kind_of name ∷ comma ∷ others.inside ++ others.closing ∷ [])) parts
           (read_next at blanks (name_spelling name) (44 ∷ rest) p.kind_of name
           (comma ∷ others.inside ++ others.closing ∷ []) blank p.is_token reads_comma);
       are_names = (p.is_name, refl, (second ∷ names, refl, others.are_names));
@@ -225,13 +225,13 @@ spells_some list names is some texts small =
     let chosen : Token = token_past 0 [] (keyword list.method) word in
     let tail : List ℕ = names_spelling names ++ codes ")" in
     let counted : List Token = number ∷ opening ∷ inner.inside ++ inner.closing ∷ [] in
-    let reads_opening : Reads after_number (codes " (" ++ tail) (opening ∷ inner.inside ++ inner.closing ∷ []) =
+    let reads_opening : ReadsListTokens after_number (codes " (" ++ tail) (opening ∷ inner.inside ++ inner.closing ∷ []) =
     read_next after_number (codes " ") (codes "(") tail kind.Opening [] (inner.inside ++ inner.closing ∷ []) one_space
     (opening_token tail) inner.reads in
-    let reads_number : Reads after_word (codes " " ++ digits ++ (codes " (" ++ tail)) counted =
+    let reads_number : ReadsListTokens after_word (codes " " ++ digits ++ (codes " (" ++ tail)) counted =
     read_next after_word (codes " ") digits (codes " (" ++ tail) kind.Number digits
     (opening ∷ inner.inside ++ inner.closing ∷ []) one_space (read_number list.number (40 ∷ tail) small) reads_opening in
-    let reads_word : Reads 0 (word ++ (codes " " ++ digits ++ (codes " (" ++ tail))) (chosen ∷ counted) =
+    let reads_word : ReadsListTokens 0 (word ++ (codes " " ++ digits ++ (codes " (" ++ tail))) (chosen ∷ counted) =
     read_next 0 [] word (codes " " ++ digits ++ (codes " (" ++ tail)) (keyword list.method) word counted no_blank
     (read_keyword list.method (digits ++ (codes " (" ++ tail))) reads_number in
     let parts : word ++ (codes " " ++ digits ++
@@ -239,7 +239,7 @@ spells_some list names is some texts small =
     record {
       tokens = chosen ∷ counted;
       number = Some number;
-      reads = subst (λ bytes. Reads 0 bytes (chosen ∷ counted)) parts reads_word;
+      reads = subst (λ bytes. ReadsListTokens 0 bytes (chosen ∷ counted)) parts reads_word;
       says = inr (record {
         chosen = chosen;
         others = counted;
@@ -271,5 +271,5 @@ spells list [] is texts demands = record {
 spells list (name ∷ names) is texts demands = spells_some list (name ∷ names) is (omega arith) texts (omega (arith, demands.1))
 
 -- what is printed of a list says it
-pub spelling_is_read : (list : Listing) → IsListing list → SaysList (spelling list) list
+pub spelling_is_read : (list : Listing) → IsListing list → SaysList (list_spelling list) list
 spelling_is_read list h = record { spells = spells list list.names refl h.texts h.demands; is_listing = h }

@@ -2,7 +2,7 @@
 use Rattle.std.proofs.Common.{◌≡◌, ℕ, zero, suc, ◌+◌, ◌<◌, ◌≤◌, List, [], ◌∷◌, ◌++◌, length, get_or, take, codes, bytes_eq, true, false, cond, refl, sym, ap, ◌∙◌, arith, length-append}
 use Rattle.std.proofs.lemmas.List.{append_assoc, append-nil, take_more, length-take-le}
 use Rattle.repl_token.specs.Token.{quoted}
-use Rattle.repl_names.specs.StandbyList.{Listing, name_spelling, names_spelling, spelling_of, spelling}
+use Rattle.repl_names.specs.StandbyList.{Listing, name_spelling, names_spelling, spelling_of, list_spelling}
 
 names_spelling_push : (names : List (List ℕ)) (name : List ℕ) → 0 < length names
     → names_spelling (names ++ name ∷ []) ≡ names_spelling names ++ codes ", " ++ name_spelling name
@@ -50,5 +50,5 @@ length_names_of list [] = omega arith
 length_names_of list (name ∷ names) = simp length-append (omega (arith, length_names_le (name ∷ names)))
 
 -- a list has no more names than its spelling has bytes
-pub length_names : (list : Listing) → length list.names ≤ length (spelling list)
+pub length_names : (list : Listing) → length list.names ≤ length (list_spelling list)
 length_names list = length_names_of list list.names

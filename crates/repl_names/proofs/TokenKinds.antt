@@ -17,7 +17,7 @@ use Rattle.repl_token.proofs.Runs.{run_all}
 use Rattle.repl_names.specs.declared.token.Kind.{Kind}
 use Rattle.repl_names.specs.declared.token.Kind.TheVariants as kind
 use Rattle.repl_names.specs.declared.token.Token.{Token}
-use Rattle.repl_names.specs.Token.{list_class, list_token, holds_text, kind_of, said, Reads}
+use Rattle.repl_names.specs.Token.{list_class, list_token, holds_text, kind_of, said, ReadsListTokens}
 
 -- ---- texts
 
@@ -158,7 +158,7 @@ raw_digits at bytes (t ∷ tokens) zero number (past, place, next, size, others)
 raw_digits at bytes (t ∷ tokens) (suc i) number (past, place, next, size, others) e k = raw_digits place past tokens i number others e k
 
 -- the digits of a number among the tokens of a list
-pub reads_number : (at : ℕ) (bytes : List ℕ) (tokens : List Token) (i : ℕ) (number : Token) → Reads at bytes tokens
+pub reads_number : (at : ℕ) (bytes : List ℕ) (tokens : List Token) (i : ℕ) (number : Token) → ReadsListTokens at bytes tokens
     → slice_get tokens i ≡ Some number
     → number.kind ≡ kind.Number → All (λ c. is_ascii_digit c ≡ true) number.text
 reads_number at bytes tokens i number r e k = raw_digits at bytes r.0 i number r.1 (ap (λ ts. slice_get ts i) (sym r.2) ∙ e) k

@@ -10,8 +10,8 @@ use Rattle.repl_names.specs.declared.token.Kind.TheVariants as kind
 use Rattle.repl_names.specs.declared.token.Token.{Token}
 use Rattle.repl_names.specs.declared.fault.NamesFault.{NamesFault}
 use Rattle.repl_names.specs.declared.fault.NamesFault.TheVariants as fault
-use Rattle.repl_names.specs.StandbyList.{Listing, IsListing, Demands, spelling}
-use Rattle.repl_names.specs.Token.{Reads}
+use Rattle.repl_names.specs.StandbyList.{Listing, IsListing, Demands, list_spelling}
+use Rattle.repl_names.specs.Token.{ReadsListTokens}
 
 -- a name is a word that is no keyword, a number, a quoted name or `*`
 abbrev pub IsName : Kind → Type 0
@@ -68,7 +68,7 @@ value_of None names = 1
 pub record Spells (text : List ℕ) (list : Listing) : Type 0 where
   pub tokens : List Token
   pub number : Option Token
-  pub reads : Reads 0 text tokens
+  pub reads : ReadsListTokens 0 text tokens
   pub says : Says tokens list.method number list.names
   pub value : list.number ≡ value_of number list.names
 
@@ -93,7 +93,7 @@ IsOpenAt (token ∷ tokens) (suc i) = IsOpenAt tokens i
 
 -- the text leaves the grammar at the token with this index
 pub record Leaves (text : List ℕ) (at index : ℕ) (tokens : List Token) : Type 0 where
-  pub reads : Reads 0 text tokens
+  pub reads : ReadsListTokens 0 text tokens
   pub stops : StopsAt IsSaid tokens index
   pub place : at ≡ place_at tokens index (length text)
 
@@ -103,7 +103,7 @@ pub record SaysNumber (text : List ℕ) (at n : ℕ) : Type 0 where
   pub m : Method
   pub number : Token
   pub names : List (List ℕ)
-  pub reads : Reads 0 text tokens
+  pub reads : ReadsListTokens 0 text tokens
   pub says : Says tokens m (Some number) names
   pub place : at ≡ number.place
   pub value : n ≡ digits_value 10 number.text
@@ -113,7 +113,7 @@ pub record SaysLength (text : List ℕ) (n : ℕ) : Type 0 where
   pub list : Listing
   pub spells : Spells text list
   pub demands : Demands list.names list.method list.number
-  pub size : n ≡ length (spelling list)
+  pub size : n ≡ length (list_spelling list)
 
 -- the cause of each refusal
 abbrev pub IsListFault : List ℕ → NamesFault → Type 0

@@ -34,8 +34,8 @@ abbrev pub spelling_of : Listing → List (List ℕ) → List ℕ
 spelling_of list [] = []
 spelling_of list names = method_spelling list.method ++ codes " " ++ decimal list.number ++ codes " (" ++ names_spelling names ++ codes ")"
 
-abbrev pub spelling : Listing → List ℕ
-spelling list = spelling_of list list.names
+abbrev pub list_spelling : Listing → List ℕ
+list_spelling list = spelling_of list list.names
 
 -- ---- what is a list
 
@@ -47,7 +47,7 @@ Demands names m number = (0 < number) × (number ≤ NUMBER_LIMIT)
 pub record IsListing (list : Listing) : Type 0 where
   pub texts : All IsText list.names
   pub demands : Demands list.names list.method list.number
-  pub short : length (spelling list) ≤ SPELLING_LIMIT
+  pub short : length (list_spelling list) ≤ SPELLING_LIMIT
 
 -- ---- priorities
 

@@ -68,5 +68,5 @@ abbrev pub list_token : RawToken → Token
 list_token t = said (kind_of t.kind t.text) t.place t.text
 
 -- these bytes, which begin at this place, are these tokens and blanks
-abbrev pub Reads : ℕ → List ℕ → List Token → Type 0
-Reads at bytes tokens = ReadsAs list_class list_token at bytes tokens
+abbrev pub ReadsListTokens : ℕ → List ℕ → List Token → Type 0
+ReadsListTokens at bytes tokens = ReadsAs list_class list_token at bytes tokens

@@ -12,7 +12,7 @@ use Rattle.repl_names.specs.declared.list.Method.TheVariants as method
 use Rattle.repl_names.specs.declared.grammar.Shape.{Shape}
 use Rattle.repl_names.specs.declared.grammar.State.{State}
 use Rattle.repl_names.specs.declared.grammar.State.TheVariants as state
-use Rattle.repl_names.specs.StandbyList.{Listing, spelling}
+use Rattle.repl_names.specs.StandbyList.{Listing, list_spelling}
 
 -- a token of this kind is a name
 abbrev pub is_name : Kind → Bool
@@ -92,7 +92,7 @@ HaveDigits None = Unit {0}
 
 -- the spelling of the list is too long
 abbrev pub IsTooLong : Listing → NamesFault → Type 0
-IsTooLong list (fault.TooLong have) = (have ≡ min (length (spelling list)) (2 ^ 64 - 1)) × (SPELLING_LIMIT < length (spelling list))
+IsTooLong list (fault.TooLong have) = (have ≡ min (length (list_spelling list)) (2 ^ 64 - 1)) × (SPELLING_LIMIT < length (list_spelling list))
 IsTooLong list _ = ⊥
 
 -- the number of a list of these tokens, which say this one or none

@@ -3,7 +3,7 @@ ghost use Rattle.std.specs.List.{AllZip};
 ghost use Rattle.repl_names.specs.declared.list.Method.TheVariants as Method;
 ghost use Rattle.repl_names.specs.declared.quorum.Mode.{Mode};
 ghost use Rattle.repl_names.specs.declared.quorum.Candidate.{Candidate};
-ghost use Rattle.repl_names.specs.StandbyList.{Listing, IsListing, spelling};
+ghost use Rattle.repl_names.specs.StandbyList.{Listing, IsListing, list_spelling};
 ghost use Rattle.repl_names.specs.declared.setting.Setting.{Setting};
 ghost use Rattle.repl_names.specs.Grammar.{SaysList};
 ghost use Rattle.repl_names.specs.Setting.{SaysSetting, setting_word};
@@ -11,7 +11,7 @@ ghost use Rattle.repl_names.specs.Quorum.{Met, IsGreatest, IsReleased, Continue,
 
 /// What is printed is read back as the same list.
 pub fn printed_is_read()
-    ensures { (list : Listing) → IsListing list → SaysList (spelling list) list }
+    ensures { (list : Listing) → IsListing list → SaysList (list_spelling list) list }
 {}
 
 /// A text says one list at most.

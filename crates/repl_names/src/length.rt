@@ -1,7 +1,7 @@
 //! How long the spelling of a list is.
 ghost use Rattle.std.specs.Prelude.{◌≡◌, ◌+◌, ◌-◌, ◌^◌, ◌<◌, ◌≤◌, length, min, decimal, sum_by, count_by, ◌==◌, All};
 ghost use Rattle.repl_text.specs.Text.{IsText};
-ghost use Rattle.repl_names.specs.StandbyList.{spelling, method_spelling, name_spelling, Demands};
+ghost use Rattle.repl_names.specs.StandbyList.{list_spelling, method_spelling, name_spelling, Demands};
 
 use crate::list::Method;
 use repl_text::Text;
@@ -9,7 +9,7 @@ use repl_text::Text;
 /// How many bytes the spelling of this list has, or 2^64 - 1 where there are more.
 pub(crate) fn spelling_length(method: Method, number: u32, names: &[Text]) -> u64
     requires { Demands names.now method number }
-    ensures exact { result ≡ min (length (spelling (record { method = method; number = number; names = names.now }))) (2 ^ 64 - 1) }
+    ensures exact { result ≡ min (length (list_spelling (record { method = method; number = number; names = names.now }))) (2 ^ 64 - 1) }
     ensures texts { All IsText names.now }
 {
     if names.is_empty() {

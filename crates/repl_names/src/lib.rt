@@ -28,7 +28,7 @@ mod quorum;
 mod setting;
 mod token;
 
-pub use counting::{are_different, put_counted};
+pub use counting::{are_different, insert_in_order, put_counted};
 pub use fault::NamesFault;
 pub use laws::{
     any_reached, counted_reach, met_below, met_forward, met_stays, met_without_names, one_counted,

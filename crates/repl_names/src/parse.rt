@@ -4,7 +4,7 @@ ghost use Rattle.std.specs.Str.Parse.{digits_value};
 ghost use Rattle.repl_text.specs.Language.{StopsAt};
 ghost use Rattle.repl_names.specs.declared.fault.NamesFault.TheVariants as NamesFault;
 ghost use Rattle.repl_names.specs.StandbyList.{Listing, IsListing, Demands};
-ghost use Rattle.repl_names.specs.Token.{Reads};
+ghost use Rattle.repl_names.specs.Token.{ReadsListTokens};
 ghost use Rattle.repl_names.specs.Grammar.{IsSaid, SaysList, IsListFault};
 ghost use Rattle.repl_names.specs.Walk.{said_number, said_names, HaveDigits, IsNumberOf, IsNumberFault, IsFaultOf, IsTooLong};
 
@@ -41,7 +41,7 @@ pub fn parse_names(alloc: Global, text: &[u8]) -> Result<StandbyList, NamesFault
 
 /// The refusal of a text whose tokens leave the grammar at the index.
 fn refusal(text: &[u8], tokens: &[Token], index: usize) -> NamesFault
-    requires reads { Reads 0 text.now tokens.now }
+    requires reads { ReadsListTokens 0 text.now tokens.now }
     requires stops { StopsAt IsSaid tokens.now index }
     ensures { IsListFault text.now result }
 {

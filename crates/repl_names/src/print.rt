@@ -1,5 +1,5 @@
 ghost use Rattle.std.specs.Prelude.{◌≡◌, ◌++◌, IfOk};
-ghost use Rattle.repl_names.specs.StandbyList.{IsListing, spelling, name_spelling, names_spelling, method_spelling};
+ghost use Rattle.repl_names.specs.StandbyList.{IsListing, list_spelling, name_spelling, names_spelling, method_spelling};
 
 use crate::list::{Method, StandbyList};
 use repl_text::Text;
@@ -9,7 +9,7 @@ use std::alloc::{AllocError, Global};
 /// The one spelling of the list, which is read back as it: `FIRST n (..)` or `ANY n (..)`, with every name but
 /// `*` in double quotes, and nothing for the list without names. It has at most 65,536 bytes. Takes memory.
 pub fn print_names(alloc: Global, list: &StandbyList) -> Result<Vec<u8>, AllocError>
-    ensures exact { IfOk result (λ text. text.items ≡ spelling list.now) }
+    ensures exact { IfOk result (λ text. text.items ≡ list_spelling list.now) }
     // Its names are texts, its number is in range, and the spelling is short enough.
     ensures listing { IsListing list.now }
 {

@@ -34,7 +34,7 @@ pub struct Candidate {
 
 impl Candidate {
     /// Whether it is on the list and has told what it flushed.
-    pub(crate) fn counts(&self) -> bool
+    pub fn counts(&self) -> bool
         ensures { result ≡ counts self.now }
     {
         self.priority > 0 && self.flushed.0 > 0

@@ -1,5 +1,5 @@
 ghost use Rattle.std.specs.Prelude.{◌≡◌, IfOk};
-ghost use Rattle.repl_names.specs.Token.{Reads, list_token, kind_of, word_kind, sign_kind};
+ghost use Rattle.repl_names.specs.Token.{ReadsListTokens, list_token, kind_of, word_kind, sign_kind};
 
 use crate::lexicon::ListLexicon;
 use repl_text::Text;
@@ -38,7 +38,7 @@ pub(crate) struct Token {
 
 /// The tokens of a text.
 pub(crate) fn tokens_of(alloc: Global, text: &[u8]) -> Result<Vec<Token>, AllocError>
-    ensures { IfOk result (λ tokens. Reads 0 text.now tokens.items) }
+    ensures { IfOk result (λ tokens. ReadsListTokens 0 text.now tokens.items) }
 {
     let mut tokens = Vec::new(alloc);
     let mut at = 0;

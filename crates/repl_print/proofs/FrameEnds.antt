@@ -12,13 +12,12 @@ use Rattle.repl_message.specs.Encoding.{capped}
 use Rattle.repl_wire.specs.declared.fault.WireFault.{WireFault}
 use Rattle.repl_wire.specs.declared.taking.Taken.TheVariants as taken
 use Rattle.repl_wire.specs.Judging.{judge}
-use Rattle.repl_wire.specs.Reader.{AreRead, first_phase}
+use Rattle.repl_wire.specs.Reader.{AreRead, AreAll, first_phase}
 use Rattle.repl_wire.proofs.Streams.{read_more, stuck_short, stuck_wrong, refused_some, readings, none_further, all_one}
 use Rattle.repl_filter.specs.declared.conversion.Converted.{Converted}
 use Rattle.repl_filter.specs.declared.conversion.Converted.TheVariants as converted
 use Rattle.repl_filter.specs.Converting.{is_read_fault, is_write_fault}
 use Rattle.repl_filter.specs.Outcome.{IsReadOut}
-use Rattle.repl_print.specs.Stream.{AreAll}
 use Rattle.repl_print.specs.Frames.{IsWrongAt, Framed, Printed, WentWell}
 
 -- ---- what was read, and what is left

@@ -15,12 +15,11 @@ use Rattle.repl_wire.specs.declared.fault.WireFault.{WireFault}
 use Rattle.repl_wire.specs.declared.taking.Taken.TheVariants as taken
 use Rattle.repl_wire.specs.Judging.{judge}
 use Rattle.repl_wire.specs.Places.{place_of}
-use Rattle.repl_wire.specs.Reader.{AreRead, first_phase, at_place}
+use Rattle.repl_wire.specs.Reader.{AreRead, AreAll, first_phase, at_place}
 use Rattle.repl_filter.specs.declared.conversion.Converted.{Converted}
 use Rattle.repl_filter.specs.declared.conversion.Converted.TheVariants as converted
 use Rattle.repl_filter.specs.Converting.{TellsFaults}
 use Rattle.repl_filter.specs.Outcome.{IsReadOut, Wrote, WroteFront, WroteSome}
-use Rattle.repl_print.specs.Stream.{AreAll}
 
 -- the type byte; a startup packet has none
 abbrev pub kind_text : Message → List ℕ

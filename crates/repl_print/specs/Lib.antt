@@ -1,4 +1,3 @@
-pub mod Stream
 pub mod Frames
 pub mod Printing
 pub mod Names

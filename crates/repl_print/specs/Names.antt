@@ -4,7 +4,7 @@ use Rattle.repl_effects.specs.Counts.{Rose, RoseExactly}
 use Rattle.repl_io.specs.Sink.{SinkState}
 use Rattle.repl_names.specs.declared.fault.NamesFault.{NamesFault}
 use Rattle.repl_names.specs.declared.fault.NamesFault.TheVariants as fault
-use Rattle.repl_names.specs.StandbyList.{Listing, spelling}
+use Rattle.repl_names.specs.StandbyList.{Listing, list_spelling}
 use Rattle.repl_names.specs.Grammar.{SaysList, IsListFault}
 use Rattle.repl_filter.specs.declared.conversion.Converted.{Converted}
 use Rattle.repl_filter.specs.declared.conversion.Converted.TheVariants as converted
@@ -22,7 +22,7 @@ IsPlace text fault.Memory place = ⊥
 
 -- the line of a list
 abbrev pub names_line : Listing → List ℕ
-names_line list = spelling list ++ 10 ∷ []
+names_line list = list_spelling list ++ 10 ∷ []
 
 -- the text says a list, and this is how its line was written
 abbrev pub OfList : List ℕ → (List ℕ → Type 0) → Type 0

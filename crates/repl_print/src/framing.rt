@@ -18,10 +18,7 @@ use repl_wire::{
 use std::alloc::{AllocError, Global};
 
 /// The most reads of an input without a bound.
-pub const FRAME_TURNS: u64 = 1 << 62;
-
-// The contracts take it from the code, so it is held to its number here.
-const _: () = prove!(FRAME_TURNS == 4_611_686_018_427_387_904);
+const FRAME_TURNS: u64 = 1 << 62;
 
 /// How the messages that a reader holds came to an end.
 #[derive(Drop, PartialEq)]

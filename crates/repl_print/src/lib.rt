@@ -17,6 +17,6 @@ mod framing;
 mod histories;
 mod naming;
 
-pub use framing::{FRAME_TURNS, frames};
+pub use framing::frames;
 pub use histories::history;
 pub use naming::names;

@@ -20,6 +20,7 @@ impl Walker {
     pub(crate) fn image_at_once(&self, bytes: &[u8]) -> Option<usize>
         ensures { IfSome result (HasImage self.now bytes.now) }
     {
+        // That the size is that of segments is known once it is read.
         let _size = self.ident.size.bytes();
         let place = (self.at.0 % PAGE_SIZE as u64) as usize;
         if self.from != self.at || place < HEADER_LIMIT || bytes.len() < HEAD_LENGTH {

@@ -47,7 +47,6 @@ impl Walker {
         ensures stands { (timeline : ℕ → ℕ) → Stands result timeline at prev [] }
         ensures ident { identity result ≡ ident }
     {
-        let _fits = prev.0;
         Walker {
             ident,
             from: at,
@@ -70,7 +69,6 @@ impl Walker {
         ensures ident { identity result ≡ identity self }
         ensures position { position result ≡ position self }
     {
-        let _fits = prev.0;
         Walker { prev, ..self }
     }
 

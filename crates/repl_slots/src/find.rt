@@ -7,7 +7,7 @@ use crate::slot::Slot;
 use repl_lsn::Lsn;
 
 /// The slot of this name.
-pub(crate) fn find<'a>(slots: &'a [Slot], name: &[u8]) -> Option<&'a Slot>
+pub fn find_slot<'a>(slots: &'a [Slot], name: &[u8]) -> Option<&'a Slot>
     ensures { MatchOption result (slot_named name.now slots.now ≡ None) (λ slot. slot_named name.now slots.now ≡ Some slot.now) }
 {
     slots.iter().find(|slot| slot.is_named(name))
@@ -17,14 +17,14 @@ pub(crate) fn find<'a>(slots: &'a [Slot], name: &[u8]) -> Option<&'a Slot>
 pub(crate) fn is_new(slots: &[Slot], name: &[u8]) -> bool
     ensures { IsTrue result ↔ IsNew (names_of slots.now) name.now }
 {
-    find(slots, name).is_none()
+    find_slot(slots, name).is_none()
 }
 
 /// Whether the session can use the slot of this name.
 pub(crate) fn usable(slots: &[Slot], name: &[u8], session: u64) -> Result<(), SlotFault>
     ensures { CanUse slots.now name.now session result }
 {
-    match find(slots, name) {
+    match find_slot(slots, name) {
         None => Err(SlotFault::NoSlot),
         Some(slot) => match slot.holder(session) {
             None => Ok(()),

@@ -27,6 +27,7 @@ mod spell;
 mod store;
 
 pub use fault::SlotFault;
+pub use find::find_slot;
 pub use laws::{
     confirmed_rises, floor_keeps, no_place, one_file, one_list, one_place, saved_is_mounted,
 };

@@ -4,7 +4,7 @@ ghost use Rattle.repl_slots.specs.Slot.{AreSlots, CanCreate, CanUse, IsFloor, ac
 
 use crate::each::{acquire_named, confirm_all, drop_named, drop_temporary, release_all};
 use crate::fault::SlotFault;
-use crate::find::{find, floor_of, usable};
+use crate::find::{find_slot, floor_of, usable};
 use crate::slot::{SLOT_LIMIT, Slot};
 use repl_lsn::Lsn;
 use repl_text::{Text, is_slot_name};
@@ -68,7 +68,7 @@ impl Slots {
         if !is_slot_name(name) {
             return Err(SlotFault::BadName);
         }
-        if find(&self.list, name).is_some() {
+        if find_slot(&self.list, name).is_some() {
             return Err(SlotFault::Duplicate);
         }
         if self.list.len() >= SLOT_LIMIT {

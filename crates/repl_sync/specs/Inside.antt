@@ -2,7 +2,7 @@
 use Rattle.std.specs.Prelude.{◌≡◌, ◌≢◌, ℕ, ◌+◌, ◌-◌, ◌<◌, ◌≤◌, ◌^◌, min, List, [], ◌∷◌, ◌++◌, Result, Ok, Err, map, length, All, AllPairs, vec_len, vec_capacity, Bool, filter, IsPermutation, ◌↔◌, ◌⊎◌, if◌then◌else◌, not, Option, Some, None, MatchOption, take, slice_index_or, true, false}
 use Rattle.repl_names.specs.StandbyList.{Listing, IsListing, priority_of}
 use Rattle.repl_names.specs.declared.quorum.Candidate.{Candidate}
-use Rattle.repl_names.specs.Quorum.{Differ, InOrder, Met, candidates, goes_before, reaches}
+use Rattle.repl_names.specs.Quorum.{Differ, InOrder, Met, candidates, reaches}
 use Rattle.repl_names.specs.declared.list.Method.{Method}
 use Rattle.repl_names.specs.declared.list.Method.TheVariants as method
 use Rattle.std.proofs.Common.{Vec, Global}
@@ -40,12 +40,6 @@ candidate_of e = e.candidate
 -- those of one list that pass a test are those of the other, in some order
 abbrev pub SameByTests : List Candidate → List Candidate → Type 0
 SameByTests cs ds = (p : Candidate → Bool) → IsPermutation (filter p cs) (filter p ds)
-
--- it goes before the one at the place, and before none that stands earlier
-pub record IsFirstPast (c : Candidate) (order : List Candidate) (place : ℕ) : Type 0 where
-  pub within : place < length order
-  pub past : (d : Candidate) → goes_before c (slice_index_or order place d) ≡ true
-  pub before : (k : ℕ) (d : Candidate) → k < place → goes_before c (slice_index_or order k d) ≡ false
 
 -- the list is met exactly up to there
 abbrev pub IsReach : Listing → List Candidate → Mode → Option ℕ → Type 0

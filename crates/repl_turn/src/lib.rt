@@ -20,12 +20,12 @@
 //! Callers take turns by tickets, first come, first served. A thread that waits sleeps after a short while, and giving
 //! the turn on wakes the one that is next. `wait_for_change` sleeps until an event is made that is not quiet; a quiet
 //! one wakes nobody there. It is not said that a wait ends, nor in which order the events of two passes come that
-//! never met. But a pass that has seen n events makes its next one at place n or later. `act_both` shows a caller.
+//! never met. But a pass that has seen n events makes its next one at place n or later. `ask_both` of
+//! `test_threads` shows a caller.
 //! Stands on `atomic_table`.
 #![tactic(auto)]
 
 mod bell;
-mod both;
 mod laws;
 mod machine;
 mod pass;
@@ -33,7 +33,6 @@ mod rule;
 mod steps;
 mod turn;
 
-pub use both::act_both;
 pub use laws::{beginnings_are_legal, each_entry_is_a_step, quiet_events_change_nothing};
 pub use machine::{Entry, Machine};
 pub use pass::Pass;

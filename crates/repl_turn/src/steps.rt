@@ -102,7 +102,6 @@ impl<M: Machine> Turn<M> {
         ensures seat { IsSameSeat token.old token.new }
         ensures gave { Gives M.steps asked.value reply.now token.old.me.0 result token.new.me }
     {
-        let _ = asked;
         self.table.shared.fetch_add::<Give<J>>(token, SERVED, 1)
     }
 

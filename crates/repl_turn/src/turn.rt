@@ -177,6 +177,7 @@ impl<M: Machine> Turn<M> {
         requires { pass.old.turn ≡ self.now }
         ensures { Watches M.steps pass.old pass.new }
     {
+        // What holds of every turn is known of this one once it is looked at.
         let _ = &self.table;
         pass.count = self.await_change(rt, &mut pass.token, pass.count);
     }

@@ -25,6 +25,7 @@ pub fn walk_past_any(
     ensures ident { identity walker.new ≡ identity walker.old }
     ensures passes { OnOk result (position walker.new ≡ position walker.old + length bytes.now) }
 {
+    // That the size is that of segments is known once it is read.
     let _size = walker.ident().size.bytes();
     let before = *walker;
     let fault = match walk(walker, tli, bytes) {

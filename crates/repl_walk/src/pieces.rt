@@ -38,6 +38,7 @@ pub fn walk(walker: &mut Walker, tli: Tli, bytes: &[u8]) -> Result<(), WalkFault
     ensures ident { identity walker.new ≡ identity walker.old }
     ensures passes { OnOk result (position walker.new ≡ position walker.old + length bytes.now) }
 {
+    // That the size is that of segments is known once it is read.
     let _size = walker.ident().size.bytes();
     let mut rest = bytes;
     'records: loop {

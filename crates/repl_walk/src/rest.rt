@@ -147,7 +147,6 @@ impl Rest {
         ensures ident { rest_identity self.new ≡ rest_identity self.old }
         ensures position { result ≡ RestStep.Short → rest_position self.new ≤ rest_position self.old + length page.now }
     {
-        let _tli = tli.0;
         let room = page.len() - header;
         let left = self.left as usize;
         if room < left {

@@ -63,6 +63,10 @@ AreRead p bytes [] last rest = (last ≡ p) × (rest ≡ bytes)
 AreRead p bytes (m ∷ ms) last rest = Belongs p m
     × ((past : List ℕ) × (bytes ≡ spelling m ++ past) × AreRead (after p m) past ms last rest)
 
+-- the bytes are these messages of the side, one after another, and nothing is after them
+abbrev pub AreAll : Side → List ℕ → List Message → Type 0
+AreAll side bytes messages = (last : Phase) × AreRead (first_phase side) bytes messages last []
+
 -- A reader that was fed these bytes has given these messages, one after another, and is now so. This is what a loop
 -- over a reader keeps.
 pub record HasGiven (old : Reading) (bytes : List ℕ) (messages : List Message) (new : Reading) : Type 0 where

@@ -15,4 +15,4 @@ new_iff (Some x) true slots name e is = absurd cc
 new_iff (Some x) false slots name e is = (λ no. absurd (false≢true no), λ new. absurd (found_not_new name slots x.now is new))
 
 pub returns : goal.returns
-returns c = new_iff c.find.result c.is_none.result c.args.slots.now c.args.name.now c.is_none.ensures c.find.ensures
+returns c = new_iff c.find_slot.result c.is_none.result c.args.slots.now c.args.name.now c.is_none.ensures c.find_slot.ensures

@@ -26,4 +26,4 @@ invariant_of-self-2 c =
     let room : length slots < SLOT_LIMIT = omega arith in
     more c.push_reserved.new.self.items c.reserve.new.self.items slots c.deref.result.now _ c.args.name.now c.push_reserved.ensures.items
     c.in_ok-reserve.ensures.items c.self.invariant room c.in_ok-copied.ensures (search rules) c.deref.ensures.value
-    (none_found c.find.result _ c.if-is_some.ensures c.find.ensures)
+    (none_found c.find_slot.result _ c.if-is_some.ensures c.find_slot.ensures)

@@ -6,7 +6,7 @@ use Rattle.std.proofs.lemmas.Iterator.{YieldsList-from_slice}
 use Rattle.std.proofs.lemmas.Iterator.Search.{find_from_yields_List}
 use Rattle.repl_slots.specs.Slot.{slot_named, is_named}
 use Rattle.repl_slots.specs.declared.slot.Slot.{Slot}
-use Rattle.repl_slots.proofs.find.find.Goals as goal
+use Rattle.repl_slots.proofs.find.find_slot.Goals as goal
 
 lent : (r : Option (Bor Slot)) (found : Option Slot) → option_map (λ x. x.now) r ≡ found
     → MatchOption r (found ≡ None) (λ slot. found ≡ Some slot.now)
