@@ -21,7 +21,7 @@
 //! the turn on wakes the one that is next. `wait_for_change` sleeps until an event is made that is not quiet; a quiet
 //! one wakes nobody there. It is not said that a wait ends, nor in which order the events of two passes come that
 //! never met. But a pass that has seen n events makes its next one at place n or later. `ask_both` of
-//! `test_threads` shows a caller.
+//! `test_system` shows a caller.
 //! Stands on `atomic_table`.
 #![tactic(auto)]
 
