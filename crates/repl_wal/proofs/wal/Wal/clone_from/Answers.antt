@@ -13,7 +13,7 @@ use Rattle.repl_store.proofs.Apart.{apart_on}
 use Rattle.repl_store.specs.Durable.{StandsFor, control_name}
 use Rattle.repl_wal.specs.Cloning.{IsKnownSource, LeavesSource}
 use Rattle.repl_wal.specs.Holding.{HeldLog, Holds, Remembers, answer_after, disk_after, held_of}
-use Rattle.repl_wal.specs.Making.{IsOfMount, IsOpened, OnlyOpens, mounted_log}
+use Rattle.repl_wal.specs.Making.{IsOfMount, OnlyOpens, mounted_log}
 use Rattle.repl_wal.specs.State.{path_of}
 use Rattle.repl_wal.specs.declared.fault.NodeFault.{NodeFault}
 use Rattle.repl_wal.specs.declared.fault.NodeFault.TheVariants as fault
