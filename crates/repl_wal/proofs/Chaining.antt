@@ -48,7 +48,8 @@ starts disk old n column only none holds more =
 
 -- the call ends there, and the disk did not fail
 pub ends_there : {A D : Type 0} (result : Result A NodeFault) (old new : DiskState) (held : HeldLog D) (n m : LogState) (Next : LogState → Type 0)
-    (column : Durable → Type 0) → Reaches old new held n m column → Next m → (result ≡ Err fault.DiskFault → ⊥) → Comes result old new held.log n Next column
+    (column : Durable → Type 0) → Reaches old new held n m column → Next m → (result ≡ Err fault.DiskFault → ⊥)
+    → Comes result old new held.log n Next column
 ends_there result old new held n m Next column reached is other = record {
   next = m;
   is = is;
@@ -91,7 +92,8 @@ module _ {B D : Type 0} (old mid new : DiskState) (held : HeldLog D) (now : Held
     abbrev Fails : StoreFault → Result B StoreFault
     Fails e = Err e
 
-    failure : f ≡ store.DiskFault → Comes {A = A} (Err fault.DiskFault) old new (memory_of now held.log.walker (Some before)) n (Step Refuses Passes Done Partly n (Err fault.DiskFault)) column
+    failure : f ≡ store.DiskFault → Comes {A = A} (Err fault.DiskFault) old new (memory_of now held.log.walker (Some before)) n
+        (Step Refuses Passes Done Partly n (Err fault.DiskFault)) column
     failure is =
         let rises : Rose mid.faults new.faults → Rose old.faults new.faults = λ rose. subst (λ k. Rose k new.faults) reached.faults rose in
         record {
@@ -125,7 +127,8 @@ module _ {B D : Type 0} (old mid new : DiskState) (held : HeldLog D) (now : Held
         → Comes {A = A} (Err e) old new (memory_of now held.log.walker stopped) n
         (Step Refuses Passes Done Partly n (Err e)) column
     stops e stopped whole wants answer left =
-        let At : NodeFault → Option StoreStatus → Type 0 = λ e. λ s. Comes {A = A} (Err e) old new (memory_of now held.log.walker s) n (Step Refuses Passes Done Partly n (Err e)) column in
+        let At : NodeFault → Option StoreStatus → Type 0 = λ e. λ s. Comes {A = A} (Err e) old new (memory_of now held.log.walker s) n
+        (Step Refuses Passes Done Partly n (Err e)) column in
         let Of : StoreFault → Type 0 = λ f. At (of_store f) (stopped_by f held.log.stopped before) in
         let here : Of f = elim caused.answers [
           | inl broken ↦ absurd (whole broken)

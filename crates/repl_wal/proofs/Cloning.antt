@@ -111,7 +111,8 @@ module _ {A D E : Type 0} (disk new : DiskState) (old : HeldLog E) (now : Held E
       → stopped ≡ source_stopped f old.log.stopped before
       → LeavesSource {A = A} (Err (e, d)) disk new (memory_of now old.log.walker stopped) n
   left_refused f d before e stopped holds none told same breaks lasts answer is =
-      let Left : NodeFault → Option StoreStatus → Type 0 = λ e. λ s. LeavesSource {A = A} {D = D} (Err (e, d)) disk new (memory_of now old.log.walker s) n in
+      let Left : NodeFault → Option StoreStatus → Type 0 = λ e. λ s. LeavesSource {A = A} {D = D} (Err (e, d)) disk new
+      (memory_of now old.log.walker s) n in
       subst (λ (e : NodeFault). Left e stopped) (sym answer)
       (subst (Left (of_copy f)) (sym is) (left_past f d before holds none told same breaks lasts))
 
@@ -203,7 +204,8 @@ known_copy source old before mid n known is none tells stand =
     (there.0, there.1, told_so mid.files there.0 (AllStand VERSION_1_SIZE (copied n.kept.durable known) mid) there.1 all)
 
 -- what a crash leaves while the copy is made
-pub copy_moments : {E : Type 0} (source : DiskState) (old : HeldLog E) (before mid : DiskState) (folder : Folder) (n : LogState) → Holds source old.log n
+pub copy_moments : {E : Type 0} (source : DiskState) (old : HeldLog E) (before mid : DiskState) (folder : Folder) (n : LogState)
+    → Holds source old.log n
     → old.log.stopped ≡ None → n.told ≡ true → before.files ≡ Some folder
     → IfTold before.files (λ f. (s : State) → Backs source old.log.head s
     → LeavesOnly before mid (IsCopying before.may_leave old.log.head.size s.durable))

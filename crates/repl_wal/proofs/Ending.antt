@@ -103,7 +103,8 @@ pub refused : {A D : Type 0} (Refuses : NodeFault → Type 0) (Passes : Type 0) 
     (Step Refuses Passes Done Partly n (Err (of_store f))) column
 refused {A} {D} Refuses Passes Done Partly column disk new old now f before n holds none passes partly told same answer sound breaks cause files =
     let runs = running old n none holds.remembers in
-    let At : StoreFault → Type 0 = λ e. Comes {A = A} (Err (of_store e)) disk new (memory_of now old.log.walker (stopped_by e old.log.stopped before)) n (Step Refuses Passes Done Partly n (Err (of_store e))) column in
+    let At : StoreFault → Type 0 = λ e. Comes {A = A} (Err (of_store e)) disk new (memory_of now old.log.walker (stopped_by e old.log.stopped before))
+    n (Step Refuses Passes Done Partly n (Err (of_store e))) column in
     let memory : f ≡ store.Memory → At store.Memory = λ is. record {
       next = n;
       is = (runs.0, partly);
@@ -157,7 +158,8 @@ pub certain : {A D : Type 0} (Refuses : NodeFault → Type 0) (Passes : Type 0) 
     (last_start old.log.walker)) old.log.head.path old.log.head.written
     → now.broken ≡ false
     → ((s : State) → Backs disk old.log.head s → StoreComes {A = Unit {0}} (Ok tt) disk new now.head (Either s.durable
-    (flushed s role (last_end old.log.walker) (last_start old.log.walker)).durable) (flushed s role (last_end old.log.walker) (last_start old.log.walker))
+    (flushed s role (last_end old.log.walker) (last_start old.log.walker)).durable)
+    (flushed s role (last_end old.log.walker) (last_start old.log.walker))
     (λ t. t ≡ s))
     → Comes {A = A} (Ok a) disk new (memory_of now old.log.walker old.log.stopped) n (Step Refuses Passes Done Partly n (Ok a))
     (OldOr n Done)
@@ -238,7 +240,8 @@ module _ {A D : Type 0} (Refuses : NodeFault → Type 0) (Passes : Type 0) (Done
   refused_at column f before e stopped holds none passes partly told same caused broken breaks files answer left =
       let runs = running old n none holds.remembers in
       let Fails : StoreFault → Result (Unit {0}) StoreFault = λ e. Err e in
-      let At : NodeFault → Option StoreStatus → Type 0 = λ e. λ s. Comes {A = A} (Err e) disk new (memory_of now old.log.walker s) n (Step Refuses Passes Done Partly n (Err e)) column in
+      let At : NodeFault → Option StoreStatus → Type 0 = λ e. λ s. Comes {A = A} (Err e) disk new (memory_of now old.log.walker s) n
+      (Step Refuses Passes Done Partly n (Err e)) column in
       subst (λ (e : NodeFault). At e stopped) (sym answer) (subst (At (of_store f)) (sym left) (refused Refuses Passes Done Partly column disk new old
       now f before n holds none passes partly told same caused.answers (not_broken f old.log.failed runs.1 broken) breaks (λ is. caused.failed
       (ap Fails is)) files))
@@ -262,7 +265,8 @@ module _ {A D : Type 0} (Refuses : NodeFault → Type 0) (Passes : Type 0) (Done
       (flushed s role e l).durable) (flushed s role e l) (λ t. t ≡ s))
       → Comes {A = A} (Ok a) disk new (memory_of now old.log.walker old.log.stopped) n
       (Step Refuses Passes Done Partly n (Ok a)) (OldOr n Done) in
-      let here : As (last_end old.log.walker) (last_start old.log.walker) = λ stands comes. certain Refuses Passes Done Partly a disk new old now n role holds
+      let here : As (last_end old.log.walker) (last_start old.log.walker) = λ stands comes. certain Refuses Passes Done Partly a disk new old now n
+      role holds
       none is passes ends done stands (ok_sound tt old.log.failed now.broken runs.1 breaks) comes in
       let there : As end last = subst (λ (e : ℕ). As e last) (sym end_is) (subst (As (last_end old.log.walker)) (sym last_is) here) in
       there stands comes

@@ -201,7 +201,8 @@ unfollowed_at {D} disk new old now n child f status holds none told can same cau
     let head = old.log.head in
     let runs = running old n none holds.remembers in
     let Fails : StoreFault → Result (Unit {0}) StoreFault = λ e. Err e in
-    let At : StoreFault → Type 0 = λ e. Comes {A = Unit {0}} (Err (of_store e)) disk new (memory_of now old.log.walker (stopped_by e old.log.stopped status)) n (Follows n child (Err (of_store e))) (FollowLeaves n child) in
+    let At : StoreFault → Type 0 = λ e. Comes {A = Unit {0}} (Err (of_store e)) disk new
+    (memory_of now old.log.walker (stopped_by e old.log.stopped status)) n (Follows n child (Err (of_store e))) (FollowLeaves n child) in
     let moments : n.told ≡ true → n.broken ≡ false → LeavesOne disk new n.size (FollowLeaves n child) = λ t b.
     moments_of (Err f) disk new head now.head old.log.walker n child runs.2 same.same_size can comes (holds.backs t b) in
     let failure : f ≡ store.DiskFault → At store.DiskFault = λ failed. record {
@@ -273,6 +274,7 @@ unfollowed_comes {D} disk new old now n child f status e stopped holds none told
     let as_log : status ≡ status_of_log n = told ∙ same_status head old.log.walker n runs.2 in
     let here : Switches (Err f) disk new head now.head child (whole_end n) (start_kept n) = subst (λ (s : StoreStatus).
     Switches (Err f) disk new head now.head child s.whole s.prev) as_log comes in
-    let At : NodeFault → Option StoreStatus → Type 0 = λ e. λ s. Comes {A = Unit {0}} (Err e) disk new (memory_of now old.log.walker s) n (Follows n child (Err e)) (FollowLeaves n child) in
+    let At : NodeFault → Option StoreStatus → Type 0 = λ e. λ s. Comes {A = Unit {0}} (Err e) disk new (memory_of now old.log.walker s) n
+    (Follows n child (Err e)) (FollowLeaves n child) in
     subst (λ (e : NodeFault). At e stopped) (sym answer) (subst (At (of_store f)) (sym left) (unfollowed_at disk new old now n child f status holds
     none told can same caused (not_broken f old.log.failed runs.1 broken) breaks here))

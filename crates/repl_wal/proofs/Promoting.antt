@@ -285,8 +285,10 @@ module _ {D : Type 0} (disk mid : DiskState) (old : HeldLog D) (now : Held D) (n
           certain_runs : Runs second.head old.log.walker first
           certain_runs =
               let As : Role → ℕ → ℕ → Type 0 = λ r. λ e. λ l. (r ≡ role_of n) → Stands second.head now.head.size
-              (flushed_control now.head.control r now.head.written e l) now.head.path now.head.written → Runs second.head old.log.walker (flushed_log n r e l) in
-              let here : As now.head.control.role (last_end old.log.walker) (last_start old.log.walker) = λ same. flushed_runs now.head second.head old.log.walker n
+              (flushed_control now.head.control r now.head.written e l) now.head.path now.head.written
+              → Runs second.head old.log.walker (flushed_log n r e l) in
+              let here : As now.head.control.role (last_end old.log.walker) (last_start old.log.walker) = λ same. flushed_runs now.head second.head
+              old.log.walker n
               now.head.control.role asked_is asked_runs.2 (not_primary now.head.control.role same) in
               let there : As now.head.control.role whole last = subst (λ (e : ℕ). As now.head.control.role e last) (sym chooses.ends)
               (subst (As now.head.control.role (last_end old.log.walker)) (sym chooses.starts) here) in
@@ -298,7 +300,8 @@ module _ {D : Type 0} (disk mid : DiskState) (old : HeldLog D) (now : Held D) (n
           pub has_flushed : Reaches disk new second_log n first (PromoteLeaves n at_least)
           has_flushed = reaches_on disk mid new first_log second n n (Either n.kept.durable (flushed n.kept now.head.control.role whole last).durable)
               (PromoteLeaves n at_least) (flushed n.kept now.head.control.role whole last) (λ t. t ≡ n.kept) has_asked begun.none flush_leaves
-              (flushes.ok.same_size ∙ asked_runs.2.size) tt old.log.walker first refl certain_remembers (ap (λ (r : Role). flushed n.kept r whole last) role_is)
+              (flushes.ok.same_size ∙ asked_runs.2.size) tt old.log.walker first refl certain_remembers
+              (ap (λ (r : Role). flushed n.kept r whole last) role_is)
               flushes.caused flushes.lacks (λ t. flushes.comes n.kept (has_asked.holds.backs t asked_runs.0))
 
           -- the flushed control is right, and so is the one on the child
@@ -393,14 +396,16 @@ module _ {D : Type 0} (disk mid : DiskState) (old : HeldLog D) (now : Held D) (n
                   reason = codes "promoted";
                 }) in
                 let size = subst IsSegSize (sym flushes.ok.same_size) asked_is.size in
-                let now_runs : Runs third.head next (promoted n tli whole last) = switched_runs second.head third.head old.log.walker next first made Primary
+                let now_runs : Runs third.head next (promoted n tli whole last) = switched_runs second.head third.head old.log.walker next first made
+                Primary
                 whole last size can left certain_runs runs.0 goes.ok walker (ident ∙ ap (λ (s : StoreStatus). s.ident) as_log) in
                 let reached = reaches_on disk new end second_log third n first Few (PromoteLeaves n at_least) went Some_of has_flushed begun.none go_leaves
                 (goes.ok.same_size ∙ runs.2.size) tt next (promoted n tli whole last) refl
                 (inl (begun.none, runs.0, ok_sound tt second.broken third.broken runs.1 goes.breaks, now_runs)) refl goes.caused goes.lacks
                 (λ t. goes.comes first.kept (has_flushed.holds.backs t runs.0)) in
                 let number : own ≡ tli = own_is ∙ ap (λ (p : Path). p.own) child_is in
-                let Goes_by : ℕ → Type 0 = λ k. Comes {A = ℕ × ℕ} (Ok (k, whole)) disk end (memory_of third next old.log.stopped) n (Promotes n at_least (Ok (k, whole))) (PromoteLeaves n at_least) in
+                let Goes_by : ℕ → Type 0 = λ k. Comes {A = ℕ × ℕ} (Ok (k, whole)) disk end (memory_of third next old.log.stopped) n
+                (Promotes n at_least (Ok (k, whole))) (PromoteLeaves n at_least) in
                 let here : Goes_by tli = ends_there (Ok (tli, whole)) disk end (held_of third next old.log.stopped) n
                 (promoted n tli whole last) (Promotes n at_least (Ok (tli, whole))) (PromoteLeaves n at_least) reached
                 (runs.0, is_standby, record { last = last; can = can_begin; becomes = refl }) (λ no. absurd cc) in

@@ -88,7 +88,8 @@ MayLift f old new floor = (new ≡ old) ⊎ ((◌≡◌ {A = Result (Unit {0}) S
     × Stands new old.size (raised_control old.control floor) old.path old.written)
 
 pub untrimmed_comes : {D : Type 0} (disk new : DiskState) (old : HeldLog D) (now : Held D) (n : LogState) (restart : Option ℕ) (keep floor : ℕ)
-    (f : StoreFault) (before : StoreStatus) → Holds disk old.log n → old.log.stopped ≡ None → IsHead old.log.head → floor ≡ trimmed_floor n restart keep
+    (f : StoreFault) (before : StoreStatus) → Holds disk old.log n → old.log.stopped ≡ None → IsHead old.log.head
+    → floor ≡ trimmed_floor n restart keep
     → before ≡ status_of old.log.head → MayLift f old.log.head now.head floor → IsCaused {A = Unit {0}} (Err f) disk new
     → (f ≡ store.Broken → ⊥) → Breaks {A = Unit {0}} (Err f) old.log.failed now.broken
     → ((s : State) → Backs disk old.log.head s → StoreComes {A = Unit {0}} (Err f) disk new now.head (Either s.durable (raised s.durable floor))
@@ -100,7 +101,8 @@ untrimmed_comes {D} disk new old now n restart keep floor f before holds none is
     let head = old.log.head in
     let low = low_floor head old.log.walker n restart keep floor is runs.2 same in
     let Fails : StoreFault → Result (Unit {0}) StoreFault = λ e. Err e in
-    let At : StoreFault → Type 0 = λ e. Comes {A = ℕ} (Err (of_store e)) disk new (memory_of now old.log.walker (stopped_by e old.log.stopped before)) n (Trims n restart keep (Err (of_store e))) (TrimLeaves n restart keep) in
+    let At : StoreFault → Type 0 = λ e. Comes {A = ℕ} (Err (of_store e)) disk new (memory_of now old.log.walker (stopped_by e old.log.stopped before))
+    n (Trims n restart keep (Err (of_store e))) (TrimLeaves n restart keep) in
     let size : now.head.size ≡ n.size = elim may [
       | inl still ↦ ap (λ (h : Head). h.size) still ∙ runs.2.size
       | inr lift ↦ lift.1.same_size ∙ runs.2.size

@@ -253,5 +253,6 @@ received_comes {D} disk new old now next n tli start end bytes holds none is goe
     let of_log : identity next ≡ ident_of n = same ∙ runs.2.of_log in
     let end_is : end ≡ written_end (appended_log n bytes) = omega (arith, ends, goes.at_end, length-append n.kept.unflushed bytes) in
     wrote (IsReceiveRefusal n tli start bytes) (CanReceive n tli start bytes) (IsReceived n bytes) (Only n) end disk new old now next n bytes holds
-    none is (goes, room, still_records old.log.walker next n bytes of_log walked) (end_is, refl) at (ok_sound tt old.log.failed now.broken runs.1 breaks)
+    none is (goes, room, still_records old.log.walker next n bytes of_log walked) (end_is, refl) at
+    (ok_sound tt old.log.failed now.broken runs.1 breaks)
     of_log walked (λ primary. (let clash : Standby ≡ Primary = sym goes.standby ∙ primary in absurd cc)) comes

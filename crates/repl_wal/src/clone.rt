@@ -54,7 +54,8 @@ impl<D: Disk> Wal<D> {
         ensures source { (n : LogState) → Holds (E.state from.old.disk) from.old.log n →
             LeavesSource result (E.state from.old.disk) (E.state from.new.disk) from.new.log n }
         // Each failure of the source's disk is told, and none is told without one, or without a lack, but where the source is broken.
-        ensures counted { MatchResult result (λ wal. Stood (E.state from.old.disk).faults (E.state from.new.disk).faults × Stood (E.state from.old.disk).wants (E.state from.new.disk).wants)
+        ensures counted { MatchResult result
+            (λ wal. Stood (E.state from.old.disk).faults (E.state from.new.disk).faults × Stood (E.state from.old.disk).wants (E.state from.new.disk).wants)
             (λ e. (e.0 ≡ NodeFault.SourceFault) ⊎ Stood (E.state from.old.disk).faults (E.state from.new.disk).faults) }
         ensures failed { (n : LogState) → Remembers from.old.log n → IfErr result (λ e. e.0 ≡ NodeFault.SourceFault → (n.broken ≡ true)
             ⊎ Rose (E.state from.old.disk).faults (E.state from.new.disk).faults ⊎ Rose (E.state from.old.disk).lacks (E.state from.new.disk).lacks) }

@@ -66,7 +66,12 @@ returns-in-Ok-clause-steps g c n =
     ∙ standby_not c.status-before.result.role not in
     certain_at (IsDemoteRefusal n) (role_of n ≡ Primary) (IsDemoted n) (Only n) (state old.disk) (state now.disk) old now n tt Standby
     c.last_end-whole.result c.last_start.result c.last_end-whole.ensures c.last_start.ensures holds none c.status-before.ensures.right primary
-    (λ is. absurd cc) (last_end old.log.walker, last_start old.log.walker, walked_last head old.log.walker n c.status-before.ensures.right runs.2, refl)
+    (λ is. absurd cc) (
+      last_end old.log.walker,
+      last_start old.log.walker,
+      walked_last head old.log.walker n c.status-before.ensures.right runs.2,
+      refl,
+    )
     c.in-Ok.ensures.ok c.in-Ok.ensures.breaks c.in-Ok.ensures.comes in
     subst Goes c.self.view_is here
 

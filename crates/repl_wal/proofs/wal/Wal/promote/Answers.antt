@@ -43,7 +43,9 @@ begun g c = record {
   standby = c.is_standby.ensures.0 (let no = c.if-not-is_standby.false in cc);
 }
 
-not_listed : (g : Over) (c : After-stop g) (n : LogState) → Ends g.D.Disk.state (old g (goal.at.invariant_of-self g c).After-known_numbers) (held_of c.known_numbers.new.self c.self.inside.walker c.stop.new.stopped) c.args.at_least (Err c.stop.result) n
+not_listed : (g : Over) (c : After-stop g) (n : LogState)
+    → Ends g.D.Disk.state (old g (goal.at.invariant_of-self g c).After-known_numbers)
+    (held_of c.known_numbers.new.self c.self.inside.walker c.stop.new.stopped) c.args.at_least (Err c.stop.result) n
 not_listed g c n holds =
     let state = g.D.Disk.state in
     let before = (goal.at.invariant_of-self g c).After-known_numbers in
@@ -65,10 +67,13 @@ not_listed g c n holds =
 pub returns-in-Err-clause-steps : goal.returns-in-Err-clause-steps
 returns-in-Err-clause-steps g c n =
     let here = not_listed g c n in
-    subst (λ (h : HeldLog g.row.D.Denot). Ends g.D.Disk.state h (held_of c.known_numbers.new.self c.self.inside.walker c.stop.new.stopped) c.args.at_least (Err c.stop.result) n) c.self.view_is here
+    subst (λ (h : HeldLog g.row.D.Denot). Ends g.D.Disk.state h (held_of c.known_numbers.new.self c.self.inside.walker c.stop.new.stopped)
+    c.args.at_least (Err c.stop.result) n) c.self.view_is here
 
 pub invariant_of-self : goal.invariant_of-self
-invariant_of-self g c = remembers g.D.Disk.state (old g (goal.at.invariant_of-self g c).After-known_numbers) (held_of c.known_numbers.new.self c.self.inside.walker c.stop.new.stopped) c.args.at_least (Err c.stop.result) c.self.invariant.0 c.self.invariant.1 (not_listed g c)
+invariant_of-self g c = remembers g.D.Disk.state (old g (goal.at.invariant_of-self g c).After-known_numbers)
+    (held_of c.known_numbers.new.self c.self.inside.walker c.stop.new.stopped) c.args.at_least (Err c.stop.result) c.self.invariant.0
+    c.self.invariant.1 (not_listed g c)
 
 -- ---- the child
 
@@ -95,11 +100,13 @@ child_for-requires-clause-past g c =
     let now = c.known_numbers.new.self in
     let n = c.self.invariant.0 in
     let holds = untold_holds (state was.disk) was n c.self.invariant.1 in
-    past (state was.disk) (state now.disk) was now (untold n) c.args.at_least c.status-before.result (begun g at.After-known_numbers) holds c.in-Ok.known
+    past (state was.disk) (state now.disk) was now (untold n) c.args.at_least c.status-before.result (begun g at.After-known_numbers) holds
+    c.in-Ok.known
     (lists g at.After-path) c.path.result.now c.last_end-whole.result c.path.ensures c.last_end-whole.ensures
 
 no_child : (g : Over) (c : In-Err-child_for g) (n : LogState)
-    → Ends g.D.Disk.state (old g (goal.at.returns-in-Err-child_for-clause-steps g c).After-known_numbers) (held_of c.known_numbers.new.self c.self.inside.walker c.self.inside.stopped) c.args.at_least (Err c.in-Err-child_for.fault) n
+    → Ends g.D.Disk.state (old g (goal.at.returns-in-Err-child_for-clause-steps g c).After-known_numbers)
+    (held_of c.known_numbers.new.self c.self.inside.walker c.self.inside.stopped) c.args.at_least (Err c.in-Err-child_for.fault) n
 no_child g c n holds =
     let state = g.D.Disk.state in
     let at = goal.at.returns-in-Err-child_for-clause-steps g c in
@@ -112,7 +119,8 @@ no_child g c n holds =
 pub returns-in-Err-child_for-clause-steps : goal.returns-in-Err-child_for-clause-steps
 returns-in-Err-child_for-clause-steps g c n =
     let here = no_child g c n in
-    subst (λ (h : HeldLog g.row.D.Denot). Ends g.D.Disk.state h (held_of c.known_numbers.new.self c.self.inside.walker c.self.inside.stopped) c.args.at_least (Err c.in-Err-child_for.fault) n) c.self.view_is here
+    subst (λ (h : HeldLog g.row.D.Denot). Ends g.D.Disk.state h (held_of c.known_numbers.new.self c.self.inside.walker c.self.inside.stopped)
+    c.args.at_least (Err c.in-Err-child_for.fault) n) c.self.view_is here
 
 -- ---- the flush
 
@@ -141,7 +149,8 @@ flush-requires g c =
     c.in-Ok-child_for.child (chooses g at.In-Ok-child_for) (state now.disk) now
 
 not_flushed : (g : Over) (c : After-drop-child-inside g) (n : LogState)
-    → Ends g.D.Disk.state (old g (goal.at.returns-in-Err-flush-clause-steps g c).After-known_numbers) (held_of c.flush.new.self c.self.inside.walker c.stop-in-Err-flush.new.stopped) c.args.at_least (Err c.stop-in-Err-flush.result) n
+    → Ends g.D.Disk.state (old g (goal.at.returns-in-Err-flush-clause-steps g c).After-known_numbers)
+    (held_of c.flush.new.self c.self.inside.walker c.stop-in-Err-flush.new.stopped) c.args.at_least (Err c.stop-in-Err-flush.result) n
 not_flushed g c n holds =
     let state = g.D.Disk.state in
     let at = goal.at.returns-in-Err-flush-clause-steps g c in
@@ -165,10 +174,13 @@ not_flushed g c n holds =
 pub returns-in-Err-flush-clause-steps : goal.returns-in-Err-flush-clause-steps
 returns-in-Err-flush-clause-steps g c n =
     let here = not_flushed g c n in
-    subst (λ (h : HeldLog g.row.D.Denot). Ends g.D.Disk.state h (held_of c.flush.new.self c.self.inside.walker c.stop-in-Err-flush.new.stopped) c.args.at_least (Err c.stop-in-Err-flush.result) n) c.self.view_is here
+    subst (λ (h : HeldLog g.row.D.Denot). Ends g.D.Disk.state h (held_of c.flush.new.self c.self.inside.walker c.stop-in-Err-flush.new.stopped)
+    c.args.at_least (Err c.stop-in-Err-flush.result) n) c.self.view_is here
 
 pub invariant_of-self-in-Err-flush : goal.invariant_of-self-in-Err-flush
-invariant_of-self-in-Err-flush g c = remembers g.D.Disk.state (old g (goal.at.invariant_of-self-in-Err-flush g c).After-known_numbers) (held_of c.flush.new.self c.self.inside.walker c.stop-in-Err-flush.new.stopped) c.args.at_least (Err c.stop-in-Err-flush.result) c.self.invariant.0 c.self.invariant.1 (not_flushed g c)
+invariant_of-self-in-Err-flush g c = remembers g.D.Disk.state (old g (goal.at.invariant_of-self-in-Err-flush g c).After-known_numbers)
+    (held_of c.flush.new.self c.self.inside.walker c.stop-in-Err-flush.new.stopped) c.args.at_least (Err c.stop-in-Err-flush.result)
+    c.self.invariant.0 c.self.invariant.1 (not_flushed g c)
 
 pub returns-in-Err-flush-clause-keeps : goal.returns-in-Err-flush-clause-keeps
 returns-in-Err-flush-clause-keeps g c =
@@ -206,7 +218,8 @@ switch-requires g c =
     c.in-Ok-child_for.child (chooses g at.In-Ok-child_for) (state c.flush.new.self.disk) c.flush.new.self (certain g at.In-Ok-flush)
 
 went : (g : Over) (c : After-drop-child-inside-in-Ok-switch g) (n : LogState)
-    → Ends g.D.Disk.state (old g (goal.at.returns-in-Ok-switch-clause-steps g c).After-known_numbers) (held_of c.switch.new.self c.new-self-inside.result c.self.inside.stopped) c.args.at_least (Ok (c.own.result, c.last_end-whole.result)) n
+    → Ends g.D.Disk.state (old g (goal.at.returns-in-Ok-switch-clause-steps g c).After-known_numbers)
+    (held_of c.switch.new.self c.new-self-inside.result c.self.inside.stopped) c.args.at_least (Ok (c.own.result, c.last_end-whole.result)) n
 went g c n holds =
     let state = g.D.Disk.state in
     let at = goal.at.returns-in-Ok-switch-clause-steps g c in
@@ -233,10 +246,13 @@ went g c n holds =
 pub returns-in-Ok-switch-clause-steps : goal.returns-in-Ok-switch-clause-steps
 returns-in-Ok-switch-clause-steps g c n =
     let here = went g c n in
-    subst (λ (h : HeldLog g.row.D.Denot). Ends g.D.Disk.state h (held_of c.switch.new.self c.new-self-inside.result c.self.inside.stopped) c.args.at_least (Ok (c.own.result, c.last_end-whole.result)) n) c.self.view_is here
+    subst (λ (h : HeldLog g.row.D.Denot). Ends g.D.Disk.state h (held_of c.switch.new.self c.new-self-inside.result c.self.inside.stopped)
+    c.args.at_least (Ok (c.own.result, c.last_end-whole.result)) n) c.self.view_is here
 
 pub invariant_of-self-in-Ok-switch : goal.invariant_of-self-in-Ok-switch
-invariant_of-self-in-Ok-switch g c = remembers g.D.Disk.state (old g (goal.at.invariant_of-self-in-Ok-switch g c).After-known_numbers) (held_of c.switch.new.self c.new-self-inside.result c.self.inside.stopped) c.args.at_least (Ok (c.own.result, c.last_end-whole.result)) c.self.invariant.0 c.self.invariant.1 (went g c)
+invariant_of-self-in-Ok-switch g c = remembers g.D.Disk.state (old g (goal.at.invariant_of-self-in-Ok-switch g c).After-known_numbers)
+    (held_of c.switch.new.self c.new-self-inside.result c.self.inside.stopped) c.args.at_least (Ok (c.own.result, c.last_end-whole.result))
+    c.self.invariant.0 c.self.invariant.1 (went g c)
 
 pub returns-in-Ok-switch-clause-keeps : goal.returns-in-Ok-switch-clause-keeps
 returns-in-Ok-switch-clause-keeps g c =
@@ -247,7 +263,8 @@ returns-in-Ok-switch-clause-keeps g c =
     subst (λ (h : HeldLog g.row.D.Denot). g.D.Disk.keeps h.disk c.switch.new.self.disk) c.self.view_is keeps
 
 not_gone : (g : Over) (c : After-stop-in-Err-switch g) (n : LogState)
-    → Ends g.D.Disk.state (old g (goal.at.invariant_of-self-in-Err-switch g c).After-known_numbers) (held_of c.switch.new.self c.self.inside.walker c.stop-in-Err-switch.new.stopped) c.args.at_least (Err c.stop-in-Err-switch.result) n
+    → Ends g.D.Disk.state (old g (goal.at.invariant_of-self-in-Err-switch g c).After-known_numbers)
+    (held_of c.switch.new.self c.self.inside.walker c.stop-in-Err-switch.new.stopped) c.args.at_least (Err c.stop-in-Err-switch.result) n
 not_gone g c n holds =
     let state = g.D.Disk.state in
     let at = goal.at.invariant_of-self-in-Err-switch g c in
@@ -274,10 +291,13 @@ not_gone g c n holds =
 pub returns-clause-steps : goal.returns-clause-steps
 returns-clause-steps g c n =
     let here = not_gone g (goal.at.returns-clause-steps g c).After-stop-in-Err-switch n in
-    subst (λ (h : HeldLog g.row.D.Denot). Ends g.D.Disk.state h (held_of c.switch.new.self c.self.inside.walker c.stop-in-Err-switch.new.stopped) c.args.at_least (Err c.stop-in-Err-switch.result) n) c.self.view_is here
+    subst (λ (h : HeldLog g.row.D.Denot). Ends g.D.Disk.state h (held_of c.switch.new.self c.self.inside.walker c.stop-in-Err-switch.new.stopped)
+    c.args.at_least (Err c.stop-in-Err-switch.result) n) c.self.view_is here
 
 pub invariant_of-self-in-Err-switch : goal.invariant_of-self-in-Err-switch
-invariant_of-self-in-Err-switch g c = remembers g.D.Disk.state (old g (goal.at.invariant_of-self-in-Err-switch g c).After-known_numbers) (held_of c.switch.new.self c.self.inside.walker c.stop-in-Err-switch.new.stopped) c.args.at_least (Err c.stop-in-Err-switch.result) c.self.invariant.0 c.self.invariant.1 (not_gone g c)
+invariant_of-self-in-Err-switch g c = remembers g.D.Disk.state (old g (goal.at.invariant_of-self-in-Err-switch g c).After-known_numbers)
+    (held_of c.switch.new.self c.self.inside.walker c.stop-in-Err-switch.new.stopped) c.args.at_least (Err c.stop-in-Err-switch.result)
+    c.self.invariant.0 c.self.invariant.1 (not_gone g c)
 
 pub returns-clause-keeps : goal.returns-clause-keeps
 returns-clause-keeps g c =
