@@ -1,5 +1,5 @@
 -- What is left of a source and of the disk of its copy, and who is told of failures.
-use Rattle.std.proofs.Common.{◌≡◌, ◌≢◌, ℕ, ◌⊎◌, Bool, true, false, Option, Some, None, IsSome, is_some, Result, Ok, Err, IfOk, IfErr, MatchResult, refl, sym, ap, ◌∙◌, subst, inl, inr}
+use Rattle.std.proofs.Common.{◌≡◌, ◌≢◌, ℕ, ◌⊎◌, Bool, true, false, Option, Some, None, IsSome, is_some, Result, Ok, Err, IfOk, IfErr, refl, sym, ap, ◌∙◌, subst, inl, inr}
 use Rattle.std.proofs.lemmas.Bool.{cases_Bool}
 use Rattle.repl_clone.specs.Causes.{BreaksSource, IsOfDisk, IsOfSource, Lasts}
 use Rattle.repl_clone.specs.Copied.{IsCopying, copied}
@@ -18,7 +18,7 @@ use Rattle.repl_store.specs.Durable.{Durable, IsKnown, StandsFor}
 use Rattle.repl_store.specs.Head.{Head, Held, status_of}
 use Rattle.repl_store.specs.declared.store.StoreStatus.{StoreStatus}
 use Rattle.repl_wal.specs.Cloning.{IsKnownSource, LeavesSource, of_copy, source_stopped}
-use Rattle.repl_wal.specs.Holding.{HeldLog, Holds, Runs}
+use Rattle.repl_wal.specs.Holding.{HeldLog, Holds, Runs, answer_after, disk_after, memory_of}
 use Rattle.repl_wal.specs.Making.{IsOpened, OnlyOpens}
 use Rattle.repl_wal.specs.State.{LogState, breaking, own_timeline}
 use Rattle.repl_wal.specs.Steps.{Old}
@@ -40,8 +40,8 @@ copied_sound result was now sound other breaks =
       | inr fine ↦ fine
     ]
 
-left_moments : {E : Type 0} (disk new : DiskState) (old : HeldLog E) (n : LogState) (result : Result (Unit {0}) CopyFault) → Holds disk old n
-    → old.stopped ≡ None → ((s : State) → Backs disk old.store.head s → Lasts result disk new old.store.head s) → n.told ≡ true → n.broken ≡ false
+left_moments : {E : Type 0} (disk new : DiskState) (old : HeldLog E) (n : LogState) (result : Result (Unit {0}) CopyFault) → Holds disk old.log n
+    → old.log.stopped ≡ None → ((s : State) → Backs disk old.log.head s → Lasts result disk new old.log.head s) → n.told ≡ true → n.broken ≡ false
     → LeavesOne disk new n.size (Old n)
 left_moments disk new old n result holds none lasts told sound =
     let runs = running old n none holds.remembers in
@@ -49,9 +49,9 @@ left_moments disk new old n result holds none lasts told sound =
 
 module _ {A D E : Type 0} (disk new : DiskState) (old : HeldLog E) (now : Held E) (n : LogState) where
   pub left_as_it_was : (answer : Result A (NodeFault × D)) (result : Result (Unit {0}) CopyFault) → result ≢ Err copy.SourceFault
-      → Holds disk old n → old.stopped ≡ None → now.head ≡ old.store.head → BreaksSource result old.store.broken now.broken
-      → ((s : State) → Backs disk old.store.head s → Lasts result disk new old.store.head s)
-      → LeavesSource answer disk new (record { store = now; walker = old.walker; stopped = old.stopped }) n
+      → Holds disk old.log n → old.log.stopped ≡ None → now.head ≡ old.log.head → BreaksSource result old.log.failed now.broken
+      → ((s : State) → Backs disk old.log.head s → Lasts result disk new old.log.head s)
+      → LeavesSource answer disk new (memory_of now old.log.walker old.log.stopped) n
   left_as_it_was answer result other holds none same breaks lasts =
       let runs = running old n none holds.remembers in
       record {
@@ -61,18 +61,18 @@ module _ {A D E : Type 0} (disk new : DiskState) (old : HeldLog E) (now : Held E
           remembers = inl (
             none,
             runs.0,
-            copied_sound result old.store.broken now.broken runs.1 other breaks,
-            subst (λ (h : Head). Runs h old.walker n) (sym same) runs.2,
+            copied_sound result old.log.failed now.broken runs.1 other breaks,
+            subst (λ (h : Head). Runs h old.log.walker n) (sym same) runs.2,
           );
           backs = λ told sound. subst (λ (h : Head). Backs new h n.kept) (sym same) ((lasts n.kept (holds.backs told sound)).backs other);
         };
         moments = left_moments disk new old n result holds none lasts;
       }
 
-  left_broken : (d : D) (before : StoreStatus) → Holds disk old n → old.stopped ≡ None → before ≡ status_of old.store.head
-      → now.head ≡ old.store.head
-      → ((s : State) → Backs disk old.store.head s → Lasts {A = Unit {0}} (Err copy.SourceFault) disk new old.store.head s)
-      → LeavesSource {A = A} (Err (fault.SourceFault, d)) disk new (record { store = now; walker = old.walker; stopped = Some before }) n
+  left_broken : (d : D) (before : StoreStatus) → Holds disk old.log n → old.log.stopped ≡ None → before ≡ status_of old.log.head
+      → now.head ≡ old.log.head
+      → ((s : State) → Backs disk old.log.head s → Lasts {A = Unit {0}} (Err copy.SourceFault) disk new old.log.head s)
+      → LeavesSource {A = A} (Err (fault.SourceFault, d)) disk new (memory_of now old.log.walker (Some before)) n
   left_broken d before holds none told same lasts =
       let runs = running old n none holds.remembers in
       record {
@@ -80,7 +80,7 @@ module _ {A D E : Type 0} (disk new : DiskState) (old : HeldLog E) (now : Held E
         is = inr (refl, runs.0, refl);
         holds = record {
           remembers = inr (
-            ap (λ (s : StoreStatus). Some s) (told ∙ same_status old.store.head old.walker n runs.2),
+            ap (λ (s : StoreStatus). Some s) (told ∙ same_status old.log.head old.log.walker n runs.2),
             refl,
             ap (λ (h : Head). h.path) same ∙ runs.2.path,
           );
@@ -89,14 +89,10 @@ module _ {A D E : Type 0} (disk new : DiskState) (old : HeldLog E) (now : Held E
         moments = left_moments disk new old n (Err copy.SourceFault) holds none lasts;
       }
 
-  left_past : (f : CopyFault) (d : D) (before : StoreStatus) → Holds disk old n → old.stopped ≡ None → before ≡ status_of old.store.head
-      → now.head ≡ old.store.head → BreaksSource {A = Unit {0}} (Err f) old.store.broken now.broken
-      → ((s : State) → Backs disk old.store.head s → Lasts {A = Unit {0}} (Err f) disk new old.store.head s)
-      → LeavesSource {A = A} (Err (of_copy f, d)) disk new (record {
-        store = now;
-        walker = old.walker;
-        stopped = source_stopped f old.stopped before;
-      }) n
+  left_past : (f : CopyFault) (d : D) (before : StoreStatus) → Holds disk old.log n → old.log.stopped ≡ None → before ≡ status_of old.log.head
+      → now.head ≡ old.log.head → BreaksSource {A = Unit {0}} (Err f) old.log.failed now.broken
+      → ((s : State) → Backs disk old.log.head s → Lasts {A = Unit {0}} (Err f) disk new old.log.head s)
+      → LeavesSource {A = A} (Err (of_copy f, d)) disk new (memory_of now old.log.walker (source_stopped f old.log.stopped before)) n
   left_past copy.SourceFault d before holds none told same breaks lasts = left_broken d before holds none told same lasts
   left_past copy.Exists d before holds none told same breaks lasts =
       left_as_it_was (Err (fault.Exists, d)) (Err copy.Exists) (λ e. cc) holds none same breaks lasts
@@ -108,24 +104,21 @@ module _ {A D E : Type 0} (disk new : DiskState) (old : HeldLog E) (now : Held E
       left_as_it_was (Err (fault.Memory, d)) (Err copy.Memory) (λ e. cc) holds none same breaks lasts
 
   -- after a copy that was refused
-  pub left_refused : (f : CopyFault) (d : D) (before : StoreStatus) (e : NodeFault) (stopped : Option StoreStatus) → Holds disk old n
-      → old.stopped ≡ None → before ≡ status_of old.store.head → now.head ≡ old.store.head
-      → BreaksSource {A = Unit {0}} (Err f) old.store.broken now.broken
-      → ((s : State) → Backs disk old.store.head s → Lasts {A = Unit {0}} (Err f) disk new old.store.head s) → e ≡ of_copy f
-      → stopped ≡ source_stopped f old.stopped before
-      → LeavesSource {A = A} (Err (e, d)) disk new (record { store = now; walker = old.walker; stopped = stopped }) n
+  pub left_refused : (f : CopyFault) (d : D) (before : StoreStatus) (e : NodeFault) (stopped : Option StoreStatus) → Holds disk old.log n
+      → old.log.stopped ≡ None → before ≡ status_of old.log.head → now.head ≡ old.log.head
+      → BreaksSource {A = Unit {0}} (Err f) old.log.failed now.broken
+      → ((s : State) → Backs disk old.log.head s → Lasts {A = Unit {0}} (Err f) disk new old.log.head s) → e ≡ of_copy f
+      → stopped ≡ source_stopped f old.log.stopped before
+      → LeavesSource {A = A} (Err (e, d)) disk new (memory_of now old.log.walker stopped) n
   left_refused f d before e stopped holds none told same breaks lasts answer is =
-      let Left : NodeFault → Option StoreStatus → Type 0 = λ e. λ s. LeavesSource {A = A} {D = D} (Err (e, d)) disk new (record {
-        store = now;
-        walker = old.walker;
-        stopped = s;
-      }) n in
+      let Left : NodeFault → Option StoreStatus → Type 0 = λ e. λ s. LeavesSource {A = A} {D = D} (Err (e, d)) disk new
+      (memory_of now old.log.walker s) n in
       subst (λ (e : NodeFault). Left e stopped) (sym answer)
       (subst (Left (of_copy f)) (sym is) (left_past f d before holds none told same breaks lasts))
 
 -- a source that was not called
 pub left_untouched : {A D E : Type 0} (answer : Result A (NodeFault × D)) (disk : DiskState) (old : HeldLog E) (n : LogState)
-    → ((image : Folder) → disk.left_since disk.moment image → disk.may_leave image) → Holds disk old n → LeavesSource answer disk disk old n
+    → ((image : Folder) → disk.left_since disk.moment image → disk.may_leave image) → Holds disk old.log n → LeavesSource answer disk disk old.log n
 left_untouched {A} {D} answer disk old n only holds =
     let comes = untouched {A = Unit {0}} (Ok tt) disk old n (λ m. m ≡ n) (Old n) only holds refl (λ d was. was) (λ e. absurd cc) in
     record { next = n; is = inl refl; holds = holds; moments = comes.moments }
@@ -177,37 +170,33 @@ pub if_err : {A E : Type 0} (result : Result A E) (P Q : E → Type 0) → ((e :
 if_err (Ok x) P Q leads h = tt
 if_err (Err e) P Q leads h = leads e h
 
-pub matched : {A E : Type 0} (result : Result A E) (P Q : A → Type 0) (R S : E → Type 0) → ((x : A) → P x → Q x) → ((e : E) → R e → S e)
-    → MatchResult result P R → MatchResult result Q S
-matched (Ok x) P Q R S leads fails h = leads x h
-matched (Err e) P Q R S leads fails h = fails e h
-
-pub err_of : {A E : Type 0} (result : Result A E) (P : A → Type 0) (R S : E → Type 0) → ((e : E) → R e → S e) → MatchResult result P R
-    → IfErr result S
-err_of (Ok x) P R S fails h = tt
-err_of (Err e) P R S fails h = fails e h
+-- what is known of an answer and the disk after it, of an answer that hands the disk back
+pub err_of : {D E : Type 0} (result : Result (HeldLog D) (E × D)) (P : Result (HeldLog D) E → D → Type 0) (S : E × D → Type 0)
+    → ((e : E × D) → P (Err e.0) e.1 → S e) → P (answer_after result) (disk_after result) → IfErr result S
+err_of (Ok x) P S fails h = tt
+err_of (Err e) P S fails h = fails e h
 
 -- all of the disk stands for the copy of the log
-pub all_stand : {E : Type 0} (source : DiskState) (old : HeldLog E) (before mid : DiskState) (n : LogState) (known : ℕ) → Holds source old n
-    → old.stopped ≡ None → n.told ≡ true → n.size ≡ VERSION_1_SIZE
+pub all_stand : {E : Type 0} (source : DiskState) (old : HeldLog E) (before mid : DiskState) (n : LogState) (known : ℕ) → Holds source old.log n
+    → old.log.stopped ≡ None → n.told ≡ true → n.size ≡ VERSION_1_SIZE
     → ((image : Folder) → before.may_leave image → IsKnown image (own_timeline n) known)
-    → ((s : State) (known : ℕ) → Backs source old.store.head s
-    → ((image : Folder) → before.may_leave image → IsKnown image old.store.head.control.tli known)
-    → IfTold mid.files (AllStand old.store.head.size (copied s.durable known) mid))
+    → ((s : State) (known : ℕ) → Backs source old.log.head s
+    → ((image : Folder) → before.may_leave image → IsKnown image old.log.head.control.tli known)
+    → IfTold mid.files (AllStand old.log.head.size (copied s.durable known) mid))
     → IfTold mid.files (AllStand VERSION_1_SIZE (copied n.kept.durable known) mid)
 all_stand source old before mid n known holds none told size heard stand =
     let runs = running old n none holds.remembers in
-    let own : (image : Folder) → before.may_leave image → IsKnown image old.store.head.control.tli known = λ image left.
+    let own : (image : Folder) → before.may_leave image → IsKnown image old.log.head.control.tli known = λ image left.
     subst (λ (k : Control). IsKnown image k.tli known) (sym runs.2.control) (heard image left) in
     subst (λ (k : ℕ). IfTold mid.files (AllStand k (copied n.kept.durable known) mid)) (runs.2.size ∙ size)
     (stand n.kept known (holds.backs told runs.0) own)
 
 -- the folder after the copy of a known source
 pub known_copy : {E : Type 0} (source : DiskState) (old : HeldLog E) (before mid : DiskState) (n : LogState) (known : ℕ)
-    → IsKnownSource source old before n known → old.stopped ≡ None → is_some mid.files ≡ is_some before.files
-    → ((s : State) (known : ℕ) → Backs source old.store.head s
-    → ((image : Folder) → before.may_leave image → IsKnown image old.store.head.control.tli known)
-    → IfTold mid.files (AllStand old.store.head.size (copied s.durable known) mid))
+    → IsKnownSource source old.log before n known → old.log.stopped ≡ None → is_some mid.files ≡ is_some before.files
+    → ((s : State) (known : ℕ) → Backs source old.log.head s
+    → ((image : Folder) → before.may_leave image → IsKnown image old.log.head.control.tli known)
+    → IfTold mid.files (AllStand old.log.head.size (copied s.durable known) mid))
     → (folder : Folder) × (mid.files ≡ Some folder) × AllStand VERSION_1_SIZE (copied n.kept.durable known) mid folder
 known_copy source old before mid n known is none tells stand =
     let there = told_on before.files mid.files tells is.files in
@@ -215,23 +204,24 @@ known_copy source old before mid n known is none tells stand =
     (there.0, there.1, told_so mid.files there.0 (AllStand VERSION_1_SIZE (copied n.kept.durable known) mid) there.1 all)
 
 -- what a crash leaves while the copy is made
-pub copy_moments : {E : Type 0} (source : DiskState) (old : HeldLog E) (before mid : DiskState) (folder : Folder) (n : LogState) → Holds source old n
-    → old.stopped ≡ None → n.told ≡ true → before.files ≡ Some folder
-    → IfTold before.files (λ f. (s : State) → Backs source old.store.head s
-    → LeavesOnly before mid (IsCopying before.may_leave old.store.head.size s.durable))
+pub copy_moments : {E : Type 0} (source : DiskState) (old : HeldLog E) (before mid : DiskState) (folder : Folder) (n : LogState)
+    → Holds source old.log n
+    → old.log.stopped ≡ None → n.told ≡ true → before.files ≡ Some folder
+    → IfTold before.files (λ f. (s : State) → Backs source old.log.head s
+    → LeavesOnly before mid (IsCopying before.may_leave old.log.head.size s.durable))
     → LeavesOnly before mid (IsCopying before.may_leave n.size n.kept.durable)
 copy_moments source old before mid folder n holds none told files moments =
     let runs = running old n none holds.remembers in
-    let Each : Folder → Type 0 = λ f. (s : State) → Backs source old.store.head s
-    → LeavesOnly before mid (IsCopying before.may_leave old.store.head.size s.durable) in
+    let Each : Folder → Type 0 = λ f. (s : State) → Backs source old.log.head s
+    → LeavesOnly before mid (IsCopying before.may_leave old.log.head.size s.durable) in
     subst (λ (k : ℕ). LeavesOnly before mid (IsCopying before.may_leave k n.kept.durable)) runs.2.size
     (told_so before.files folder Each files moments n.kept (holds.backs told runs.0))
 
 -- of a known source
 pub known_moments : {E : Type 0} (source : DiskState) (old : HeldLog E) (before mid : DiskState) (n : LogState) (known : ℕ)
-    → IsKnownSource source old before n known → old.stopped ≡ None
-    → IfTold before.files (λ f. (s : State) → Backs source old.store.head s
-    → LeavesOnly before mid (IsCopying before.may_leave old.store.head.size s.durable))
+    → IsKnownSource source old.log before n known → old.log.stopped ≡ None
+    → IfTold before.files (λ f. (s : State) → Backs source old.log.head s
+    → LeavesOnly before mid (IsCopying before.may_leave old.log.head.size s.durable))
     → LeavesOnly before mid (IsCopying before.may_leave n.size n.kept.durable)
 known_moments source old before mid n known is none moments =
     let there = told_on before.files before.files refl is.files in

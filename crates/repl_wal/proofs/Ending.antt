@@ -18,7 +18,7 @@ use Rattle.repl_store.specs.declared.store.StoreStatus.{StoreStatus}
 use Rattle.repl_store.proofs.Chaining.{moments_more}
 use Rattle.repl_store.proofs.Pieces.{idle}
 use Rattle.repl_wal.specs.Faults.{of_store, stopped_by}
-use Rattle.repl_wal.specs.Holding.{Comes, HeldLog, Holds, Remembers, Runs}
+use Rattle.repl_wal.specs.Holding.{Comes, HeldLog, Holds, Remembers, Runs, memory_of}
 use Rattle.repl_wal.specs.State.{LogState, breaking, flushed_log, path_of, role_of, status_of_log, written_end}
 use Rattle.repl_wal.specs.Steps.{Old, OldOr, Step}
 use Rattle.repl_wal.specs.declared.fault.NodeFault.{NodeFault}
@@ -35,13 +35,13 @@ pub some_of : {A : Type 0} (o : Option A) → is_some o ≡ true → o ≡ None 
 some_of None is none = absurd cc
 some_of (Some a) is none = cc
 
-pub running : {D : Type 0} (held : HeldLog D) (n : LogState) → held.stopped ≡ None → Remembers held n
-    → (n.broken ≡ false) × (held.store.broken ≡ false) × Runs held.store.head held.walker n
+pub running : {D : Type 0} (held : HeldLog D) (n : LogState) → held.log.stopped ≡ None → Remembers held.log n
+    → (n.broken ≡ false) × (held.log.failed ≡ false) × Runs held.log.head held.log.walker n
 running held n none (inl is) = (is.1, is.2, is.3)
 running held n none (inr is) = let clash : ◌≡◌ {A = Option StoreStatus} None (Some (status_of_log n)) = sym none ∙ is.0 in absurd cc
 
-pub stopped : {D : Type 0} (held : HeldLog D) (n : LogState) → (held.stopped ≡ None → ⊥) → Remembers held n
-    → (held.stopped ≡ Some (status_of_log n)) × (n.broken ≡ true) × (held.store.head.path ≡ path_of n)
+pub stopped : {D : Type 0} (held : HeldLog D) (n : LogState) → (held.log.stopped ≡ None → ⊥) → Remembers held.log n
+    → (held.log.stopped ≡ Some (status_of_log n)) × (n.broken ≡ true) × (held.log.head.path ≡ path_of n)
 stopped held n some (inl is) = absurd (some is.0)
 stopped held n some (inr is) = is
 
@@ -94,20 +94,17 @@ still_sound {A} f was now memory sound breaks =
 
 pub refused : {A D : Type 0} (Refuses : NodeFault → Type 0) (Passes : Type 0) (Done : A → LogState → Type 0) (Partly : LogState → Type 0)
     (column : Durable → Type 0) (disk new : DiskState) (old : HeldLog D) (now : Held D) (f : StoreFault) (before : StoreStatus) (n : LogState)
-    → Holds disk old n → old.stopped ≡ None → Passes → Partly n → before ≡ status_of old.store.head
-    → IsAt old.store.head now.head old.store.head.written → IsAnswer f → (f ≡ store.Broken → ⊥)
-    → Breaks {A = Unit {0}} (Err f) old.store.broken now.broken
+    → Holds disk old.log n → old.log.stopped ≡ None → Passes → Partly n → before ≡ status_of old.log.head
+    → IsAt old.log.head now.head old.log.head.written → IsAnswer f → (f ≡ store.Broken → ⊥)
+    → Breaks {A = Unit {0}} (Err f) old.log.failed now.broken
     → (f ≡ store.DiskFault → Rose disk.faults new.faults ⊎ Rose disk.lacks new.lacks)
     → (n.told ≡ true → n.broken ≡ false → Refused column f disk new now.head n)
-    → Comes {A = A} (Err (of_store f)) disk new (record { store = now; walker = old.walker; stopped = stopped_by f old.stopped before }) n
+    → Comes {A = A} (Err (of_store f)) disk new (memory_of now old.log.walker (stopped_by f old.log.stopped before)) n
     (Step Refuses Passes Done Partly n (Err (of_store f))) column
 refused {A} {D} Refuses Passes Done Partly column disk new old now f before n holds none passes partly told same answer sound breaks cause files =
     let runs = running old n none holds.remembers in
-    let At : StoreFault → Type 0 = λ e. Comes {A = A} (Err (of_store e)) disk new (record {
-      store = now;
-      walker = old.walker;
-      stopped = stopped_by e old.stopped before;
-    }) n (Step Refuses Passes Done Partly n (Err (of_store e))) column in
+    let At : StoreFault → Type 0 = λ e. Comes {A = A} (Err (of_store e)) disk new (memory_of now old.log.walker (stopped_by e old.log.stopped before))
+    n (Step Refuses Passes Done Partly n (Err (of_store e))) column in
     let memory : f ≡ store.Memory → At store.Memory = λ is. record {
       next = n;
       is = (runs.0, partly);
@@ -115,8 +112,8 @@ refused {A} {D} Refuses Passes Done Partly column disk new old now f before n ho
         remembers = inl (
           none,
           runs.0,
-          still_sound f old.store.broken now.broken is runs.1 breaks,
-          still_runs old.store.head now.head old.walker n
+          still_sound f old.log.failed now.broken is runs.1 breaks,
+          still_runs old.log.head now.head old.log.walker n
               runs.2 same,
         );
         backs = λ t b. (files t b).same is;
@@ -129,7 +126,7 @@ refused {A} {D} Refuses Passes Done Partly column disk new old now f before n ho
       is = (runs.0, passes, refl);
       holds = record {
         remembers = inr (
-          ap (λ (s : StoreStatus). Some s) (told ∙ same_status old.store.head old.walker n runs.2),
+          ap (λ (s : StoreStatus). Some s) (told ∙ same_status old.log.head old.log.walker n runs.2),
           refl,
           same.same_path
               ∙ runs.2.path,
@@ -155,27 +152,28 @@ refused {A} {D} Refuses Passes Done Partly column disk new old now f before n ho
 
 pub certain : {A D : Type 0} (Refuses : NodeFault → Type 0) (Passes : Type 0) (Done : A → LogState → Type 0) (Partly : LogState → Type 0) (a : A)
     (disk new : DiskState) (old : HeldLog D) (now : Held D) (n : LogState) (role : Role)
-    → Holds disk old n → old.stopped ≡ None → IsHead old.store.head → Passes → (role ≡ Primary → last_end old.walker ≡ written_end n)
-    → Done a (flushed_log n role (last_end old.walker) (last_start old.walker))
-    → Stands now.head old.store.head.size (flushed_control old.store.head.control role old.store.head.written (last_end old.walker)
-    (last_start old.walker)) old.store.head.path old.store.head.written
+    → Holds disk old.log n → old.log.stopped ≡ None → IsHead old.log.head → Passes → (role ≡ Primary → last_end old.log.walker ≡ written_end n)
+    → Done a (flushed_log n role (last_end old.log.walker) (last_start old.log.walker))
+    → Stands now.head old.log.head.size (flushed_control old.log.head.control role old.log.head.written (last_end old.log.walker)
+    (last_start old.log.walker)) old.log.head.path old.log.head.written
     → now.broken ≡ false
-    → ((s : State) → Backs disk old.store.head s → StoreComes {A = Unit {0}} (Ok tt) disk new now.head (Either s.durable
-    (flushed s role (last_end old.walker) (last_start old.walker)).durable) (flushed s role (last_end old.walker) (last_start old.walker))
+    → ((s : State) → Backs disk old.log.head s → StoreComes {A = Unit {0}} (Ok tt) disk new now.head (Either s.durable
+    (flushed s role (last_end old.log.walker) (last_start old.log.walker)).durable)
+    (flushed s role (last_end old.log.walker) (last_start old.log.walker))
     (λ t. t ≡ s))
-    → Comes {A = A} (Ok a) disk new (record { store = now; walker = old.walker; stopped = old.stopped }) n (Step Refuses Passes Done Partly n (Ok a))
+    → Comes {A = A} (Ok a) disk new (memory_of now old.log.walker old.log.stopped) n (Step Refuses Passes Done Partly n (Ok a))
     (OldOr n Done)
 certain {A} {D} Refuses Passes Done Partly a disk new old now n role holds none is passes ends done stands sound comes =
     let runs = running old n none holds.remembers in
-    let end = last_end old.walker in
-    let last = last_start old.walker in
+    let end = last_end old.log.walker in
+    let last = last_start old.log.walker in
     let after = flushed_log n role end last in
     let size : now.head.size ≡ n.size = stands.same_size ∙ runs.2.size in
     record {
       next = after;
       is = (runs.0, passes, done);
       holds = record {
-        remembers = inl (none, runs.0, sound, flushed_runs old.store.head now.head old.walker n role is runs.2 ends stands);
+        remembers = inl (none, runs.0, sound, flushed_runs old.log.head now.head old.log.walker n role is runs.2 ends stands);
         backs = λ t b. (comes n.kept (holds.backs t b)).ok;
       };
       moments = λ t b. subst (λ (k : ℕ). LeavesOne disk new k (OldOr n Done)) size (moments_more disk new now.head.size (Either n.kept.durable
@@ -190,7 +188,7 @@ certain {A} {D} Refuses Passes Done Partly a disk new old now n role holds none 
 
 -- the log of which nothing is known on the disk
 abbrev pub untold : LogState → LogState
-untold n = record { size = n.size; kept = n.kept; broken = n.broken; told = false }
+untold n = record n { told = false }
 
 untold_runs : (head : Head) (w : Walker) (n : LogState) → Runs head w n → Runs head w (untold n)
 untold_runs head w n runs = record {
@@ -205,9 +203,9 @@ untold_runs head w n runs = record {
   primary = runs.primary;
 }
 
-pub untold_holds : {D : Type 0} (disk : DiskState) (held : HeldLog D) (n : LogState) → Remembers held n → Holds disk held (untold n)
+pub untold_holds : {D : Type 0} (disk : DiskState) (held : HeldLog D) (n : LogState) → Remembers held.log n → Holds disk held.log (untold n)
 untold_holds disk held n (inl is) = record {
-  remembers = inl (is.0, is.1, is.2, untold_runs held.store.head held.walker n is.3);
+  remembers = inl (is.0, is.1, is.2, untold_runs held.log.head held.log.walker n is.3);
   backs = λ told. absurd cc;
 }
 untold_holds disk held n (inr is) = record { remembers = inr is; backs = λ told. absurd cc }
@@ -232,47 +230,45 @@ not_broken {A} f was sound broken is =
 module _ {A D : Type 0} (Refuses : NodeFault → Type 0) (Passes : Type 0) (Done : A → LogState → Type 0) (Partly : LogState → Type 0)
     (disk new : DiskState) (old : HeldLog D) (now : Held D) (n : LogState) where
   pub refused_at : (column : Durable → Type 0) (f : StoreFault) (before : StoreStatus) (e : NodeFault) (stopped : Option StoreStatus)
-      → Holds disk old n → old.stopped ≡ None → Passes → Partly n → before ≡ status_of old.store.head
-      → IsAt old.store.head now.head old.store.head.written → IsCaused {A = Unit {0}} (Err f) disk new
-      → (◌≡◌ {A = Result (Unit {0}) StoreFault} (Err f) (Err store.Broken)) ↔ (old.store.broken ≡ true)
-      → Breaks {A = Unit {0}} (Err f) old.store.broken now.broken → (n.told ≡ true → n.broken ≡ false → Refused column f disk new now.head n)
-      → e ≡ of_store f → stopped ≡ stopped_by f old.stopped before
-      → Comes {A = A} (Err e) disk new (record { store = now; walker = old.walker; stopped = stopped }) n (Step Refuses Passes Done Partly n (Err e))
+      → Holds disk old.log n → old.log.stopped ≡ None → Passes → Partly n → before ≡ status_of old.log.head
+      → IsAt old.log.head now.head old.log.head.written → IsCaused {A = Unit {0}} (Err f) disk new
+      → (◌≡◌ {A = Result (Unit {0}) StoreFault} (Err f) (Err store.Broken)) ↔ (old.log.failed ≡ true)
+      → Breaks {A = Unit {0}} (Err f) old.log.failed now.broken → (n.told ≡ true → n.broken ≡ false → Refused column f disk new now.head n)
+      → e ≡ of_store f → stopped ≡ stopped_by f old.log.stopped before
+      → Comes {A = A} (Err e) disk new (memory_of now old.log.walker stopped) n (Step Refuses Passes Done Partly n (Err e))
       column
   refused_at column f before e stopped holds none passes partly told same caused broken breaks files answer left =
       let runs = running old n none holds.remembers in
       let Fails : StoreFault → Result (Unit {0}) StoreFault = λ e. Err e in
-      let At : NodeFault → Option StoreStatus → Type 0 = λ e. λ s. Comes {A = A} (Err e) disk new (record {
-        store = now;
-        walker = old.walker;
-        stopped = s;
-      }) n (Step Refuses Passes Done Partly n (Err e)) column in
+      let At : NodeFault → Option StoreStatus → Type 0 = λ e. λ s. Comes {A = A} (Err e) disk new (memory_of now old.log.walker s) n
+      (Step Refuses Passes Done Partly n (Err e)) column in
       subst (λ (e : NodeFault). At e stopped) (sym answer) (subst (At (of_store f)) (sym left) (refused Refuses Passes Done Partly column disk new old
-      now f before n holds none passes partly told same caused.answers (not_broken f old.store.broken runs.1 broken) breaks (λ is. caused.failed
+      now f before n holds none passes partly told same caused.answers (not_broken f old.log.failed runs.1 broken) breaks (λ is. caused.failed
       (ap Fails is)) files))
 
-  pub certain_at : (a : A) (role : Role) (end last : ℕ) → end ≡ last_end old.walker → last ≡ last_start old.walker → Holds disk old n
-      → old.stopped ≡ None → IsHead old.store.head → Passes → (role ≡ Primary → last_end old.walker ≡ written_end n)
-      → Done a (flushed_log n role (last_end old.walker) (last_start old.walker))
-      → Stands now.head old.store.head.size (flushed_control old.store.head.control role old.store.head.written end last) old.store.head.path
-      old.store.head.written
-      → Breaks {A = Unit {0}} (Ok tt) old.store.broken now.broken
-      → ((s : State) → Backs disk old.store.head s → StoreComes {A = Unit {0}} (Ok tt) disk new now.head (Either s.durable
+  pub certain_at : (a : A) (role : Role) (end last : ℕ) → end ≡ last_end old.log.walker → last ≡ last_start old.log.walker → Holds disk old.log n
+      → old.log.stopped ≡ None → IsHead old.log.head → Passes → (role ≡ Primary → last_end old.log.walker ≡ written_end n)
+      → Done a (flushed_log n role (last_end old.log.walker) (last_start old.log.walker))
+      → Stands now.head old.log.head.size (flushed_control old.log.head.control role old.log.head.written end last) old.log.head.path
+      old.log.head.written
+      → Breaks {A = Unit {0}} (Ok tt) old.log.failed now.broken
+      → ((s : State) → Backs disk old.log.head s → StoreComes {A = Unit {0}} (Ok tt) disk new now.head (Either s.durable
       (flushed s role end last).durable) (flushed s role end last) (λ t. t ≡ s))
-      → Comes {A = A} (Ok a) disk new (record { store = now; walker = old.walker; stopped = old.stopped }) n
+      → Comes {A = A} (Ok a) disk new (memory_of now old.log.walker old.log.stopped) n
       (Step Refuses Passes Done Partly n (Ok a)) (OldOr n Done)
   certain_at a role end last end_is last_is holds none is passes ends done stands breaks comes =
       let runs = running old n none holds.remembers in
       let As : ℕ → ℕ → Type 0 = λ e. λ l.
-      Stands now.head old.store.head.size (flushed_control old.store.head.control role old.store.head.written e l) old.store.head.path
-      old.store.head.written
-      → ((s : State) → Backs disk old.store.head s → StoreComes {A = Unit {0}} (Ok tt) disk new now.head (Either s.durable
+      Stands now.head old.log.head.size (flushed_control old.log.head.control role old.log.head.written e l) old.log.head.path
+      old.log.head.written
+      → ((s : State) → Backs disk old.log.head s → StoreComes {A = Unit {0}} (Ok tt) disk new now.head (Either s.durable
       (flushed s role e l).durable) (flushed s role e l) (λ t. t ≡ s))
-      → Comes {A = A} (Ok a) disk new (record { store = now; walker = old.walker; stopped = old.stopped }) n
+      → Comes {A = A} (Ok a) disk new (memory_of now old.log.walker old.log.stopped) n
       (Step Refuses Passes Done Partly n (Ok a)) (OldOr n Done) in
-      let here : As (last_end old.walker) (last_start old.walker) = λ stands comes. certain Refuses Passes Done Partly a disk new old now n role holds
-      none is passes ends done stands (ok_sound tt old.store.broken now.broken runs.1 breaks) comes in
-      let there : As end last = subst (λ (e : ℕ). As e last) (sym end_is) (subst (As (last_end old.walker)) (sym last_is) here) in
+      let here : As (last_end old.log.walker) (last_start old.log.walker) = λ stands comes. certain Refuses Passes Done Partly a disk new old now n
+      role holds
+      none is passes ends done stands (ok_sound tt old.log.failed now.broken runs.1 breaks) comes in
+      let there : As end last = subst (λ (e : ℕ). As e last) (sym end_is) (subst (As (last_end old.log.walker)) (sym last_is) here) in
       there stands comes
 
 -- ---- a refusal of the log's own
@@ -288,17 +284,17 @@ role_told status head n told same = ap (λ (s : StoreStatus). s.role) told ∙ a
 
 -- nothing was called, and nothing changes
 pub untouched : {A D : Type 0} (result : Result A NodeFault) (disk : DiskState) (old : HeldLog D) (n : LogState) (Next : LogState → Type 0)
-    (column : Durable → Type 0) → ((image : Folder) → disk.left_since disk.moment image → disk.may_leave image) → Holds disk old n → Next n
-    → ((d : Durable) → Old n d → column d) → (result ≡ Err fault.DiskFault → ⊥) → Comes result disk disk old n Next column
+    (column : Durable → Type 0) → ((image : Folder) → disk.left_since disk.moment image → disk.may_leave image) → Holds disk old.log n → Next n
+    → ((d : Durable) → Old n d → column d) → (result ≡ Err fault.DiskFault → ⊥) → Comes result disk disk old.log n Next column
 untouched {A} {D} result disk old n Next column only holds is more other =
     let moments : n.told ≡ true → n.broken ≡ false → LeavesOne disk disk n.size column = λ t b.
     let backs = holds.backs t b in
-    let left = idle disk old.store.head n.kept only backs in
-    let sized : old.store.head.size ≡ n.size = elim holds.remembers [
+    let left = idle disk old.log.head n.kept only backs in
+    let sized : old.log.head.size ≡ n.size = elim holds.remembers [
       | inl is ↦ is.3.size
       | inr is ↦ absurd cc
     ] in
-    subst (λ (k : ℕ). LeavesOne disk disk k column) sized (moments_more disk disk old.store.head.size (Old n) column more left) in
+    subst (λ (k : ℕ). LeavesOne disk disk k column) sized (moments_more disk disk old.log.head.size (Old n) column more left) in
     record { next = n; is = is; holds = holds; moments = moments; failed = λ failed. absurd (other failed) }
 
 pub failure : {A : Type 0} (e : NodeFault) → ◌≡◌ {A = Result A NodeFault} (Err e) (Err fault.DiskFault) → e ≡ fault.DiskFault

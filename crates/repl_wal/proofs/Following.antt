@@ -18,7 +18,7 @@ use Rattle.repl_store.specs.declared.store.StoreStatus.{StoreStatus}
 use Rattle.repl_store.proofs.Chaining.{moments_more}
 use Rattle.repl_wal.specs.Faults.{of_store, stopped_by}
 use Rattle.repl_wal.specs.Following.{CanFollow, FollowLeaves, Follows, IsUnfollowed, Leaves, followed}
-use Rattle.repl_wal.specs.Holding.{Comes, HeldLog, Holds, Runs}
+use Rattle.repl_wal.specs.Holding.{Comes, HeldLog, Holds, Runs, memory_of}
 use Rattle.repl_wal.specs.Making.{BeginsAs}
 use Rattle.repl_wal.specs.State.{LogState, breaking, floor_of, heard_log, last_start as start_kept, status_of_log, whole_end}
 use Rattle.repl_wal.specs.declared.fault.NodeFault.{NodeFault}
@@ -117,16 +117,16 @@ followed_begins head new w n child is runs can sound stands =
     }
 
 followed_at : {D : Type 0} (disk new : DiskState) (old : HeldLog D) (now : Held D) (next : Walker) (n : LogState) (child : Path)
-    (after : StoreStatus) → Holds disk old n → old.stopped ≡ None → IsHead old.store.head → CanFollow n child
-    → Stands now.head old.store.head.size (switched_control old.store.head.control child Standby (whole_end n) (start_kept n)) child
+    (after : StoreStatus) → Holds disk old.log n → old.log.stopped ≡ None → IsHead old.log.head → CanFollow n child
+    → Stands now.head old.log.head.size (switched_control old.log.head.control child Standby (whole_end n) (start_kept n)) child
     (last_switch child.parents)
-    → Breaks {A = Unit {0}} (Ok tt) old.store.broken now.broken
-    → Switches (Ok tt) disk new old.store.head now.head child (whole_end n) (start_kept n) → IsHead now.head → after ≡ status_of now.head
+    → Breaks {A = Unit {0}} (Ok tt) old.log.failed now.broken
+    → Switches (Ok tt) disk new old.log.head now.head child (whole_end n) (start_kept n) → IsHead now.head → after ≡ status_of now.head
     → ((timeline : ℕ → ℕ) → StandsPast next timeline after.whole after.prev []) → identity next ≡ after.ident
-    → Comes {A = Unit {0}} (Ok tt) disk new (record { store = now; walker = next; stopped = old.stopped }) n (Follows n child (Ok tt))
+    → Comes {A = Unit {0}} (Ok tt) disk new (memory_of now next old.log.stopped) n (Follows n child (Ok tt))
     (FollowLeaves n child)
 followed_at disk new old now next n child after holds none is can stands breaks comes is_new told begun of_log =
-    let head = old.store.head in
+    let head = old.log.head in
     let runs = running old n none holds.remembers in
     let flushed : now.head.control.flushed ≡ last_switch child.parents = ap (λ (c : Control). c.flushed) stands.same_control in
     let whole : now.head.control.whole ≡ whole_end n = ap (λ (c : Control). c.whole) stands.same_control in
@@ -137,37 +137,37 @@ followed_at disk new old now next n child after holds none is can stands breaks 
         remembers = inl (
           none,
           runs.0,
-          ok_sound tt old.store.broken now.broken runs.1 breaks,
+          ok_sound tt old.log.failed now.broken runs.1 breaks,
           begun_runs now.head next (followed n child) after
               is_new.size is_new.right (stands.same_end ∙ sym flushed) (whole ∙ sym can.at_whole ∙ sym flushed)
-              (followed_begins head now.head old.walker n child is runs.2 can runs.0 stands) told begun of_log,
+              (followed_begins head now.head old.log.walker n child is runs.2 can runs.0 stands) told begun of_log,
         );
         backs = λ t b. subst (λ (r : Role). Backs new now.head (record {
           durable = switched n.kept.durable child r (whole_end n) (start_kept n);
           unflushed = [];
         })) (sym can.standby) (comes n.kept (holds.backs t b)).ok;
       };
-      moments = λ t b. moments_of (Ok tt) disk new head now.head old.walker n child runs.2 stands.same_size can comes (holds.backs t b);
+      moments = λ t b. moments_of (Ok tt) disk new head now.head old.log.walker n child runs.2 stands.same_size can comes (holds.backs t b);
       failed = λ is. absurd cc;
     }
 
 pub followed_comes : {D : Type 0} (disk new : DiskState) (old : HeldLog D) (now : Held D) (next : Walker) (n : LogState) (child : Path)
-    (status after : StoreStatus) → Holds disk old n → old.stopped ≡ None → IsHead old.store.head → status ≡ status_of old.store.head
+    (status after : StoreStatus) → Holds disk old.log n → old.log.stopped ≡ None → IsHead old.log.head → status ≡ status_of old.log.head
     → CanFollow n child
-    → Stands now.head old.store.head.size (switched_control old.store.head.control child Standby status.whole status.prev) child
+    → Stands now.head old.log.head.size (switched_control old.log.head.control child Standby status.whole status.prev) child
     (last_switch child.parents)
-    → Breaks {A = Unit {0}} (Ok tt) old.store.broken now.broken
-    → Switches (Ok tt) disk new old.store.head now.head child status.whole status.prev → IsHead now.head → after ≡ status_of now.head
+    → Breaks {A = Unit {0}} (Ok tt) old.log.failed now.broken
+    → Switches (Ok tt) disk new old.log.head now.head child status.whole status.prev → IsHead now.head → after ≡ status_of now.head
     → ((timeline : ℕ → ℕ) → StandsPast next timeline after.whole after.prev []) → identity next ≡ after.ident
-    → Comes {A = Unit {0}} (Ok tt) disk new (record { store = now; walker = next; stopped = old.stopped }) n (Follows n child (Ok tt))
+    → Comes {A = Unit {0}} (Ok tt) disk new (memory_of now next old.log.stopped) n (Follows n child (Ok tt))
     (FollowLeaves n child)
 followed_comes {D} disk new old now next n child status after holds none is told can stands breaks comes is_new told_new begun of_log =
-    let head = old.store.head in
-    let as_log : status ≡ status_of_log n = told ∙ same_status head old.walker n (running old n none holds.remembers).2 in
+    let head = old.log.head in
+    let as_log : status ≡ status_of_log n = told ∙ same_status head old.log.walker n (running old n none holds.remembers).2 in
     let Given : ℕ → ℕ → Type 0 = λ whole. λ prev.
     Stands now.head head.size (switched_control head.control child Standby whole prev) child (last_switch child.parents)
     → Switches (Ok tt) disk new head now.head child whole prev
-    → Comes {A = Unit {0}} (Ok tt) disk new (record { store = now; walker = next; stopped = old.stopped }) n (Follows n child (Ok tt))
+    → Comes {A = Unit {0}} (Ok tt) disk new (memory_of now next old.log.stopped) n (Follows n child (Ok tt))
     (FollowLeaves n child) in
     let here : Given (whole_end n) (start_kept n) = λ stands comes.
     followed_at disk new old now next n child after holds none is can stands breaks comes is_new told_new begun of_log in
@@ -191,29 +191,26 @@ heard_runs head w n tli runs = record {
 }
 
 unfollowed_at : {D : Type 0} (disk new : DiskState) (old : HeldLog D) (now : Held D) (n : LogState) (child : Path) (f : StoreFault)
-    (status : StoreStatus) → Holds disk old n → old.stopped ≡ None → status ≡ status_of old.store.head → CanFollow n child
-    → IsAt old.store.head now.head old.store.head.written → IsCaused {A = Unit {0}} (Err f) disk new → (f ≡ store.Broken → ⊥)
-    → Breaks {A = Unit {0}} (Err f) old.store.broken now.broken
-    → Switches (Err f) disk new old.store.head now.head child (whole_end n) (start_kept n)
-    → Comes {A = Unit {0}} (Err (of_store f)) disk new (record { store = now; walker = old.walker; stopped = stopped_by f old.stopped status }) n
+    (status : StoreStatus) → Holds disk old.log n → old.log.stopped ≡ None → status ≡ status_of old.log.head → CanFollow n child
+    → IsAt old.log.head now.head old.log.head.written → IsCaused {A = Unit {0}} (Err f) disk new → (f ≡ store.Broken → ⊥)
+    → Breaks {A = Unit {0}} (Err f) old.log.failed now.broken
+    → Switches (Err f) disk new old.log.head now.head child (whole_end n) (start_kept n)
+    → Comes {A = Unit {0}} (Err (of_store f)) disk new (memory_of now old.log.walker (stopped_by f old.log.stopped status)) n
     (Follows n child (Err (of_store f))) (FollowLeaves n child)
 unfollowed_at {D} disk new old now n child f status holds none told can same caused sound breaks comes =
-    let head = old.store.head in
+    let head = old.log.head in
     let runs = running old n none holds.remembers in
     let Fails : StoreFault → Result (Unit {0}) StoreFault = λ e. Err e in
-    let At : StoreFault → Type 0 = λ e. Comes {A = Unit {0}} (Err (of_store e)) disk new (record {
-      store = now;
-      walker = old.walker;
-      stopped = stopped_by e old.stopped status;
-    }) n (Follows n child (Err (of_store e))) (FollowLeaves n child) in
+    let At : StoreFault → Type 0 = λ e. Comes {A = Unit {0}} (Err (of_store e)) disk new
+    (memory_of now old.log.walker (stopped_by e old.log.stopped status)) n (Follows n child (Err (of_store e))) (FollowLeaves n child) in
     let moments : n.told ≡ true → n.broken ≡ false → LeavesOne disk new n.size (FollowLeaves n child) = λ t b.
-    moments_of (Err f) disk new head now.head old.walker n child runs.2 same.same_size can comes (holds.backs t b) in
+    moments_of (Err f) disk new head now.head old.log.walker n child runs.2 same.same_size can comes (holds.backs t b) in
     let failure : f ≡ store.DiskFault → At store.DiskFault = λ failed. record {
       next = breaking n;
       is = (runs.0, can, refl);
       holds = record {
         remembers = inr (
-          ap (λ (s : StoreStatus). Some s) (told ∙ same_status head old.walker n runs.2),
+          ap (λ (s : StoreStatus). Some s) (told ∙ same_status head old.log.walker n runs.2),
           refl,
           same.same_path ∙ runs.2.path,
         );
@@ -229,8 +226,8 @@ unfollowed_at {D} disk new old now n child f status holds none told can same cau
       ];
     } in
     let memory : f ≡ store.Memory → At store.Memory = λ wanted.
-    let quiet = still_sound f old.store.broken now.broken wanted runs.1 breaks in
-    let still = still_runs head now.head old.walker n runs.2 same in
+    let quiet = still_sound f old.log.failed now.broken wanted runs.1 breaks in
+    let still = still_runs head now.head old.log.walker n runs.2 same in
     let as_it_was : (n.told ≡ true → n.broken ≡ false → Backs new now.head n.kept) → At store.Memory = λ backs. record {
       next = n;
       is = (runs.0, inl refl);
@@ -246,7 +243,7 @@ unfollowed_at {D} disk new old now n child f status holds none told can same cau
               next = heard_log n child.own;
               is = (runs.0, inr (can, refl));
               holds = record {
-                remembers = inl (none, runs.0, quiet, heard_runs now.head old.walker n child.own still);
+                remembers = inl (none, runs.0, quiet, heard_runs now.head old.log.walker n child.own still);
                 backs = λ _ _. subst (Backs new now.head) known found.2;
               };
               moments = moments;
@@ -262,25 +259,22 @@ unfollowed_at {D} disk new old now n child f status holds none told can same cau
     ]
 
 pub unfollowed_comes : {D : Type 0} (disk new : DiskState) (old : HeldLog D) (now : Held D) (n : LogState) (child : Path) (f : StoreFault)
-    (status : StoreStatus) (e : NodeFault) (stopped : Option StoreStatus) → Holds disk old n → old.stopped ≡ None
-    → status ≡ status_of old.store.head → CanFollow n child → IsAt old.store.head now.head old.store.head.written
+    (status : StoreStatus) (e : NodeFault) (stopped : Option StoreStatus) → Holds disk old.log n → old.log.stopped ≡ None
+    → status ≡ status_of old.log.head → CanFollow n child → IsAt old.log.head now.head old.log.head.written
     → IsCaused {A = Unit {0}} (Err f) disk new
-    → (◌≡◌ {A = Result (Unit {0}) StoreFault} (Err f) (Err store.Broken)) ↔ (old.store.broken ≡ true)
-    → Breaks {A = Unit {0}} (Err f) old.store.broken now.broken
-    → Switches (Err f) disk new old.store.head now.head child status.whole status.prev → e ≡ of_store f
-    → stopped ≡ stopped_by f old.stopped status
-    → Comes {A = Unit {0}} (Err e) disk new (record { store = now; walker = old.walker; stopped = stopped }) n (Follows n child (Err e))
+    → (◌≡◌ {A = Result (Unit {0}) StoreFault} (Err f) (Err store.Broken)) ↔ (old.log.failed ≡ true)
+    → Breaks {A = Unit {0}} (Err f) old.log.failed now.broken
+    → Switches (Err f) disk new old.log.head now.head child status.whole status.prev → e ≡ of_store f
+    → stopped ≡ stopped_by f old.log.stopped status
+    → Comes {A = Unit {0}} (Err e) disk new (memory_of now old.log.walker stopped) n (Follows n child (Err e))
     (FollowLeaves n child)
 unfollowed_comes {D} disk new old now n child f status e stopped holds none told can same caused broken breaks comes answer left =
-    let head = old.store.head in
+    let head = old.log.head in
     let runs = running old n none holds.remembers in
-    let as_log : status ≡ status_of_log n = told ∙ same_status head old.walker n runs.2 in
+    let as_log : status ≡ status_of_log n = told ∙ same_status head old.log.walker n runs.2 in
     let here : Switches (Err f) disk new head now.head child (whole_end n) (start_kept n) = subst (λ (s : StoreStatus).
     Switches (Err f) disk new head now.head child s.whole s.prev) as_log comes in
-    let At : NodeFault → Option StoreStatus → Type 0 = λ e. λ s. Comes {A = Unit {0}} (Err e) disk new (record {
-      store = now;
-      walker = old.walker;
-      stopped = s;
-    }) n (Follows n child (Err e)) (FollowLeaves n child) in
+    let At : NodeFault → Option StoreStatus → Type 0 = λ e. λ s. Comes {A = Unit {0}} (Err e) disk new (memory_of now old.log.walker s) n
+    (Follows n child (Err e)) (FollowLeaves n child) in
     subst (λ (e : NodeFault). At e stopped) (sym answer) (subst (At (of_store f)) (sym left) (unfollowed_at disk new old now n child f status holds
-    none told can same caused (not_broken f old.store.broken runs.1 broken) breaks here))
+    none told can same caused (not_broken f old.log.failed runs.1 broken) breaks here))

@@ -22,7 +22,7 @@ use Rattle.repl_store.specs.declared.fault.StoreFault.{StoreFault}
 use Rattle.repl_store.specs.declared.fault.StoreFault.TheVariants as store
 use Rattle.repl_store.specs.declared.store.StoreStatus.{StoreStatus}
 use Rattle.repl_wal.specs.Faults.{of_store, stopped_by}
-use Rattle.repl_wal.specs.Holding.{Comes, HeldLog, Holds, Remembers, Runs}
+use Rattle.repl_wal.specs.Holding.{Comes, HeldLog, Holds, Remembers, Runs, held_of, memory_of, store_of}
 use Rattle.repl_wal.specs.Promoting.{CanBegin, HasHeard, IsChildless, IsPromoteRefusal, IsPromoted, PartlyPromotes, PromoteLeaves, Promotes, child_of, flushed_first, next_number, promoted}
 use Rattle.repl_wal.specs.State.{EndsLast, LogState, flushed_log, heard_log, own_timeline, path_of, role_of, status_of_log, whole_end, written_end}
 use Rattle.repl_wal.specs.declared.fault.NodeFault.{NodeFault}
@@ -39,9 +39,9 @@ use Rattle.repl_wal.proofs.Switching.{can_switch, heard_runs, last_within, switc
 -- it began on a standby
 pub record Begun {D : Type 0} (disk : DiskState) (old : HeldLog D) (before : StoreStatus) : Type 0 where
   pub only : (image : Folder) → disk.left_since disk.moment image → disk.may_leave image
-  pub none : old.stopped ≡ None
-  pub is : IsHead old.store.head
-  pub told : before ≡ status_of old.store.head
+  pub none : old.log.stopped ≡ None
+  pub is : IsHead old.log.head
+  pub told : before ≡ status_of old.log.head
   pub standby : before.role ≡ Standby
 
 -- the child was made
@@ -58,63 +58,63 @@ pub record Chooses (w : Walker) (own path : Path) (before : StoreStatus) (at_lea
 
 -- so it ends, from a log that it began in
 abbrev pub Ends : {D : Type 0} → (D → DiskState) → HeldLog D → HeldLog D → ℕ → Result (ℕ × ℕ) NodeFault → LogState → Type 0
-Ends state old new at_least result n = Holds (state old.store.disk) old n
-    → Comes result (state old.store.disk) (state new.store.disk) new n (Promotes n at_least result) (PromoteLeaves n at_least)
+Ends state old new at_least result n = Holds (state old.disk) old.log n
+    → Comes result (state old.disk) (state new.disk) new.log n (Promotes n at_least result) (PromoteLeaves n at_least)
 
 -- from whichever it began in, it ends in one
 pub remembers : {D : Type 0} (state : D → DiskState) (old new : HeldLog D) (at_least : ℕ) (result : Result (ℕ × ℕ) NodeFault) (n : LogState)
-    → Remembers old n → ((m : LogState) → Ends state old new at_least result m) → (m : LogState) × Remembers new m
+    → Remembers old.log n → ((m : LogState) → Ends state old new at_least result m) → (m : LogState) × Remembers new.log m
 remembers state old new at_least result n was ends =
-    let comes = ends (untold n) (untold_holds (state old.store.disk) old n was) in
+    let comes = ends (untold n) (untold_holds (state old.disk) old n was) in
     (comes.next, comes.holds.remembers)
 
 -- ---- up to the listing
 
 module _ {D : Type 0} (disk mid : DiskState) (old : HeldLog D) (now : Held D) (n : LogState) (at_least : ℕ) (before : StoreStatus)
-    (begun : Begun disk old before) (holds : Holds disk old n) where
-  abbrev runs_of : (n.broken ≡ false) × (old.store.broken ≡ false) × Runs old.store.head old.walker n
+    (begun : Begun disk old before) (holds : Holds disk old.log n) where
+  abbrev runs_of : (n.broken ≡ false) × (old.log.failed ≡ false) × Runs old.log.head old.log.walker n
   runs_of = running old n begun.none holds.remembers
 
   pub is_standby : role_of n ≡ Standby
-  is_standby = sym (role_told before old.store.head n begun.told runs_of.2.control) ∙ begun.standby
+  is_standby = sym (role_told before old.log.head n begun.told runs_of.2.control) ∙ begun.standby
 
   pub as_log : before ≡ status_of_log n
-  as_log = begun.told ∙ same_status old.store.head old.walker n runs_of.2
+  as_log = begun.told ∙ same_status old.log.head old.log.walker n runs_of.2
 
   begins_here : Reaches disk disk old n n (PromoteLeaves n at_least)
   begins_here = starts disk old n (PromoteLeaves n at_least) begun.only begun.none holds (λ d was. inl was)
 
   abbrev first_log : HeldLog D
-  first_log = record { store = now; walker = old.walker; stopped = old.stopped }
+  first_log = held_of now old.log.walker old.log.stopped
 
   -- the listing was refused
-  pub unlisted : (f : StoreFault) (e : NodeFault) (stopped : Option StoreStatus) → Lists disk mid old.store now (Err f) → e ≡ of_store f
-      → stopped ≡ stopped_by f old.stopped before
-      → Comes {A = ℕ × ℕ} (Err e) disk mid (record { store = now; walker = old.walker; stopped = stopped }) n (Promotes n at_least (Err e))
+  pub unlisted : (f : StoreFault) (e : NodeFault) (stopped : Option StoreStatus) → Lists disk mid (store_of old) now (Err f) → e ≡ of_store f
+      → stopped ≡ stopped_by f old.log.stopped before
+      → Comes {A = ℕ × ℕ} (Err e) disk mid (memory_of now old.log.walker stopped) n (Promotes n at_least (Err e))
       (PromoteLeaves n at_least)
   unlisted f e stopped lists answer left =
       let column = PromoteLeaves n at_least in
       let runs = runs_of in
-      let same : (s : State) → Backs disk old.store.head s → StoreComes {A = ℕ} (Err f) disk mid now.head (Before s) s (λ t. t ≡ s) = lists.comes in
+      let same : (s : State) → Backs disk old.log.head s → StoreComes {A = ℕ} (Err f) disk mid now.head (Before s) s (λ t. t ≡ s) = lists.comes in
       let comes : n.told ≡ true → StoreComes {A = ℕ} (Err f) disk mid now.head (Before n.kept) n.kept (λ t. t ≡ n.kept) = λ t.
       same n.kept (holds.backs t runs.0) in
-      let at = at_same old.store.head now.head lists.head in
+      let at = at_same old.log.head now.head lists.head in
       stops disk disk mid old now n n (Before n.kept) column n.kept (λ t. t ≡ n.kept) begins_here begun.none (λ d was. inl was)
       (at.same_size ∙ runs.2.size) (IsPromoteRefusal n at_least) (role_of n ≡ Standby) (IsPromoted n at_least) (PartlyPromotes n at_least) f before
-      runs.0 is_standby as_log (at.same_path ∙ runs.2.path) lists.caused comes e stopped (not_broken f old.store.broken runs.1 lists.broken)
+      runs.0 is_standby as_log (at.same_path ∙ runs.2.path) lists.caused comes e stopped (not_broken f old.log.failed runs.1 lists.broken)
       (λ wanted. (n, inl refl, stays disk mid old now n (Before n.kept) n.kept f begun.none holds at lists.breaks wanted comes)) answer left
 
-  module _ (listed : ℕ) (lists : Lists disk mid old.store now (Ok listed)) where
+  module _ (listed : ℕ) (lists : Lists disk mid (store_of old) now (Ok listed)) where
     pub has_asked : Reaches disk mid first_log n n (PromoteLeaves n at_least)
     has_asked =
         let runs = runs_of in
         reaches_on disk disk mid old now n n (Before n.kept) (PromoteLeaves n at_least) n.kept (λ t. t ≡ n.kept) begins_here begun.none
-        (λ d was. inl was) (ap (λ (h : Head). h.size) lists.head ∙ runs.2.size) listed old.walker n refl
+        (λ d was. inl was) (ap (λ (h : Head). h.size) lists.head ∙ runs.2.size) listed old.log.walker n refl
         (inl (
           begun.none,
           runs.0,
-          ok_sound listed old.store.broken now.broken runs.1 lists.breaks,
-          subst (λ (h : Head). Runs h old.walker n)
+          ok_sound listed old.log.failed now.broken runs.1 lists.breaks,
+          subst (λ (h : Head). Runs h old.log.walker n)
               (sym lists.head) runs.2,
         )) refl lists.caused lists.lacks (λ t. lists.comes n.kept (holds.backs t runs.0))
 
@@ -122,7 +122,7 @@ module _ {D : Type 0} (disk mid : DiskState) (old : HeldLog D) (now : Held D) (n
     pub has_heard : (known : ℕ) → known ≡ max listed before.tli → HasHeard n known
     has_heard known is =
         let runs = runs_of in
-        let head = old.store.head in
+        let head = old.log.head in
         let own : before.tli ≡ own_timeline n = ap (λ (s : StoreStatus). s.tli) as_log in
         let same : head.control.tli ≡ own_timeline n = ap (λ (c : Control). c.tli) runs.2.control in (
           omega (arith, is, own),
@@ -133,10 +133,10 @@ module _ {D : Type 0} (disk mid : DiskState) (old : HeldLog D) (now : Held D) (n
         )
 
     -- the path was left last before the last whole record ended
-    pub past : (path : Path) (whole : ℕ) → path ≡ now.head.path → whole ≡ last_end old.walker → last_switch path.parents ≤ whole
+    pub past : (path : Path) (whole : ℕ) → path ≡ now.head.path → whole ≡ last_end old.log.walker → last_switch path.parents ≤ whole
     past path whole path_is whole_is =
-        let m = marks old.store.head old.walker n begun.is runs_of.2 in
-        let head = old.store.head in
+        let m = marks old.log.head old.log.walker n begun.is runs_of.2 in
+        let head = old.log.head in
         let ends : head.control.whole ≡ whole_end n = ap (λ (c : Control). c.whole) runs_of.2.control in
         let same : head.path ≡ path = ap (λ (h : Head). h.path) (sym lists.head) ∙ sym path_is in
         let least = last_within head.size head.control.whole path.parents (subst (λ (p : Path). AreBetween head.size head.control.whole p.parents) same
@@ -145,15 +145,15 @@ module _ {D : Type 0} (disk mid : DiskState) (old : HeldLog D) (now : Held D) (n
 
     -- no child was made
     pub childless : (path : Path) (known whole : ℕ) (e : NodeFault) → path ≡ now.head.path → known ≡ max listed before.tli
-        → whole ≡ last_end old.walker → IsChildless path known at_least whole e
-        → Comes {A = ℕ × ℕ} (Err e) disk mid first_log n (Promotes n at_least (Err e)) (PromoteLeaves n at_least)
+        → whole ≡ last_end old.log.walker → IsChildless path known at_least whole e
+        → Comes {A = ℕ × ℕ} (Err e) disk mid first_log.log n (Promotes n at_least (Err e)) (PromoteLeaves n at_least)
     childless path known whole e path_is known_is whole_is is =
         let runs = runs_of in
-        let greatest : EndsLast n whole (last_start old.walker) = subst (λ (k : ℕ). EndsLast n k (last_start old.walker)) (sym whole_is)
-        (walked_last old.store.head old.walker n begun.is runs.2) in
+        let greatest : EndsLast n whole (last_start old.log.walker) = subst (λ (k : ℕ). EndsLast n k (last_start old.log.walker)) (sym whole_is)
+        (walked_last old.log.head old.log.walker n begun.is runs.2) in
         let own : path ≡ path_of n = path_is ∙ ap (λ (h : Head). h.path) lists.head ∙ runs.2.path in
         let here : IsChildless (path_of n) known at_least whole e = subst (λ (p : Path). IsChildless p known at_least whole e) own is in
-        let said = refuses e known whole (last_start old.walker) (has_heard known known_is) runs.0 greatest here in
+        let said = refuses e known whole (last_start old.log.walker) (has_heard known known_is) runs.0 greatest here in
         ends_there (Err e) disk mid first_log n n (Promotes n at_least (Err e)) (PromoteLeaves n at_least) has_asked said.0 (λ failed.
         said.1 (failure e failed))
       where
@@ -191,7 +191,7 @@ module _ {D : Type 0} (disk mid : DiskState) (old : HeldLog D) (now : Held D) (n
     -- ---- with a child
 
     module _ (known whole last : ℕ) (path child : Path)
-        (chooses : Chooses old.walker now.head.path path before at_least listed known whole last child) where
+        (chooses : Chooses old.log.walker now.head.path path before at_least listed known whole last child) where
       abbrev tli : ℕ
       tli = next_number at_least known
 
@@ -207,7 +207,7 @@ module _ {D : Type 0} (disk mid : DiskState) (old : HeldLog D) (now : Held D) (n
       pub can_begin : CanBegin n at_least tli whole last
       can_begin =
           let greatest : EndsLast n whole last = subst (λ (e : ℕ). EndsLast n e last) (sym chooses.ends)
-          (subst (EndsLast n (last_end old.walker)) (sym chooses.starts) (walked_last old.store.head old.walker n begun.is runs_of.2)) in
+          (subst (EndsLast n (last_end old.log.walker)) (sym chooses.starts) (walked_last old.log.head old.log.walker n begun.is runs_of.2)) in
           record {
             begins = record {
               standby = is_standby;
@@ -224,15 +224,15 @@ module _ {D : Type 0} (disk mid : DiskState) (old : HeldLog D) (now : Held D) (n
 
       module _ (new : DiskState) (second : Held D) where
         abbrev second_log : HeldLog D
-        second_log = record { store = second; walker = old.walker; stopped = old.stopped }
+        second_log = held_of second old.log.walker old.log.stopped
 
-        asked_runs : (n.broken ≡ false) × (now.broken ≡ false) × Runs now.head old.walker n
+        asked_runs : (n.broken ≡ false) × (now.broken ≡ false) × Runs now.head old.log.walker n
         asked_runs = running first_log n begun.none has_asked.holds.remembers
 
         asked_is : IsHead now.head
         asked_is = subst IsHead (sym lists.head) begun.is
 
-        not_primary : (role : Role) → role ≡ role_of n → role ≡ Primary → last_end old.walker ≡ written_end n
+        not_primary : (role : Role) → role ≡ role_of n → role ≡ Primary → last_end old.log.walker ≡ written_end n
         not_primary role same is = let clash : Standby ≡ Primary = sym is_standby ∙ sym same ∙ is in absurd cc
 
         role_is : now.head.control.role ≡ role_of n
@@ -240,9 +240,9 @@ module _ {D : Type 0} (disk mid : DiskState) (old : HeldLog D) (now : Held D) (n
 
         pub can_certain : CanFlush now.head now.head.control.role whole last
         can_certain =
-            let can = can_flush now.head old.walker n now.head.control.role asked_is asked_runs.2 (not_primary now.head.control.role role_is) in
+            let can = can_flush now.head old.log.walker n now.head.control.role asked_is asked_runs.2 (not_primary now.head.control.role role_is) in
             subst (λ (e : ℕ). CanFlush now.head now.head.control.role e last) (sym chooses.ends)
-            (subst (CanFlush now.head now.head.control.role (last_end old.walker)) (sym chooses.starts) can)
+            (subst (CanFlush now.head now.head.control.role (last_end old.log.walker)) (sym chooses.starts) can)
 
         -- what a crash in the flush leaves
         flush_leaves : (d : Durable) → Either n.kept.durable (flushed n.kept now.head.control.role whole last).durable d → PromoteLeaves n at_least d
@@ -256,8 +256,8 @@ module _ {D : Type 0} (disk mid : DiskState) (old : HeldLog D) (now : Held D) (n
         )
 
         pub unflushed : (f : StoreFault) (e : NodeFault) (stopped : Option StoreStatus) → Certain mid new now second whole last (Err f) → e ≡ of_store f
-            → stopped ≡ stopped_by f old.stopped before
-            → Comes {A = ℕ × ℕ} (Err e) disk new (record { store = second; walker = old.walker; stopped = stopped }) n (Promotes n at_least (Err e))
+            → stopped ≡ stopped_by f old.log.stopped before
+            → Comes {A = ℕ × ℕ} (Err e) disk new (memory_of second old.log.walker stopped) n (Promotes n at_least (Err e))
             (PromoteLeaves n at_least)
         unflushed f e stopped certain answer left =
             let runs = asked_runs in
@@ -282,23 +282,26 @@ module _ {D : Type 0} (disk mid : DiskState) (old : HeldLog D) (now : Held D) (n
           abbrev first : LogState
           first = flushed_first n whole last
 
-          certain_runs : Runs second.head old.walker first
+          certain_runs : Runs second.head old.log.walker first
           certain_runs =
               let As : Role → ℕ → ℕ → Type 0 = λ r. λ e. λ l. (r ≡ role_of n) → Stands second.head now.head.size
-              (flushed_control now.head.control r now.head.written e l) now.head.path now.head.written → Runs second.head old.walker (flushed_log n r e l) in
-              let here : As now.head.control.role (last_end old.walker) (last_start old.walker) = λ same. flushed_runs now.head second.head old.walker n
+              (flushed_control now.head.control r now.head.written e l) now.head.path now.head.written
+              → Runs second.head old.log.walker (flushed_log n r e l) in
+              let here : As now.head.control.role (last_end old.log.walker) (last_start old.log.walker) = λ same. flushed_runs now.head second.head
+              old.log.walker n
               now.head.control.role asked_is asked_runs.2 (not_primary now.head.control.role same) in
               let there : As now.head.control.role whole last = subst (λ (e : ℕ). As now.head.control.role e last) (sym chooses.ends)
-              (subst (As now.head.control.role (last_end old.walker)) (sym chooses.starts) here) in
-              subst (λ (r : Role). Runs second.head old.walker (flushed_log n r whole last)) role_is (there role_is flushes.ok)
+              (subst (As now.head.control.role (last_end old.log.walker)) (sym chooses.starts) here) in
+              subst (λ (r : Role). Runs second.head old.log.walker (flushed_log n r whole last)) role_is (there role_is flushes.ok)
 
-          certain_remembers : Remembers second_log first
+          certain_remembers : Remembers second_log.log first
           certain_remembers = inl (begun.none, asked_runs.0, ok_sound tt now.broken second.broken asked_runs.1 flushes.breaks, certain_runs)
 
           pub has_flushed : Reaches disk new second_log n first (PromoteLeaves n at_least)
           has_flushed = reaches_on disk mid new first_log second n n (Either n.kept.durable (flushed n.kept now.head.control.role whole last).durable)
               (PromoteLeaves n at_least) (flushed n.kept now.head.control.role whole last) (λ t. t ≡ n.kept) has_asked begun.none flush_leaves
-              (flushes.ok.same_size ∙ asked_runs.2.size) tt old.walker first refl certain_remembers (ap (λ (r : Role). flushed n.kept r whole last) role_is)
+              (flushes.ok.same_size ∙ asked_runs.2.size) tt old.log.walker first refl certain_remembers
+              (ap (λ (r : Role). flushed n.kept r whole last) role_is)
               flushes.caused flushes.lacks (λ t. flushes.comes n.kept (has_asked.holds.backs t asked_runs.0))
 
           -- the flushed control is right, and so is the one on the child
@@ -339,8 +342,8 @@ module _ {D : Type 0} (disk mid : DiskState) (old : HeldLog D) (now : Held D) (n
             as_made result goes = subst (λ (p : Path). Goes new end second third p whole last result) child_is goes
 
             pub ungone : (f : StoreFault) (e : NodeFault) (stopped : Option StoreStatus) → Goes new end second third child whole last (Err f)
-                → e ≡ of_store f → stopped ≡ stopped_by f old.stopped before
-                → Comes {A = ℕ × ℕ} (Err e) disk end (record { store = third; walker = old.walker; stopped = stopped }) n (Promotes n at_least (Err e))
+                → e ≡ of_store f → stopped ≡ stopped_by f old.log.stopped before
+                → Comes {A = ℕ × ℕ} (Err e) disk end (memory_of third old.log.walker stopped) n (Promotes n at_least (Err e))
                 (PromoteLeaves n at_least)
             ungone f e stopped given answer left =
                 let goes = as_made (Err f) given in
@@ -349,8 +352,8 @@ module _ {D : Type 0} (disk mid : DiskState) (old : HeldLog D) (now : Held D) (n
                 goes.comes first.kept (has_flushed.holds.backs t runs.0) in
                 let at = goes.stays in
                 let Fails : StoreFault → Result (Unit {0}) StoreFault = λ e. Err e in
-                let still : Runs third.head old.walker first = still_runs second.head third.head old.walker first certain_runs at in
-                let Left : LogState → Type 0 = λ x. Holds end (record { store = third; walker = old.walker; stopped = old.stopped }) x in
+                let still : Runs third.head old.log.walker first = still_runs second.head third.head old.log.walker first certain_runs at in
+                let Left : LogState → Type 0 = λ x. Holds end (memory_of third old.log.walker old.log.stopped) x in
                 let wants : f ≡ store.Memory → (x : LogState) × PartlyPromotes n at_least x × Left x = λ wanted.
                 let quiet = still_sound f second.broken third.broken wanted runs.1 goes.breaks in
                 let flushed_only : (n.told ≡ true → Backs end third.head first.kept) → (x : LogState) × PartlyPromotes n at_least x × Left x = λ backs. (
@@ -367,7 +370,7 @@ module _ {D : Type 0} (disk mid : DiskState) (old : HeldLog D) (now : Held D) (n
                           heard_log first tli,
                           inr (tli, whole, last, can_begin, inr refl),
                           record {
-                            remembers = inl (begun.none, runs.0, quiet, heard_runs third.head old.walker first tli still);
+                            remembers = inl (begun.none, runs.0, quiet, heard_runs third.head old.log.walker first tli still);
                             backs = λ t b. subst (Backs end third.head) more found.2;
                           },
                         )
@@ -381,7 +384,7 @@ module _ {D : Type 0} (disk mid : DiskState) (old : HeldLog D) (now : Held D) (n
 
             pub gone : (next : Walker) (own : ℕ) → Goes new end second third child whole last (Ok tt)
                 → ((timeline : ℕ → ℕ) → WalkerStands next timeline whole last []) → identity next ≡ before.ident → own ≡ child.own
-                → Comes {A = ℕ × ℕ} (Ok (own, whole)) disk end (record { store = third; walker = next; stopped = old.stopped }) n
+                → Comes {A = ℕ × ℕ} (Ok (own, whole)) disk end (memory_of third next old.log.stopped) n
                 (Promotes n at_least (Ok (own, whole))) (PromoteLeaves n at_least)
             gone next own given walker ident own_is =
                 let goes = as_made (Ok tt) given in
@@ -393,19 +396,17 @@ module _ {D : Type 0} (disk mid : DiskState) (old : HeldLog D) (now : Held D) (n
                   reason = codes "promoted";
                 }) in
                 let size = subst IsSegSize (sym flushes.ok.same_size) asked_is.size in
-                let now_runs : Runs third.head next (promoted n tli whole last) = switched_runs second.head third.head old.walker next first made Primary
+                let now_runs : Runs third.head next (promoted n tli whole last) = switched_runs second.head third.head old.log.walker next first made
+                Primary
                 whole last size can left certain_runs runs.0 goes.ok walker (ident ∙ ap (λ (s : StoreStatus). s.ident) as_log) in
                 let reached = reaches_on disk new end second_log third n first Few (PromoteLeaves n at_least) went Some_of has_flushed begun.none go_leaves
                 (goes.ok.same_size ∙ runs.2.size) tt next (promoted n tli whole last) refl
                 (inl (begun.none, runs.0, ok_sound tt second.broken third.broken runs.1 goes.breaks, now_runs)) refl goes.caused goes.lacks
                 (λ t. goes.comes first.kept (has_flushed.holds.backs t runs.0)) in
                 let number : own ≡ tli = own_is ∙ ap (λ (p : Path). p.own) child_is in
-                let Goes_by : ℕ → Type 0 = λ k. Comes {A = ℕ × ℕ} (Ok (k, whole)) disk end (record {
-                  store = third;
-                  walker = next;
-                  stopped = old.stopped;
-                }) n (Promotes n at_least (Ok (k, whole))) (PromoteLeaves n at_least) in
-                let here : Goes_by tli = ends_there (Ok (tli, whole)) disk end (record { store = third; walker = next; stopped = old.stopped }) n
+                let Goes_by : ℕ → Type 0 = λ k. Comes {A = ℕ × ℕ} (Ok (k, whole)) disk end (memory_of third next old.log.stopped) n
+                (Promotes n at_least (Ok (k, whole))) (PromoteLeaves n at_least) in
+                let here : Goes_by tli = ends_there (Ok (tli, whole)) disk end (held_of third next old.log.stopped) n
                 (promoted n tli whole last) (Promotes n at_least (Ok (tli, whole))) (PromoteLeaves n at_least) reached
                 (runs.0, is_standby, record { last = last; can = can_begin; becomes = refl }) (λ no. absurd cc) in
                 subst Goes_by (sym number) here

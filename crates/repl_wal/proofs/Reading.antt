@@ -10,7 +10,7 @@ use Rattle.repl_lsn.specs.declared.history.Part.{Part}
 use Rattle.repl_record.specs.declared.walker.Walker.{Walker}
 use Rattle.repl_store.specs.Backing.{Backs, Before, Breaks, LeavesOne, State, Comes as StoreComes}
 use Rattle.repl_store.specs.Head.{Head, Held, IsAt, IsHead}
-use Rattle.repl_wal.specs.Holding.{Comes, HeldLog, Holds, Runs}
+use Rattle.repl_wal.specs.Holding.{Comes, HeldLog, Holds, Runs, memory_of}
 use Rattle.repl_wal.specs.Reading.{ReadsTo}
 use Rattle.repl_wal.specs.State.{LogState, flushed_end, whole_end}
 use Rattle.repl_wal.specs.Steps.{Old, Step}
@@ -52,10 +52,10 @@ at_same old now same = record {
 }
 
 pub kept_comes : {A D : Type 0} (Refuses : NodeFault → Type 0) (Passes : Type 0) (Done : A → LogState → Type 0) (Partly : LogState → Type 0) (a : A)
-    (disk new : DiskState) (old : HeldLog D) (now : Held D) (n : LogState) → Holds disk old n → old.stopped ≡ None → Passes → Done a n
-    → now.head ≡ old.store.head → Breaks {A = Unit {0}} (Ok tt) old.store.broken now.broken
-    → ((s : State) → Backs disk old.store.head s → StoreComes {A = Unit {0}} (Ok tt) disk new now.head (Before s) s (λ t. t ≡ s))
-    → Comes {A = A} (Ok a) disk new (record { store = now; walker = old.walker; stopped = old.stopped }) n (Step Refuses Passes Done Partly n (Ok a))
+    (disk new : DiskState) (old : HeldLog D) (now : Held D) (n : LogState) → Holds disk old.log n → old.log.stopped ≡ None → Passes → Done a n
+    → now.head ≡ old.log.head → Breaks {A = Unit {0}} (Ok tt) old.log.failed now.broken
+    → ((s : State) → Backs disk old.log.head s → StoreComes {A = Unit {0}} (Ok tt) disk new now.head (Before s) s (λ t. t ≡ s))
+    → Comes {A = A} (Ok a) disk new (memory_of now old.log.walker old.log.stopped) n (Step Refuses Passes Done Partly n (Ok a))
     (Old n)
 kept_comes {A} {D} Refuses Passes Done Partly a disk new old now n holds none passes done same breaks comes =
     let runs = running old n none holds.remembers in
@@ -67,8 +67,8 @@ kept_comes {A} {D} Refuses Passes Done Partly a disk new old now n holds none pa
         remembers = inl (
           none,
           runs.0,
-          ok_sound tt old.store.broken now.broken runs.1 breaks,
-          subst (λ (h : Head). Runs h old.walker n) (sym same)
+          ok_sound tt old.log.failed now.broken runs.1 breaks,
+          subst (λ (h : Head). Runs h old.log.walker n) (sym same)
               runs.2,
         );
         backs = λ t b. (comes n.kept (holds.backs t b)).ok;

@@ -13,7 +13,7 @@ use Rattle.repl_store.specs.declared.fault.StoreFault.TheVariants as store
 use Rattle.repl_store.specs.declared.store.StoreStatus.{StoreStatus}
 use Rattle.repl_store.proofs.Chaining.{moments_more}
 use Rattle.repl_wal.specs.Faults.{of_store, stopped_by}
-use Rattle.repl_wal.specs.Holding.{Comes, HeldLog, Holds, Runs}
+use Rattle.repl_wal.specs.Holding.{Comes, HeldLog, Holds, Runs, memory_of}
 use Rattle.repl_wal.specs.Keeping.{TrimLeaves, Trims, trimmed_floor}
 use Rattle.repl_wal.specs.State.{LogState, breaking, floor_of, raised_log, whole_end}
 use Rattle.repl_wal.proofs.Ending.{ok_sound, running, same_status, still_sound}
@@ -52,16 +52,16 @@ low_floor head w n restart keep floor is runs same =
     (omega (arith, found.0, same), omega (arith, found.1.high, same, rows))
 
 pub trimmed_comes : {D : Type 0} (disk new : DiskState) (old : HeldLog D) (now : Held D) (n : LogState) (restart : Option ℕ) (keep floor : ℕ)
-    → Holds disk old n → old.stopped ≡ None → IsHead old.store.head → floor ≡ trimmed_floor n restart keep
-    → Stands now.head old.store.head.size (raised_control old.store.head.control floor) old.store.head.path old.store.head.written
-    → Breaks {A = Unit {0}} (Ok tt) old.store.broken now.broken
-    → ((s : State) → Backs disk old.store.head s → StoreComes {A = Unit {0}} (Ok tt) disk new now.head (Either s.durable (raised s.durable floor))
+    → Holds disk old.log n → old.log.stopped ≡ None → IsHead old.log.head → floor ≡ trimmed_floor n restart keep
+    → Stands now.head old.log.head.size (raised_control old.log.head.control floor) old.log.head.path old.log.head.written
+    → Breaks {A = Unit {0}} (Ok tt) old.log.failed now.broken
+    → ((s : State) → Backs disk old.log.head s → StoreComes {A = Unit {0}} (Ok tt) disk new now.head (Either s.durable (raised s.durable floor))
     (lifted s floor) (λ t. (t ≡ s) ⊎ (t ≡ lifted s floor)))
-    → Comes {A = ℕ} (Ok floor) disk new (record { store = now; walker = old.walker; stopped = old.stopped }) n (Trims n restart keep (Ok floor))
+    → Comes {A = ℕ} (Ok floor) disk new (memory_of now old.log.walker old.log.stopped) n (Trims n restart keep (Ok floor))
     (TrimLeaves n restart keep)
 trimmed_comes disk new old now n restart keep floor holds none is same stands breaks comes =
     let runs = running old n none holds.remembers in
-    let low = low_floor old.store.head old.walker n restart keep floor is runs.2 same in
+    let low = low_floor old.log.head old.log.walker n restart keep floor is runs.2 same in
     let size : now.head.size ≡ n.size = stands.same_size ∙ runs.2.size in
     record {
       next = raised_log n floor;
@@ -70,8 +70,8 @@ trimmed_comes disk new old now n restart keep floor holds none is same stands br
         remembers = inl (
           none,
           runs.0,
-          ok_sound tt old.store.broken now.broken runs.1 breaks,
-          raised_runs old.store.head now.head old.walker n floor is
+          ok_sound tt old.log.failed now.broken runs.1 breaks,
+          raised_runs old.log.head now.head old.log.walker n floor is
               runs.2 low.0 low.1 stands,
         );
         backs = λ t b. (comes n.kept (holds.backs t b)).ok;
@@ -88,23 +88,21 @@ MayLift f old new floor = (new ≡ old) ⊎ ((◌≡◌ {A = Result (Unit {0}) S
     × Stands new old.size (raised_control old.control floor) old.path old.written)
 
 pub untrimmed_comes : {D : Type 0} (disk new : DiskState) (old : HeldLog D) (now : Held D) (n : LogState) (restart : Option ℕ) (keep floor : ℕ)
-    (f : StoreFault) (before : StoreStatus) → Holds disk old n → old.stopped ≡ None → IsHead old.store.head → floor ≡ trimmed_floor n restart keep
-    → before ≡ status_of old.store.head → MayLift f old.store.head now.head floor → IsCaused {A = Unit {0}} (Err f) disk new
-    → (f ≡ store.Broken → ⊥) → Breaks {A = Unit {0}} (Err f) old.store.broken now.broken
-    → ((s : State) → Backs disk old.store.head s → StoreComes {A = Unit {0}} (Err f) disk new now.head (Either s.durable (raised s.durable floor))
+    (f : StoreFault) (before : StoreStatus) → Holds disk old.log n → old.log.stopped ≡ None → IsHead old.log.head
+    → floor ≡ trimmed_floor n restart keep
+    → before ≡ status_of old.log.head → MayLift f old.log.head now.head floor → IsCaused {A = Unit {0}} (Err f) disk new
+    → (f ≡ store.Broken → ⊥) → Breaks {A = Unit {0}} (Err f) old.log.failed now.broken
+    → ((s : State) → Backs disk old.log.head s → StoreComes {A = Unit {0}} (Err f) disk new now.head (Either s.durable (raised s.durable floor))
     (lifted s floor) (λ t. (t ≡ s) ⊎ (t ≡ lifted s floor)))
-    → Comes {A = ℕ} (Err (of_store f)) disk new (record { store = now; walker = old.walker; stopped = stopped_by f old.stopped before }) n
+    → Comes {A = ℕ} (Err (of_store f)) disk new (memory_of now old.log.walker (stopped_by f old.log.stopped before)) n
     (Trims n restart keep (Err (of_store f))) (TrimLeaves n restart keep)
 untrimmed_comes {D} disk new old now n restart keep floor f before holds none is same told may caused sound breaks comes =
     let runs = running old n none holds.remembers in
-    let head = old.store.head in
-    let low = low_floor head old.walker n restart keep floor is runs.2 same in
+    let head = old.log.head in
+    let low = low_floor head old.log.walker n restart keep floor is runs.2 same in
     let Fails : StoreFault → Result (Unit {0}) StoreFault = λ e. Err e in
-    let At : StoreFault → Type 0 = λ e. Comes {A = ℕ} (Err (of_store e)) disk new (record {
-      store = now;
-      walker = old.walker;
-      stopped = stopped_by e old.stopped before;
-    }) n (Trims n restart keep (Err (of_store e))) (TrimLeaves n restart keep) in
+    let At : StoreFault → Type 0 = λ e. Comes {A = ℕ} (Err (of_store e)) disk new (memory_of now old.log.walker (stopped_by e old.log.stopped before))
+    n (Trims n restart keep (Err (of_store e))) (TrimLeaves n restart keep) in
     let size : now.head.size ≡ n.size = elim may [
       | inl still ↦ ap (λ (h : Head). h.size) still ∙ runs.2.size
       | inr lift ↦ lift.1.same_size ∙ runs.2.size
@@ -120,7 +118,7 @@ untrimmed_comes {D} disk new old now n restart keep floor f before holds none is
       next = breaking n;
       is = (runs.0, tt, refl);
       holds = record {
-        remembers = inr (ap (λ (s : StoreStatus). Some s) (told ∙ same_status head old.walker n runs.2), refl, path);
+        remembers = inr (ap (λ (s : StoreStatus). Some s) (told ∙ same_status head old.log.walker n runs.2), refl, path);
         backs = λ t b. absurd cc;
       };
       moments = moments;
@@ -133,13 +131,13 @@ untrimmed_comes {D} disk new old now n restart keep floor f before holds none is
       ];
     } in
     let memory : f ≡ store.Memory → At store.Memory = λ wanted.
-    let quiet = still_sound f old.store.broken now.broken wanted runs.1 breaks in
+    let quiet = still_sound f old.log.failed now.broken wanted runs.1 breaks in
     elim may [
       | inl still ↦ record {
         next = n;
         is = (runs.0, inl refl);
         holds = record {
-          remembers = inl (none, runs.0, quiet, still_runs head now.head old.walker n runs.2 (at_same head now.head still));
+          remembers = inl (none, runs.0, quiet, still_runs head now.head old.log.walker n runs.2 (at_same head now.head still));
           backs = λ t b.
               let found = (comes n.kept (holds.backs t b)).no_memory (ap Fails wanted) in
               backs_old n.kept found.0 found.1 found.2 (ap (λ (h : Head). h.control) still ∙ runs.2.control);
@@ -151,7 +149,7 @@ untrimmed_comes {D} disk new old now n restart keep floor f before holds none is
         next = raised_log n floor;
         is = (runs.0, inr (ap (raised_log n) same));
         holds = record {
-          remembers = inl (none, runs.0, quiet, raised_runs head now.head old.walker n floor is runs.2 low.0 low.1 lift.1);
+          remembers = inl (none, runs.0, quiet, raised_runs head now.head old.log.walker n floor is runs.2 low.0 low.1 lift.1);
           backs = λ t b.
               let found = (comes n.kept (holds.backs t b)).no_memory (ap Fails wanted) in
               backs_new n.kept found.0 found.1 found.2 (lift.1.same_control ∙ ap (λ (c : Control). raised_control c floor) runs.2.control);

@@ -26,7 +26,7 @@ use Rattle.repl_record.specs.declared.walker.Walker.{Walker}
 use Rattle.repl_store.specs.Backing.{Backs, Before, Breaks, LeavesOne, State, appended, log, Comes as StoreComes}
 use Rattle.repl_store.specs.Head.{Head, Held, IsAt, IsHead, status_of}
 use Rattle.repl_store.specs.declared.store.StoreStatus.{StoreStatus}
-use Rattle.repl_wal.specs.Holding.{Comes, HeldLog, Holds, Runs}
+use Rattle.repl_wal.specs.Holding.{Comes, HeldLog, Holds, Runs, memory_of}
 use Rattle.repl_wal.specs.State.{AreRecordsOn, EndsRecord, LogState, appended_log, own_timeline, status_of_log, floor_of, flushed_end, ident_of, last_start as start_kept, role_of, tail_of, timeline_of, whole_end, written_end}
 use Rattle.repl_wal.specs.Steps.{Old, Only, Step}
 use Rattle.repl_wal.specs.Writing.{Appends, CanAppend, CanReceive, GoesOn, IsReceiveRefusal, IsReceived, Receives, IsAppended, IsAppendRefusal, IsUnlaid}
@@ -93,12 +93,12 @@ written_runs head new w next n bytes is runs at of_log walked ends =
 -- so the call of the store that wrote it leaves the log
 pub wrote : {A D : Type 0} (Refuses : NodeFault → Type 0) (Passes : Type 0) (Done : A → LogState → Type 0) (Partly : LogState → Type 0) (a : A)
     (disk new : DiskState) (old : HeldLog D) (now : Held D) (next : Walker) (n : LogState) (bytes : List ℕ)
-    → Holds disk old n → old.stopped ≡ None → IsHead old.store.head → Passes → Done a (appended_log n bytes)
-    → IsAt old.store.head now.head (old.store.head.written + length bytes) → now.broken ≡ false → identity next ≡ ident_of n
+    → Holds disk old.log n → old.log.stopped ≡ None → IsHead old.log.head → Passes → Done a (appended_log n bytes)
+    → IsAt old.log.head now.head (old.log.head.written + length bytes) → now.broken ≡ false → identity next ≡ ident_of n
     → HasWalked next (timeline_of n) (whole_end n) (start_kept n) (tail_of n ++ bytes)
     → (role_of n ≡ Primary → last_end next ≡ written_end n + length bytes)
-    → ((s : State) → Backs disk old.store.head s → StoreComes {A = Unit {0}} (Ok tt) disk new now.head (Before s) (appended s bytes) (λ t. t ≡ s))
-    → Comes {A = A} (Ok a) disk new (record { store = now; walker = next; stopped = old.stopped }) n (Step Refuses Passes Done Partly n (Ok a)) (Old n)
+    → ((s : State) → Backs disk old.log.head s → StoreComes {A = Unit {0}} (Ok tt) disk new now.head (Before s) (appended s bytes) (λ t. t ≡ s))
+    → Comes {A = A} (Ok a) disk new (memory_of now next old.log.stopped) n (Step Refuses Passes Done Partly n (Ok a)) (Old n)
 wrote {A} {D} Refuses Passes Done Partly a disk new old now next n bytes holds none is passes done at sound of_log walked ends comes =
     let runs = running old n none holds.remembers in
     let size : now.head.size ≡ n.size = at.same_size ∙ runs.2.size in
@@ -106,7 +106,7 @@ wrote {A} {D} Refuses Passes Done Partly a disk new old now next n bytes holds n
       next = appended_log n bytes;
       is = (runs.0, passes, done);
       holds = record {
-        remembers = inl (none, runs.0, sound, written_runs old.store.head now.head old.walker next n bytes is runs.2 at of_log walked ends);
+        remembers = inl (none, runs.0, sound, written_runs old.log.head now.head old.log.walker next n bytes is runs.2 at of_log walked ends);
         backs = λ t b. (comes n.kept (holds.backs t b)).ok;
       };
       moments = λ t b. subst (λ (k : ℕ). LeavesOne disk new k (Old n)) size (comes n.kept (holds.backs t b)).moments;
@@ -154,21 +154,21 @@ appended_walk head w next n item bytes is runs ends of_log image stands =
 
 -- an append that laid the record out and wrote it
 pub appended_comes : {D : Type 0} (disk new : DiskState) (old : HeldLog D) (now : Held D) (next : Walker) (n : LogState) (item : RecordIn)
-    (status : StoreStatus) (prev start end : ℕ) (bytes given : List ℕ) → Holds disk old n → old.stopped ≡ None → IsHead old.store.head
-    → status ≡ status_of old.store.head → role_of n ≡ Primary → prev ≡ last_start old.walker
+    (status : StoreStatus) (prev start end : ℕ) (bytes given : List ℕ) → Holds disk old.log n → old.log.stopped ≡ None → IsHead old.log.head
+    → status ≡ status_of old.log.head → role_of n ≡ Primary → prev ≡ last_start old.log.walker
     → IsImage status.ident (λ _. status.tli) status.written prev item bytes
     → HeadersAreSpelled status.ident (λ _. status.tli) (total_length item) status.written bytes
     → start ≡ start_of status.ident.size status.written → end ≡ status.written + length bytes → length item.body ≤ BODY_LIMIT
     → image_end status.ident.size status.written (length item.body) ≤ 2 ^ 62 → ((timeline : ℕ → ℕ) → Stands next timeline end start [])
-    → identity next ≡ status.ident → given ≡ bytes → IsAt old.store.head now.head (old.store.head.written + length given)
-    → Breaks {A = Unit {0}} (Ok tt) old.store.broken now.broken
-    → ((s : State) → Backs disk old.store.head s → StoreComes {A = Unit {0}} (Ok tt) disk new now.head (Before s) (appended s given) (λ t. t ≡ s))
-    → Comes {A = ℕ} (Ok end) disk new (record { store = now; walker = next; stopped = old.stopped }) n (Appends n item (Ok end)) (Old n)
+    → identity next ≡ status.ident → given ≡ bytes → IsAt old.log.head now.head (old.log.head.written + length given)
+    → Breaks {A = Unit {0}} (Ok tt) old.log.failed now.broken
+    → ((s : State) → Backs disk old.log.head s → StoreComes {A = Unit {0}} (Ok tt) disk new now.head (Before s) (appended s given) (λ t. t ≡ s))
+    → Comes {A = ℕ} (Ok end) disk new (memory_of now next old.log.stopped) n (Appends n item (Ok end)) (Old n)
 appended_comes {D} disk new old now next n item status prev start end bytes given holds none is told primary prev_is image spelled start_is end_is
     short fits stands of_log same at breaks comes =
     let runs = running old n none holds.remembers in
-    let head = old.store.head in
-    let w = old.walker in
+    let head = old.log.head in
+    let w = old.log.walker in
     let m = marks head w n is runs.2 in
     let as_log : status ≡ status_of_log n = told ∙ same_status head w n runs.2 in
     let tli = own_timeline n in
@@ -199,7 +199,7 @@ appended_comes {D} disk new old now next n item status prev start end bytes give
     let Given : List ℕ → Type 0 = λ l.
     IsAt head now.head (head.written + length l)
     → ((s : State) → Backs disk head s → StoreComes {A = Unit {0}} (Ok tt) disk new now.head (Before s) (appended s l) (λ t. t ≡ s))
-    → Comes {A = ℕ} (Ok end) disk new (record { store = now; walker = next; stopped = old.stopped }) n (Appends n item (Ok end)) (Old n) in
+    → Comes {A = ℕ} (Ok end) disk new (memory_of now next old.log.stopped) n (Appends n item (Ok end)) (Old n) in
     let here : Given bytes = λ at comes. wrote (IsAppendRefusal n item) (CanAppend n item) (IsAppended n item) (Only n) end disk new old now next n
     bytes holds none is (primary, short, room) (record {
       bytes = bytes;
@@ -209,7 +209,7 @@ appended_comes {D} disk new old now next n item status prev start end bytes give
       spelled = headed;
       ends = ends;
       becomes = refl;
-    }) at (ok_sound tt old.store.broken now.broken runs.1 breaks) identified walked (λ _. stood.keeps.begins) comes in
+    }) at (ok_sound tt old.log.failed now.broken runs.1 breaks) identified walked (λ _. stood.keeps.begins) comes in
     subst Given (sym same) here at comes
 
 -- why a record was not laid out is why it is not appended
@@ -242,16 +242,17 @@ still_records w next n bytes of_log walked = subst (λ (i : Ident). IsPrefixOfRe
     ++ bytes)) of_log (walked_prefix next (timeline_of n) (whole_end n) (start_kept n) (tail_of n ++ bytes) walked)
 
 pub received_comes : {D : Type 0} (disk new : DiskState) (old : HeldLog D) (now : Held D) (next : Walker) (n : LogState) (tli start end : ℕ)
-    (bytes : List ℕ) → Holds disk old n → old.stopped ≡ None → IsHead old.store.head → GoesOn n tli start → start + length bytes ≤ 2 ^ 62
-    → end ≡ start + length bytes → identity next ≡ identity old.walker
+    (bytes : List ℕ) → Holds disk old.log n → old.log.stopped ≡ None → IsHead old.log.head → GoesOn n tli start → start + length bytes ≤ 2 ^ 62
+    → end ≡ start + length bytes → identity next ≡ identity old.log.walker
     → HasWalked next (timeline_of n) (whole_end n) (start_kept n) (tail_of n ++ bytes)
-    → IsAt old.store.head now.head (old.store.head.written + length bytes) → Breaks {A = Unit {0}} (Ok tt) old.store.broken now.broken
-    → ((s : State) → Backs disk old.store.head s → StoreComes {A = Unit {0}} (Ok tt) disk new now.head (Before s) (appended s bytes) (λ t. t ≡ s))
-    → Comes {A = ℕ} (Ok end) disk new (record { store = now; walker = next; stopped = old.stopped }) n (Receives n tli start bytes (Ok end)) (Old n)
+    → IsAt old.log.head now.head (old.log.head.written + length bytes) → Breaks {A = Unit {0}} (Ok tt) old.log.failed now.broken
+    → ((s : State) → Backs disk old.log.head s → StoreComes {A = Unit {0}} (Ok tt) disk new now.head (Before s) (appended s bytes) (λ t. t ≡ s))
+    → Comes {A = ℕ} (Ok end) disk new (memory_of now next old.log.stopped) n (Receives n tli start bytes (Ok end)) (Old n)
 received_comes {D} disk new old now next n tli start end bytes holds none is goes room ends same walked at breaks comes =
     let runs = running old n none holds.remembers in
     let of_log : identity next ≡ ident_of n = same ∙ runs.2.of_log in
     let end_is : end ≡ written_end (appended_log n bytes) = omega (arith, ends, goes.at_end, length-append n.kept.unflushed bytes) in
     wrote (IsReceiveRefusal n tli start bytes) (CanReceive n tli start bytes) (IsReceived n bytes) (Only n) end disk new old now next n bytes holds
-    none is (goes, room, still_records old.walker next n bytes of_log walked) (end_is, refl) at (ok_sound tt old.store.broken now.broken runs.1 breaks)
+    none is (goes, room, still_records old.log.walker next n bytes of_log walked) (end_is, refl) at
+    (ok_sound tt old.log.failed now.broken runs.1 breaks)
     of_log walked (λ primary. (let clash : Standby ≡ Primary = sym goes.standby ∙ primary in absurd cc)) comes

@@ -8,7 +8,7 @@ use Rattle.repl_disk.specs.State.{DiskState}
 use Rattle.repl_store.specs.Backing.{LeavesOne}
 use Rattle.repl_store.specs.Durable.{IsKnown}
 use Rattle.repl_store.specs.declared.store.StoreStatus.{StoreStatus}
-use Rattle.repl_wal.specs.Holding.{HeldLog, Holds}
+use Rattle.repl_wal.specs.Holding.{Holds, LogMemory}
 use Rattle.repl_wal.specs.State.{LogState, breaking, own_timeline}
 use Rattle.repl_wal.specs.Steps.{Old}
 use Rattle.repl_wal.specs.declared.fault.NodeFault.{NodeFault}
@@ -28,15 +28,15 @@ source_stopped copy.SourceFault was before = Some before
 source_stopped e was before = was
 
 -- The source is as it was, or broken where its disk failed in the call, and at any moment a crash of it leaves what it kept.
-pub record LeavesSource {A D E : Type 0} (result : Result A (NodeFault × D)) (old new : DiskState) (held : HeldLog E) (n : LogState) : Type 0 where
+pub record LeavesSource {A D : Type 0} (result : Result A (NodeFault × D)) (old new : DiskState) (memory : LogMemory) (n : LogState) : Type 0 where
   pub next : LogState
   pub is : (next ≡ n) ⊎ ((next ≡ breaking n) × (n.broken ≡ false) × IfErr result (λ e. e.0 ≡ fault.SourceFault))
-  pub holds : Holds new held next
+  pub holds : Holds new memory next
   pub moments : n.told ≡ true → n.broken ≡ false → LeavesOne old new n.size (Old n)
 
 -- The source is known to be in this state, and all that a crash may leave of the disk has heard of the same timelines.
-pub record IsKnownSource {E : Type 0} (source : DiskState) (held : HeldLog E) (disk : DiskState) (n : LogState) (known : ℕ) : Type 0 where
-  pub holds : Holds source held n
+pub record IsKnownSource (source : DiskState) (memory : LogMemory) (disk : DiskState) (n : LogState) (known : ℕ) : Type 0 where
+  pub holds : Holds source memory n
   pub told : n.told ≡ true
   pub size : n.size ≡ VERSION_1_SIZE
   pub files : IsSome disk.files

@@ -27,7 +27,7 @@ mounted_log size d = record { size = size; kept = record { durable = d; unflushe
 
 -- the same, of which nothing is known on the disk
 abbrev pub untold_log : ℕ → Durable → LogState
-untold_log size d = record { size = size; kept = record { durable = d; unflushed = [] }; broken = false; told = false }
+untold_log size d = record (mounted_log size d) { told = false }
 
 -- ---- making
 

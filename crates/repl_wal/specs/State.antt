@@ -100,11 +100,11 @@ pub record IsLog (n : LogState) : Type 0 where
 -- ---- what calls make of it
 
 abbrev pub having : LogState → State → LogState
-having n kept = record { size = n.size; kept = kept; broken = n.broken; told = n.told }
+having n kept = record n { kept = kept }
 
 -- a call of the disk failed
 abbrev pub breaking : LogState → LogState
-breaking n = record { size = n.size; kept = n.kept; broken = true; told = n.told }
+breaking n = record n { broken = true }
 
 abbrev pub appended_log : LogState → List ℕ → LogState
 appended_log n bytes = having n (appended n.kept bytes)
@@ -115,7 +115,7 @@ flushed_log n role whole last = having n (flushed n.kept role whole last)
 
 -- another timeline was heard of
 abbrev pub heard_log : LogState → ℕ → LogState
-heard_log n tli = having n (record { durable = heard n.kept.durable tli; unflushed = n.kept.unflushed })
+heard_log n tli = having n (record (n.kept) { durable = heard n.kept.durable tli })
 
 -- the log goes on with a child of its path from the switch point on
 abbrev pub switched_log : LogState → Path → Role → ℕ → ℕ → LogState
@@ -123,7 +123,7 @@ switched_log n child role whole last = having n (record { durable = switched n.k
 
 -- bytes below the floor are gone
 abbrev pub raised_log : LogState → ℕ → LogState
-raised_log n floor = having n (record { durable = raised n.kept.durable floor; unflushed = n.kept.unflushed })
+raised_log n floor = having n (record (n.kept) { durable = raised n.kept.durable floor })
 
 -- what a log tells of itself
 abbrev pub status_of_log : LogState → StoreStatus

@@ -3,11 +3,9 @@ ghost use Rattle.std.specs.Prelude.{◌≡◌, ◌+◌, ◌%◌, ◌^◌, ◌<�
 ghost use Rattle.repl_record.specs.Length.{image_end};
 ghost use Rattle.repl_record.specs.Record.{HeadersAreSpelled, IsImage, start_of, total_length};
 ghost use Rattle.repl_store.specs.Apart.{StaysApart};
-ghost use Rattle.repl_wal.specs.Holding.{Comes, Holds};
-ghost use Rattle.repl_wal.specs.State.{LogState};
+ghost use Rattle.repl_wal.specs.Holding.{Calls, IsIdle};
 ghost use Rattle.repl_wal.specs.Steps.{Old};
 ghost use Rattle.repl_wal.specs.Writing.{Appends, IsUnlaid};
-ghost use Rattle.repl_wal.specs.declared.fault.NodeFault.TheVariants as NodeFault;
 
 use crate::fault::{NodeFault, stop};
 use crate::wal::{LOG_LIMIT, Wal, is_standby};
@@ -21,11 +19,10 @@ impl<D: Disk> Wal<D> {
     /// Appends a record after the last one, and answers where it ends. It is certain on the disk from the next `flush` on.
     /// Takes memory for the record's image, once.
     pub fn append(&mut self, alloc: Global, item: &RecordIn) -> Result<Lsn, NodeFault>
-        ensures steps { (n : LogState) → Holds (D.state self.old.store.disk) self.old n →
-            Comes result (D.state self.old.store.disk) (D.state self.new.store.disk) self.new n (Appends n item.now result) (Old n) }
-        ensures idle { result ≡ Err NodeFault.Broken → self.new.store.disk ≡ self.old.store.disk }
-        ensures apart { StaysApart (D.state self.old.store.disk) (D.state self.new.store.disk) }
-        ensures keeps { D.keeps self.old.store.disk self.new.store.disk }
+        ensures steps { Calls D.state self.old self.new result (λ n. Appends n item.now result) Old }
+        ensures idle { IsIdle result self.old self.new }
+        ensures apart { StaysApart (D.state self.old.disk) (D.state self.new.disk) }
+        ensures keeps { D.keeps self.old.disk self.new.disk }
     {
         if self.stopped.is_some() {
             return Err(NodeFault::Broken);

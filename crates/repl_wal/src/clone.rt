@@ -1,5 +1,5 @@
 //! Beginning a standby's log with what another log keeps.
-ghost use Rattle.std.specs.Prelude.{◌≡◌, ◌⊎◌, ℕ, true, None, IsSome, IfOk, IfErr, Ok, Err, MatchResult};
+ghost use Rattle.std.specs.Prelude.{◌≡◌, ◌⊎◌, ℕ, true, None, IsSome, IfOk, IfErr, MatchResult};
 ghost use Rattle.repl_clone.specs.Causes.{IsTooLong};
 ghost use Rattle.repl_clone.specs.Copied.{IsCopying, copied};
 ghost use Rattle.repl_control.specs.declared.control.TheConstants.{VERSION_1_SIZE};
@@ -9,7 +9,7 @@ ghost use Rattle.repl_disk.specs.Folder.{Folder, IfTold};
 ghost use Rattle.repl_store.specs.Apart.{StaysApart};
 ghost use Rattle.repl_store.specs.Durable.{IsKnown, control_name};
 ghost use Rattle.repl_wal.specs.Cloning.{IsKnownSource, LeavesSource, of_copy, source_stopped};
-ghost use Rattle.repl_wal.specs.Holding.{Holds, Remembers};
+ghost use Rattle.repl_wal.specs.Holding.{Holds, Remembers, answer_after, disk_after};
 ghost use Rattle.repl_wal.specs.Making.{IsOpened, mounted_log};
 ghost use Rattle.repl_wal.specs.State.{LogState, own_timeline, path_of};
 ghost use Rattle.repl_wal.specs.declared.fault.NodeFault.TheVariants as NodeFault;
@@ -32,38 +32,38 @@ impl<D: Disk> Wal<D> {
         from: &mut Wal<E>,
     ) -> Result<Wal<D>, (NodeFault, D)>
         // Where all images have heard of the same timelines, the files are known to be the copy's from here on.
-        ensures holds { (n : LogState) (known : ℕ) → Holds (E.state from.old.store.disk) from.old n → n.told ≡ true → n.size ≡ VERSION_1_SIZE
+        ensures holds { (n : LogState) (known : ℕ) → Holds (E.state from.old.disk) from.old.log n → n.told ≡ true → n.size ≡ VERSION_1_SIZE
             → IsSome (D.state disk).files → ((image : Folder) → (D.state disk).may_leave image → IsKnown image (own_timeline n) known)
-            → IfOk result (λ wal. Holds (D.state wal.store.disk) wal (mounted_log VERSION_1_SIZE (copied n.kept.durable known))) }
+            → IfOk result (λ wal. Holds (D.state wal.disk) wal.log (mounted_log VERSION_1_SIZE (copied n.kept.durable known))) }
         ensures none { IfOk result (λ wal. IfTold (D.state disk).files (λ folder. folder control_name ≡ None)) }
         ensures exists { IfErr result (λ e. e.0 ≡ NodeFault.Exists → IfTold (D.state disk).files (λ folder. IsSome (folder control_name))) }
-        ensures too_long { (n : LogState) → Remembers from.old n →
+        ensures too_long { (n : LogState) → Remembers from.old.log n →
             IfErr result (λ e. (have : ℕ) → e.0 ≡ NodeFault.HistoryFull have → IsTooLong (path_of n) have) }
         // A crash leaves the control that was there, or the copy.
-        ensures moments { (n : LogState) (known : ℕ) → IsKnownSource (E.state from.old.store.disk) from.old (D.state disk) n known → MatchResult result
-            (λ wal. LeavesOnly (D.state disk) (D.state wal.store.disk) (IsCopying (D.state disk).may_leave n.size n.kept.durable))
-            (λ e. LeavesOnly (D.state disk) (D.state e.1) (IsCopying (D.state disk).may_leave n.size n.kept.durable)) }
+        ensures moments { (n : LogState) (known : ℕ) → IsKnownSource (E.state from.old.disk) from.old.log (D.state disk) n known
+            → LeavesOnly (D.state disk) (D.state (disk_after result)) (IsCopying (D.state disk).may_leave n.size n.kept.durable) }
         // Whatever timelines were heard of, that is so up to the copy that is then mounted.
-        ensures copying { (n : LogState) → Holds (E.state from.old.store.disk) from.old n → n.told ≡ true → IfTold (D.state disk).files (λ folder. (made : D)
+        ensures copying { (n : LogState) → Holds (E.state from.old.disk) from.old.log n → n.told ≡ true → IfTold (D.state disk).files (λ folder. (made : D)
             × LeavesOnly (D.state disk) (D.state made) (IsCopying (D.state disk).may_leave n.size n.kept.durable)
-            × MatchResult result (λ wal. D.keeps made wal.store.disk) (λ e. D.keeps made e.1)) }
+            × D.keeps made (disk_after result)) }
         // Each failure of the disk is told, and none is told without one, or without a lack.
-        ensures caused { MatchResult result (λ wal. IsOpened (Ok wal) (D.state disk) (D.state wal.store.disk)) (λ e. IsOpened {A = Wal D} (Err e.0) (D.state disk) (D.state e.1)) }
-        ensures rose { (n : LogState) (known : ℕ) → IsKnownSource (E.state from.old.store.disk) from.old (D.state disk) n known
+        ensures caused { IsOpened (answer_after result) (D.state disk) (D.state (disk_after result)) }
+        ensures rose { (n : LogState) (known : ℕ) → IsKnownSource (E.state from.old.disk) from.old.log (D.state disk) n known
             → IfErr result (λ e. e.0 ≡ NodeFault.DiskFault → Rose (D.state disk).faults (D.state e.1).faults) }
         // The source stays as it was, unless its disk failed.
-        ensures source { (n : LogState) → Holds (E.state from.old.store.disk) from.old n →
-            LeavesSource result (E.state from.old.store.disk) (E.state from.new.store.disk) from.new n }
+        ensures source { (n : LogState) → Holds (E.state from.old.disk) from.old.log n →
+            LeavesSource result (E.state from.old.disk) (E.state from.new.disk) from.new.log n }
         // Each failure of the source's disk is told, and none is told without one, or without a lack, but where the source is broken.
-        ensures counted { MatchResult result (λ wal. Stood (E.state from.old.store.disk).faults (E.state from.new.store.disk).faults × Stood (E.state from.old.store.disk).wants (E.state from.new.store.disk).wants)
-            (λ e. (e.0 ≡ NodeFault.SourceFault) ⊎ Stood (E.state from.old.store.disk).faults (E.state from.new.store.disk).faults) }
-        ensures failed { (n : LogState) → Remembers from.old n → IfErr result (λ e. e.0 ≡ NodeFault.SourceFault → (n.broken ≡ true)
-            ⊎ Rose (E.state from.old.store.disk).faults (E.state from.new.store.disk).faults ⊎ Rose (E.state from.old.store.disk).lacks (E.state from.new.store.disk).lacks) }
+        ensures counted { MatchResult result
+            (λ wal. Stood (E.state from.old.disk).faults (E.state from.new.disk).faults × Stood (E.state from.old.disk).wants (E.state from.new.disk).wants)
+            (λ e. (e.0 ≡ NodeFault.SourceFault) ⊎ Stood (E.state from.old.disk).faults (E.state from.new.disk).faults) }
+        ensures failed { (n : LogState) → Remembers from.old.log n → IfErr result (λ e. e.0 ≡ NodeFault.SourceFault → (n.broken ≡ true)
+            ⊎ Rose (E.state from.old.disk).faults (E.state from.new.disk).faults ⊎ Rose (E.state from.old.disk).lacks (E.state from.new.disk).lacks) }
         // The files of the slots stay on both disks.
-        ensures apart { MatchResult result (λ wal. StaysApart (D.state disk) (D.state wal.store.disk)) (λ e. StaysApart (D.state disk) (D.state e.1)) }
-        ensures source_apart { StaysApart (E.state from.old.store.disk) (E.state from.new.store.disk) }
-        ensures keeps { MatchResult result (λ wal. D.keeps disk wal.store.disk) (λ e. D.keeps disk e.1) }
-        ensures source_keeps { E.keeps from.old.store.disk from.new.store.disk }
+        ensures apart { StaysApart (D.state disk) (D.state (disk_after result)) }
+        ensures source_apart { StaysApart (E.state from.old.disk) (E.state from.new.disk) }
+        ensures keeps { D.keeps disk (disk_after result) }
+        ensures source_keeps { E.keeps from.old.disk from.new.disk }
     {
         if from.stopped.is_some() {
             return Err((NodeFault::SourceFault, disk));

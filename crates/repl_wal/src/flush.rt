@@ -2,7 +2,7 @@
 ghost use Rattle.std.specs.Prelude.{◌≡◌, Err};
 ghost use Rattle.repl_effects.specs.Counts.{Rose};
 ghost use Rattle.repl_store.specs.Apart.{StaysApart};
-ghost use Rattle.repl_wal.specs.Holding.{Comes, Holds, Remembers};
+ghost use Rattle.repl_wal.specs.Holding.{Calls, IsIdle, Remembers};
 ghost use Rattle.repl_wal.specs.State.{LogState, flushed_end, written_end};
 ghost use Rattle.repl_wal.specs.Writing.{DemoteLeaves, Demotes, FlushLeaves, Flushes};
 ghost use Rattle.repl_wal.specs.declared.fault.NodeFault.TheVariants as NodeFault;
@@ -17,13 +17,12 @@ impl<D: Disk> Wal<D> {
     /// Makes all written bytes certain, and answers where they end. Where nothing was written since the last flush it makes
     /// no call of the disk. Takes no memory but the disk's.
     pub fn flush(&mut self) -> Result<Lsn, NodeFault>
-        ensures steps { (n : LogState) → Holds (D.state self.old.store.disk) self.old n →
-            Comes result (D.state self.old.store.disk) (D.state self.new.store.disk) self.new n (Flushes n result) (FlushLeaves n) }
-        ensures still { (n : LogState) → Remembers self.old n → written_end n ≡ flushed_end n → self.new.store.disk ≡ self.old.store.disk }
-        ensures idle { result ≡ Err NodeFault.Broken → self.new.store.disk ≡ self.old.store.disk }
-        ensures wants { result ≡ Err NodeFault.Memory → Rose (D.state self.old.store.disk).wants (D.state self.new.store.disk).wants }
-        ensures apart { StaysApart (D.state self.old.store.disk) (D.state self.new.store.disk) }
-        ensures keeps { D.keeps self.old.store.disk self.new.store.disk }
+        ensures steps { Calls D.state self.old self.new result (λ n. Flushes n result) FlushLeaves }
+        ensures still { (n : LogState) → Remembers self.old.log n → written_end n ≡ flushed_end n → self.new.disk ≡ self.old.disk }
+        ensures idle { IsIdle result self.old self.new }
+        ensures wants { result ≡ Err NodeFault.Memory → Rose (D.state self.old.disk).wants (D.state self.new.disk).wants }
+        ensures apart { StaysApart (D.state self.old.disk) (D.state self.new.disk) }
+        ensures keeps { D.keeps self.old.disk self.new.disk }
     {
         if self.stopped.is_some() {
             return Err(NodeFault::Broken);
@@ -41,12 +40,11 @@ impl<D: Disk> Wal<D> {
     /// Makes all written bytes certain and a primary into a standby, by one renaming of the control. A standby is refused
     /// (`NotPrimary`). Takes no memory but the disk's.
     pub fn demote(&mut self) -> Result<(), NodeFault>
-        ensures steps { (n : LogState) → Holds (D.state self.old.store.disk) self.old n →
-            Comes result (D.state self.old.store.disk) (D.state self.new.store.disk) self.new n (Demotes n result) (DemoteLeaves n) }
-        ensures idle { result ≡ Err NodeFault.Broken → self.new.store.disk ≡ self.old.store.disk }
-        ensures wants { result ≡ Err NodeFault.Memory → Rose (D.state self.old.store.disk).wants (D.state self.new.store.disk).wants }
-        ensures apart { StaysApart (D.state self.old.store.disk) (D.state self.new.store.disk) }
-        ensures keeps { D.keeps self.old.store.disk self.new.store.disk }
+        ensures steps { Calls D.state self.old self.new result (λ n. Demotes n result) DemoteLeaves }
+        ensures idle { IsIdle result self.old self.new }
+        ensures wants { result ≡ Err NodeFault.Memory → Rose (D.state self.old.disk).wants (D.state self.new.disk).wants }
+        ensures apart { StaysApart (D.state self.old.disk) (D.state self.new.disk) }
+        ensures keeps { D.keeps self.old.disk self.new.disk }
     {
         if self.stopped.is_some() {
             return Err(NodeFault::Broken);

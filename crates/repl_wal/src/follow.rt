@@ -4,9 +4,8 @@ ghost use Rattle.repl_lsn.specs.History.{last_switch};
 ghost use Rattle.repl_lsn.specs.Path.{DifferAt};
 ghost use Rattle.repl_wal.specs.Following.{CanFollow, FollowLeaves, Follows, IsNoChild, IsOneMore, IsUnfollowed, Leaves};
 ghost use Rattle.repl_store.specs.Apart.{StaysApart};
-ghost use Rattle.repl_wal.specs.Holding.{Comes, Holds};
+ghost use Rattle.repl_wal.specs.Holding.{Calls, IsIdle};
 ghost use Rattle.repl_wal.specs.State.{LogState, path_of, status_of_log};
-ghost use Rattle.repl_wal.specs.declared.fault.NodeFault.TheVariants as NodeFault;
 
 use crate::fault::{NodeFault, stop};
 use crate::wal::{Wal, is_standby};
@@ -22,11 +21,10 @@ impl<D: Disk> Wal<D> {
     /// more than the log's path, the own timeline. What is written or flushed of a further record goes. Takes memory for the
     /// history and a piece of a segment.
     pub fn follow(&mut self, alloc: Global, child: &History) -> Result<(), NodeFault>
-        ensures steps { (n : LogState) → Holds (D.state self.old.store.disk) self.old n →
-            Comes result (D.state self.old.store.disk) (D.state self.new.store.disk) self.new n (Follows n child.now result) (FollowLeaves n child.now) }
-        ensures idle { result ≡ Err NodeFault.Broken → self.new.store.disk ≡ self.old.store.disk }
-        ensures apart { StaysApart (D.state self.old.store.disk) (D.state self.new.store.disk) }
-        ensures keeps { D.keeps self.old.store.disk self.new.store.disk }
+        ensures steps { Calls D.state self.old self.new result (λ n. Follows n child.now result) (λ n. FollowLeaves n child.now) }
+        ensures idle { IsIdle result self.old self.new }
+        ensures apart { StaysApart (D.state self.old.disk) (D.state self.new.disk) }
+        ensures keeps { D.keeps self.old.disk self.new.disk }
     {
         if self.stopped.is_some() {
             return Err(NodeFault::Broken);

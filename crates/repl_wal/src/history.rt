@@ -15,7 +15,7 @@ impl<D: Disk> Wal<D> {
     /// The canonical text of the history of a timeline on the path. Timeline 1 has none. Makes no call of the disk, and takes
     /// memory for the text.
     pub fn history(&self, alloc: Global, tli: Tli) -> Result<Vec<u8>, NodeFault>
-        ensures { (n : LogState) → Remembers self.now n →
+        ensures { (n : LogState) → Remembers self.now.log n →
             Step (IsHistoryRefusal (path_of n) tli) (tli ≢ 1) (λ text m. IsHistoryOf (path_of n) tli text.items × (m ≡ n)) (Only n) n result n }
     {
         if self.stopped.is_some() {

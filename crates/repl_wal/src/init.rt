@@ -1,5 +1,5 @@
 //! Making a log.
-ghost use Rattle.std.specs.Prelude.{◌≡◌, ℕ, false, None, IsSome, IfOk, IfErr, Ok, Err, MatchResult};
+ghost use Rattle.std.specs.Prelude.{◌≡◌, ℕ, false, None, IsSome, IfOk, IfErr};
 ghost use Rattle.repl_control.specs.declared.control.TheConstants.{VERSION_1_SIZE};
 ghost use Rattle.repl_disk.specs.Crash.{LeavesOnly};
 ghost use Rattle.repl_disk.specs.Folder.{Folder, IfTold};
@@ -7,7 +7,7 @@ ghost use Rattle.repl_store.specs.Creating.{IsMaking, fresh};
 ghost use Rattle.repl_store.specs.Durable.{IsKnown, StandsFor, control_name};
 ghost use Rattle.repl_store.specs.Head.{IsMounted};
 ghost use Rattle.repl_store.specs.Apart.{StaysApart};
-ghost use Rattle.repl_wal.specs.Holding.{Holds, Remembers};
+ghost use Rattle.repl_wal.specs.Holding.{Holds, Remembers, answer_after, disk_after, store_of};
 ghost use Rattle.repl_wal.specs.State.{LogState};
 ghost use Rattle.repl_wal.specs.Making.{BeginsAs, IsMadeOf, IsUnmade, mounted_log, untold_log};
 
@@ -24,22 +24,20 @@ impl<D: Disk> Wal<D> {
     /// there stay, and are passed over but for histories. Where a control is there it is refused, and nothing changes.
     pub fn init(alloc: Global, disk: D, ident: Ident, role: Role) -> Result<Wal<D>, (NodeFault, D)>
         requires { ident.size ≡ VERSION_1_SIZE }
-        ensures made { IfOk result (λ wal. Remembers wal (untold_log VERSION_1_SIZE (fresh role ident 1))) }
+        ensures made { IfOk result (λ wal. Remembers wal.log (untold_log VERSION_1_SIZE (fresh role ident 1))) }
         // There was no control, and from here on every image is the new store.
         ensures images { IfOk result (λ wal. IfTold (D.state disk).files (λ folder. (folder control_name ≡ None)
-            × ((image : Folder) → (D.state wal.store.disk).may_leave image → (known : ℕ) × StandsFor VERSION_1_SIZE image (fresh role ident known)))) }
+            × ((image : Folder) → (D.state wal.disk).may_leave image → (known : ℕ) × StandsFor VERSION_1_SIZE image (fresh role ident known)))) }
         // Where all images have heard of the same timelines, the files are known to be the new log's.
         ensures holds { IfOk result (λ wal. (known : ℕ) → IsSome (D.state disk).files → ((image : Folder) → (D.state disk).may_leave image → IsKnown image 1 known)
-            → Holds (D.state wal.store.disk) wal (mounted_log VERSION_1_SIZE (fresh role ident known))) }
+            → Holds (D.state wal.disk) wal.log (mounted_log VERSION_1_SIZE (fresh role ident known))) }
         ensures refused { IfErr result (λ e. IsUnmade (D.state disk).files e.0) }
         // A crash leaves what one before might have left, or the new store.
-        ensures moments { IfTold (D.state disk).files (λ folder. MatchResult result
-            (λ wal. LeavesOnly (D.state disk) (D.state wal.store.disk) (IsMaking (D.state disk).may_leave role ident))
-            (λ e. LeavesOnly (D.state disk) (D.state e.1) (IsMaking (D.state disk).may_leave role ident))) }
-        ensures caused { MatchResult result (λ wal. IsMadeOf (Ok wal) (D.state disk) (D.state wal.store.disk))
-            (λ e. IsMadeOf {A = Wal D} (Err e.0) (D.state disk) (D.state e.1)) }
-        ensures apart { MatchResult result (λ wal. StaysApart (D.state disk) (D.state wal.store.disk)) (λ e. StaysApart (D.state disk) (D.state e.1)) }
-        ensures keeps { MatchResult result (λ wal. D.keeps disk wal.store.disk) (λ e. D.keeps disk e.1) }
+        ensures moments { IfTold (D.state disk).files (λ folder.
+            LeavesOnly (D.state disk) (D.state (disk_after result)) (IsMaking (D.state disk).may_leave role ident)) }
+        ensures caused { IsMadeOf (answer_after result) (D.state disk) (D.state (disk_after result)) }
+        ensures apart { StaysApart (D.state disk) (D.state (disk_after result)) }
+        ensures keeps { D.keeps disk (disk_after result) }
     {
         match Store::create(alloc, disk, ident, role) {
             Ok(store) => Ok(begin(store)),
@@ -53,8 +51,8 @@ fn begin<D: Disk>(store: Store<D>) -> Wal<D>
     requires unbroken { store.broken ≡ false }
     requires whole { store.head.control.whole ≡ store.head.control.flushed }
     requires written { store.head.written ≡ store.head.control.flushed }
-    ensures store { result.store ≡ store }
-    ensures remembers { (n : LogState) → BeginsAs store.head n → Remembers result n }
+    ensures store { store_of result ≡ store }
+    ensures remembers { (n : LogState) → BeginsAs store.head n → Remembers result.log n }
 {
     let status = store.status();
     Wal {

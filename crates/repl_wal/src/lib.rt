@@ -5,9 +5,9 @@
 //! its timelines, and give up what nobody needs. A standby's log follows a child of its timeline, or is promoted to one of its
 //! own. `specs/State.antt` says what a log's state is, `specs/Steps.antt` how any call ends, and the files beside them what
 //! each call refuses, makes of the state, and leaves to a crash. How a state, the memory and the disk's files hang together
-//! stands in `specs/Holding.antt`. After a failure of the disk every call but `identify`, `path` and `into_disk` answers
-//! `Broken`, until the log is mounted again. Every call leaves the files of the slots as they were. Stands on `repl_store`
-//! and `repl_walk`.
+//! stands in `specs/Holding.antt`, and what every call says of them (`Calls`). After a failure of the disk every call but
+//! `identify`, `path` and `into_disk` answers `Broken`, until the log is mounted again. Every call leaves the files of the
+//! slots as they were. Stands on `repl_store` and `repl_walk`.
 //!
 //! ```text
 //! let mut wal = Wal::init(alloc, disk, ident, Role::Primary)?;

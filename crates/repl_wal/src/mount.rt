@@ -1,5 +1,5 @@
 //! Opening the log that stands on a disk.
-ghost use Rattle.std.specs.Prelude.{◌≡◌, ◌≢◌, ◌+◌, ◌<◌, ◌≤◌, ◌^◌, ◌++◌, ◌⊎◌, ℕ, List, length, false, [], None, Some, Ok, Err, IfOk, IfErr, OnOk, MatchResult};
+ghost use Rattle.std.specs.Prelude.{◌≡◌, ◌≢◌, ◌+◌, ◌<◌, ◌≤◌, ◌^◌, ◌++◌, ◌⊎◌, ℕ, List, length, false, [], None, Some, Ok, Err, IfOk, IfErr, OnOk};
 ghost use Rattle.repl_control.specs.declared.control.TheConstants.{VERSION_1_SIZE};
 ghost use Rattle.repl_effects.specs.Counts.{Rose};
 ghost use Rattle.repl_disk.specs.Folder.{Folder, IfTold};
@@ -9,7 +9,7 @@ ghost use Rattle.repl_store.specs.Apart.{StaysApart};
 ghost use Rattle.repl_store.specs.Backing.{Backs, OnlyReads, State};
 ghost use Rattle.repl_store.specs.Durable.{Durable, StandsFor};
 ghost use Rattle.repl_store.specs.Head.{IsHead, IsMounted, status_of};
-ghost use Rattle.repl_wal.specs.Holding.{Holds, Remembers};
+ghost use Rattle.repl_wal.specs.Holding.{Holds, Remembers, answer_after, disk_after};
 ghost use Rattle.repl_wal.specs.Making.{HasTaken, IsFailure, IsMountRefusal, IsOfMount, IsOpened, IsWalkRefusal, IsWrongPast, IsWrongTail, OnlyOpens, TakenOf, mounted_log};
 ghost use Rattle.repl_wal.specs.State.{LogState};
 ghost use Rattle.repl_wal.specs.declared.fault.NodeFault.TheVariants as NodeFault;
@@ -32,29 +32,28 @@ impl<D: Disk> Wal<D> {
     /// memory for a piece of the log.
     pub fn mount(alloc: Global, disk: D) -> Result<Wal<D>, (NodeFault, D)>
         // What is mounted is what the files stand for, and nothing is written after it.
-        ensures mounted { IfOk result (λ wal. (wal.stopped ≡ None) × IfTold (D.state disk).files (λ folder.
-            (d : Durable) × StandsFor VERSION_1_SIZE folder d × IsMounted wal.store.head VERSION_1_SIZE d)) }
+        ensures mounted { IfOk result (λ wal. (wal.log.stopped ≡ None) × IfTold (D.state disk).files (λ folder.
+            (d : Durable) × StandsFor VERSION_1_SIZE folder d × IsMounted wal.log.head VERSION_1_SIZE d)) }
         // There is always a log that it remembers.
-        ensures stands { IfOk result (λ wal. (n : LogState) × Remembers wal n) }
+        ensures stands { IfOk result (λ wal. (n : LogState) × Remembers wal.log n) }
         // Where a crash leaves nothing else, the files are known to be the log's from here on.
         ensures holds { IfOk result (λ wal. (folder : Folder) (d : Durable) → (D.state disk).files ≡ Some folder → StandsFor VERSION_1_SIZE folder d
             → ((image : Folder) → (D.state disk).may_leave image → StandsFor VERSION_1_SIZE image d)
-            → Holds (D.state wal.store.disk) wal (mounted_log VERSION_1_SIZE d)) }
+            → Holds (D.state wal.disk) wal.log (mounted_log VERSION_1_SIZE d)) }
         ensures refused { IfErr result (λ e. IfTold (D.state disk).files (λ folder. IsMountRefusal VERSION_1_SIZE folder (D.state disk).may_leave e.0)) }
         ensures answers { IfErr result (λ e. IsOfMount e.0) }
-        ensures caused { MatchResult result (λ wal. IsOpened (Ok wal) (D.state disk) (D.state wal.store.disk)) (λ e. IsOpened {A = Wal D} (Err e.0) (D.state disk) (D.state e.1)) }
+        ensures caused { IsOpened (answer_after result) (D.state disk) (D.state (disk_after result)) }
         // A lack is told only where the files stand for a store, or are not told.
         ensures lost { IfErr result (λ e. e.0 ≡ NodeFault.DiskFault → Rose (D.state disk).faults (D.state e.1).faults
             ⊎ IfTold (D.state disk).files (λ folder. (d : Durable) × StandsFor VERSION_1_SIZE folder d)) }
         // No file changes, and a crash leaves nothing new.
-        ensures reads { MatchResult result (λ wal. OnlyReads (D.state disk) (D.state wal.store.disk)) (λ e. OnlyReads (D.state disk) (D.state e.1)) }
+        ensures reads { OnlyReads (D.state disk) (D.state (disk_after result)) }
         // Where a crash leaves nothing else, it leaves that at each moment, and a failure is one that the disk counted.
         ensures only { (folder : Folder) (d : Durable) → (D.state disk).files ≡ Some folder → StandsFor VERSION_1_SIZE folder d
             → ((image : Folder) → (D.state disk).may_leave image → StandsFor VERSION_1_SIZE image d)
-            → MatchResult result (λ wal. OnlyOpens (Ok wal) (D.state disk) (D.state wal.store.disk) VERSION_1_SIZE d)
-            (λ e. OnlyOpens {A = Wal D} (Err e.0) (D.state disk) (D.state e.1) VERSION_1_SIZE d) }
-        ensures apart { MatchResult result (λ wal. StaysApart (D.state disk) (D.state wal.store.disk)) (λ e. StaysApart (D.state disk) (D.state e.1)) }
-        ensures keeps { MatchResult result (λ wal. D.keeps disk wal.store.disk) (λ e. D.keeps disk e.1) }
+            → OnlyOpens (answer_after result) (D.state disk) (D.state (disk_after result)) VERSION_1_SIZE d }
+        ensures apart { StaysApart (D.state disk) (D.state (disk_after result)) }
+        ensures keeps { D.keeps disk (disk_after result) }
     {
         match Store::mount(alloc, disk) {
             Ok(store) => match walk_on(alloc, store) {
@@ -70,17 +69,17 @@ impl<D: Disk> Wal<D> {
 fn walk_on<D: Disk>(alloc: Global, store: Store<D>) -> Result<Wal<D>, (NodeFault, D)>
     requires unbroken { store.broken ≡ false }
     requires written { store.head.written ≡ store.head.control.flushed }
-    ensures running { IfOk result (λ wal. (wal.stopped ≡ None) × (wal.store.head ≡ store.head)) }
-    ensures stands { IfOk result (λ wal. (n : LogState) × Remembers wal n) }
+    ensures running { IfOk result (λ wal. (wal.log.stopped ≡ None) × (wal.log.head ≡ store.head)) }
+    ensures stands { IfOk result (λ wal. (n : LogState) × Remembers wal.log n) }
     ensures holds { IfOk result (λ wal. (d : Durable) → Backs (D.state store.disk) store.head (record { durable = d; unflushed = [] })
-        → Holds (D.state wal.store.disk) wal (mounted_log store.head.size d)) }
+        → Holds (D.state wal.disk) wal.log (mounted_log store.head.size d)) }
     ensures refused { IfErr result (λ e. IsFailure e.0 ⊎ ((s : State) → Backs (D.state store.disk) store.head s → IsWrongTail store.head.size s.durable e.0)) }
     ensures answers { IfErr result (λ e. IsOfMount e.0) }
-    ensures caused { MatchResult result (λ wal. IsOpened (Ok wal) (D.state store.disk) (D.state wal.store.disk)) (λ e. IsOpened {A = Wal D} (Err e.0) (D.state store.disk) (D.state e.1)) }
+    ensures caused { IsOpened (answer_after result) (D.state store.disk) (D.state (disk_after result)) }
     ensures failed { IfErr result (λ e. e.0 ≡ NodeFault.DiskFault → (s : State) → Backs (D.state store.disk) store.head s →
         Rose (D.state store.disk).faults (D.state e.1).faults) }
-    ensures reads { MatchResult result (λ wal. OnlyReads (D.state store.disk) (D.state wal.store.disk)) (λ e. OnlyReads (D.state store.disk) (D.state e.1)) }
-    ensures keeps { MatchResult result (λ wal. D.keeps store.disk wal.store.disk) (λ e. D.keeps store.disk e.1) }
+    ensures reads { OnlyReads (D.state store.disk) (D.state (disk_after result)) }
+    ensures keeps { D.keeps store.disk (disk_after result) }
 {
     let mut store = store;
     let status = store.status();

@@ -3,10 +3,8 @@ ghost use Rattle.std.specs.Prelude.{◌≡◌, ◌<◌, ◌≤◌, ◌^◌, ◌-
 ghost use Rattle.repl_lsn.specs.History.{canonical, last_switch};
 ghost use Rattle.repl_lsn.specs.declared.history.TheConstants.{HISTORY_LIMIT};
 ghost use Rattle.repl_store.specs.Apart.{StaysApart};
-ghost use Rattle.repl_wal.specs.Holding.{Comes, Holds};
+ghost use Rattle.repl_wal.specs.Holding.{Calls, IsIdle};
 ghost use Rattle.repl_wal.specs.Promoting.{IsChildless, PromoteLeaves, Promotes, child_of, next_number};
-ghost use Rattle.repl_wal.specs.State.{LogState};
-ghost use Rattle.repl_wal.specs.declared.fault.NodeFault.TheVariants as NodeFault;
 
 use crate::fault::{NodeFault, stop};
 use crate::wal::{Wal, is_standby};
@@ -21,11 +19,10 @@ impl<D: Disk> Wal<D> {
     /// given one and above every one that was heard of. What is written of a further record goes. Takes memory for the history
     /// and a piece of a segment.
     pub fn promote(&mut self, alloc: Global, at_least: u32) -> Result<(Tli, Lsn), NodeFault>
-        ensures steps { (n : LogState) → Holds (D.state self.old.store.disk) self.old n →
-            Comes result (D.state self.old.store.disk) (D.state self.new.store.disk) self.new n (Promotes n at_least result) (PromoteLeaves n at_least) }
-        ensures idle { result ≡ Err NodeFault.Broken → self.new.store.disk ≡ self.old.store.disk }
-        ensures apart { StaysApart (D.state self.old.store.disk) (D.state self.new.store.disk) }
-        ensures keeps { D.keeps self.old.store.disk self.new.store.disk }
+        ensures steps { Calls D.state self.old self.new result (λ n. Promotes n at_least result) (λ n. PromoteLeaves n at_least) }
+        ensures idle { IsIdle result self.old self.new }
+        ensures apart { StaysApart (D.state self.old.disk) (D.state self.new.disk) }
+        ensures keeps { D.keeps self.old.disk self.new.disk }
     {
         if self.stopped.is_some() {
             return Err(NodeFault::Broken);

@@ -2,7 +2,7 @@
 ghost use Rattle.std.specs.Prelude.{◌≡◌, ◌<◌, ◌≤◌, ◌^◌, ◌+◌, length, Err, IfErr, IfOk, MatchOption};
 ghost use Rattle.repl_lsn.specs.Path.{HasTimeline};
 ghost use Rattle.repl_store.specs.Apart.{StaysApart};
-ghost use Rattle.repl_wal.specs.Holding.{Comes, Holds};
+ghost use Rattle.repl_wal.specs.Holding.{Calls, IsIdle};
 ghost use Rattle.repl_wal.specs.Reading.{CanRead, IsEnd, IsRange, IsReadRefusal, Reads, read_count};
 ghost use Rattle.repl_wal.specs.State.{LogState, path_of, status_of_log};
 ghost use Rattle.repl_wal.specs.Steps.{Old};
@@ -51,11 +51,10 @@ impl<D: Disk> Wal<D> {
         at: Lsn,
         room: &mut [u8],
     ) -> Result<ReadOut, NodeFault>
-        ensures steps { (n : LogState) → Holds (D.state self.old.store.disk) self.old n →
-            Comes result (D.state self.old.store.disk) (D.state self.new.store.disk) self.new n (Reads n tli at room.old room.new result) (Old n) }
-        ensures idle { result ≡ Err NodeFault.Broken → self.new.store.disk ≡ self.old.store.disk }
-        ensures apart { StaysApart (D.state self.old.store.disk) (D.state self.new.store.disk) }
-        ensures keeps { D.keeps self.old.store.disk self.new.store.disk }
+        ensures steps { Calls D.state self.old self.new result (λ n. Reads n tli at room.old room.new result) Old }
+        ensures idle { IsIdle result self.old self.new }
+        ensures apart { StaysApart (D.state self.old.disk) (D.state self.new.disk) }
+        ensures keeps { D.keeps self.old.disk self.new.disk }
     {
         if self.stopped.is_some() {
             return Err(NodeFault::Broken);

@@ -1,11 +1,10 @@
 //! Receiving bytes of the log, on a standby.
 ghost use Rattle.std.specs.Prelude.{◌≡◌, ◌+◌, ◌^◌, ◌≤◌, ℕ, List, length, Err, IfErr, OnOk};
 ghost use Rattle.repl_store.specs.Apart.{StaysApart};
-ghost use Rattle.repl_wal.specs.Holding.{Comes, Holds};
+ghost use Rattle.repl_wal.specs.Holding.{Calls, IsIdle};
 ghost use Rattle.repl_wal.specs.State.{LogState, status_of_log};
 ghost use Rattle.repl_wal.specs.Steps.{Old};
 ghost use Rattle.repl_wal.specs.Writing.{GoesOn, IsReceiveRefusal, Receives};
-ghost use Rattle.repl_wal.specs.declared.fault.NodeFault.TheVariants as NodeFault;
 
 use crate::fault::{NodeFault, stop};
 use crate::wal::{LOG_LIMIT, Wal, is_standby};
@@ -25,11 +24,10 @@ impl<D: Disk> Wal<D> {
         start: Lsn,
         bytes: &[u8],
     ) -> Result<Lsn, NodeFault>
-        ensures steps { (n : LogState) → Holds (D.state self.old.store.disk) self.old n →
-            Comes result (D.state self.old.store.disk) (D.state self.new.store.disk) self.new n (Receives n tli start bytes.now result) (Old n) }
-        ensures idle { result ≡ Err NodeFault.Broken → self.new.store.disk ≡ self.old.store.disk }
-        ensures apart { StaysApart (D.state self.old.store.disk) (D.state self.new.store.disk) }
-        ensures keeps { D.keeps self.old.store.disk self.new.store.disk }
+        ensures steps { Calls D.state self.old self.new result (λ n. Receives n tli start bytes.now result) Old }
+        ensures idle { IsIdle result self.old self.new }
+        ensures apart { StaysApart (D.state self.old.disk) (D.state self.new.disk) }
+        ensures keeps { D.keeps self.old.disk self.new.disk }
     {
         if self.stopped.is_some() {
             return Err(NodeFault::Broken);

@@ -2,10 +2,9 @@
 ghost use Rattle.std.specs.Prelude.{◌≡◌, ◌-◌, max, min, Err};
 ghost use Rattle.repl_control.specs.Control.{segment_start};
 ghost use Rattle.repl_store.specs.Apart.{StaysApart};
-ghost use Rattle.repl_wal.specs.Holding.{Comes, Holds};
+ghost use Rattle.repl_wal.specs.Holding.{Calls, IsIdle};
 ghost use Rattle.repl_wal.specs.Keeping.{TrimLeaves, Trims, held_back, trimmed_floor};
 ghost use Rattle.repl_wal.specs.State.{LogState, status_of_log};
-ghost use Rattle.repl_wal.specs.declared.fault.NodeFault.TheVariants as NodeFault;
 
 use crate::fault::{NodeFault, stop};
 use crate::wal::Wal;
@@ -18,11 +17,10 @@ impl<D: Disk> Wal<D> {
     /// the flushed end allow, to a segment's start, and answers it. The files of the segments below it are removed. The floor
     /// never falls.
     pub fn trim(&mut self, restart: Option<Lsn>, keep: u64) -> Result<Lsn, NodeFault>
-        ensures steps { (n : LogState) → Holds (D.state self.old.store.disk) self.old n →
-            Comes result (D.state self.old.store.disk) (D.state self.new.store.disk) self.new n (Trims n restart keep result) (TrimLeaves n restart keep) }
-        ensures idle { result ≡ Err NodeFault.Broken → self.new.store.disk ≡ self.old.store.disk }
-        ensures apart { StaysApart (D.state self.old.store.disk) (D.state self.new.store.disk) }
-        ensures keeps { D.keeps self.old.store.disk self.new.store.disk }
+        ensures steps { Calls D.state self.old self.new result (λ n. Trims n restart keep result) (λ n. TrimLeaves n restart keep) }
+        ensures idle { IsIdle result self.old self.new }
+        ensures apart { StaysApart (D.state self.old.disk) (D.state self.new.disk) }
+        ensures keeps { D.keeps self.old.disk self.new.disk }
     {
         if self.stopped.is_some() {
             return Err(NodeFault::Broken);

@@ -4,7 +4,7 @@ ghost use Rattle.repl_store.specs.Head.{status_of};
 ghost use Rattle.repl_control.specs.declared.control.Role.TheVariants as Role;
 ghost use Rattle.std.specs.Borrow.{Lends, sem};
 ghost use Rattle.repl_wal.specs.contracts.wal.Wal.{the_row};
-ghost use Rattle.repl_wal.specs.Holding.{Remembers, with_disk};
+ghost use Rattle.repl_wal.specs.Holding.{Remembers, store_of, with_disk};
 ghost use Rattle.repl_wal.specs.State.{IsLog, LogState, breaking, identity_in, path_of, status_of_log};
 
 use repl_control::Role;
@@ -30,14 +30,14 @@ pub struct Wal<D: Disk> {
 }
 
 impl<D: Disk> Model for Wal<D> {
-    ghost use Rattle.repl_wal.specs.Holding.{HeldLog, Remembers};
+    ghost use Rattle.repl_wal.specs.Holding.{HeldLog, Remembers, held_of, memory_of};
     ghost use Rattle.repl_wal.specs.State.{LogState};
 
     ghost Value = { HeldLog D };
 
-    ghost view = { λ w. record { store = w.store; walker = w.walker; stopped = w.stopped } };
+    ghost view = { λ w. held_of w.store w.walker w.stopped };
 
-    ghost invariant = { λ w. (n : LogState) × Remembers {D = D} (record { store = w.store; walker = w.walker; stopped = w.stopped }) n };
+    ghost invariant = { λ w. (n : LogState) × Remembers (memory_of w.store w.walker w.stopped) n };
 }
 
 /// Whether the node is a standby.
@@ -80,12 +80,12 @@ impl<D: Disk> Wal<D> {
     /// What the node is, and how far its log stands. After a failure of the disk that is the state from before the call that
     /// failed.
     pub fn identify(&self) -> Identity
-        ensures told { (n : LogState) → Remembers self.now n → result ≡ identity_in (status_of_log n) }
+        ensures told { (n : LogState) → Remembers self.now.log n → result ≡ identity_in (status_of_log n) }
         // While no call of the disk failed, that is what the store tells, and the log is right.
-        ensures head { self.now.stopped ≡ None → result ≡ identity_in (status_of self.now.store.head) }
-        ensures right { (n : LogState) → Remembers self.now n → n.broken ≡ false → IsLog n }
+        ensures head { self.now.log.stopped ≡ None → result ≡ identity_in (status_of self.now.log.head) }
+        ensures right { (n : LogState) → Remembers self.now.log n → n.broken ≡ false → IsLog n }
         // There is always such a log.
-        ensures some { (n : LogState) × Remembers self.now n }
+        ensures some { (n : LogState) × Remembers self.now.log n }
     {
         match self.stopped {
             Some(before) => identity_in(&before),
@@ -95,22 +95,22 @@ impl<D: Disk> Wal<D> {
 
     /// The path of the log.
     pub fn path(&self) -> &History
-        ensures { (n : LogState) → Remembers self.now n → result.now ≡ path_of n }
+        ensures { (n : LogState) → Remembers self.now.log n → result.now ≡ path_of n }
     {
         self.store.path()
     }
 
     /// Whether a call of the disk failed since the mount.
     pub fn is_broken(&self) -> bool
-        ensures { (n : LogState) → Remembers self.now n → (IsTrue result ↔ (n.broken ≡ true)) }
+        ensures { (n : LogState) → Remembers self.now.log n → (IsTrue result ↔ (n.broken ≡ true)) }
     {
         self.stopped.is_some()
     }
 
     /// Remembers that the disk failed in a call that was not the log's own. From here on the log is broken.
     pub fn break_off(&mut self)
-        ensures broken { (n : LogState) → Remembers self.old n → n.broken ≡ false → Remembers self.new (breaking n) }
-        ensures store { self.new.store ≡ self.old.store }
+        ensures broken { (n : LogState) → Remembers self.old.log n → n.broken ≡ false → Remembers self.new.log (breaking n) }
+        ensures store { store_of self.new ≡ store_of self.old }
     {
         if self.stopped.is_none() {
             self.stopped = Some(self.store.status());
@@ -119,7 +119,7 @@ impl<D: Disk> Wal<D> {
 
     /// The disk, to be looked at.
     pub fn disk(&self) -> &D
-        ensures { result.now ≡ self.now.store.disk }
+        ensures { result.now ≡ self.now.disk }
     {
         self.store.disk()
     }
@@ -127,7 +127,7 @@ impl<D: Disk> Wal<D> {
     /// The disk. What the borrower leaves is the log's disk; the rest of the log stays. A log goes on with its files where, at
     /// every moment, all names but `slots` and `slots.tmp` stay as they were: `others_apart` of `repl_store` is that law.
     pub fn disk_mut(&mut self) -> &mut D
-        ensures value { result.now ≡ self.old.store.disk }
+        ensures value { result.now ≡ self.old.disk }
         ensures* writes_back { sem 𝓛 (Lends (the_row D.row D.Disk) D.row self.entry result (with_disk self.old)) }
     {
         self.store.disk_mut()
@@ -135,7 +135,7 @@ impl<D: Disk> Wal<D> {
 
     /// The disk, as the log leaves it.
     pub fn into_disk(self) -> D
-        ensures { result ≡ self.store.disk }
+        ensures { result ≡ self.disk }
     {
         self.store.into_disk()
     }

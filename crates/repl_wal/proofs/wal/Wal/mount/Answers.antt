@@ -53,7 +53,7 @@ returns-in-Ok-walk_on-clause-holds g c folder d told stands all =
     let backs = c.in-Ok.ensures.backs folder d told stands all in
     let holds = c.in-Ok-walk_on.ensures.holds d backs in
     let wal = c.in-Ok-walk_on.wal in
-    subst (λ (k : ℕ). Holds (state wal.store.disk) wal (mounted_log k d)) found.2.same_size holds
+    subst (λ (k : ℕ). Holds (state wal.disk) wal.log (mounted_log k d)) found.2.same_size holds
 
 pub returns-in-Err-walk_on-clause-refused : goal.returns-in-Err-walk_on-clause-refused
 returns-in-Err-walk_on-clause-refused g c =
@@ -94,7 +94,7 @@ returns-in-Err-walk_on-clause-lost g c is =
 pub returns-in-Ok-walk_on-clause-reads : goal.returns-in-Ok-walk_on-clause-reads
 returns-in-Ok-walk_on-clause-reads g c =
     let state = g.D.Disk.state in
-    reads_then (state c.args.disk) (state c.in-Ok.store.disk) (state c.in-Ok-walk_on.wal.store.disk) c.in-Ok.ensures.asks.only c.in-Ok-walk_on.ensures.reads
+    reads_then (state c.args.disk) (state c.in-Ok.store.disk) (state c.in-Ok-walk_on.wal.disk) c.in-Ok.ensures.asks.only c.in-Ok-walk_on.ensures.reads
 
 pub returns-in-Err-walk_on-clause-reads : goal.returns-in-Err-walk_on-clause-reads
 returns-in-Err-walk_on-clause-reads g c =
@@ -104,7 +104,7 @@ returns-in-Err-walk_on-clause-reads g c =
 pub returns-in-Ok-walk_on-clause-apart : goal.returns-in-Ok-walk_on-clause-apart
 returns-in-Ok-walk_on-clause-apart g c =
     let state = g.D.Disk.state in
-    apart_reads (state c.args.disk) (state c.in-Ok-walk_on.wal.store.disk) (returns-in-Ok-walk_on-clause-reads g c)
+    apart_reads (state c.args.disk) (state c.in-Ok-walk_on.wal.disk) (returns-in-Ok-walk_on-clause-reads g c)
 
 pub returns-in-Err-walk_on-clause-apart : goal.returns-in-Err-walk_on-clause-apart
 returns-in-Err-walk_on-clause-apart g c =
@@ -114,7 +114,7 @@ returns-in-Err-walk_on-clause-apart g c =
 pub returns-in-Ok-walk_on-clause-only : goal.returns-in-Ok-walk_on-clause-only
 returns-in-Ok-walk_on-clause-only g c folder d told stands all =
     let state = g.D.Disk.state in
-    only_opens _ (state c.args.disk) (state c.in-Ok-walk_on.wal.store.disk) VERSION_1_SIZE d all (returns-in-Ok-walk_on-clause-reads g c) (λ is. absurd cc)
+    only_opens _ (state c.args.disk) (state c.in-Ok-walk_on.wal.disk) VERSION_1_SIZE d all (returns-in-Ok-walk_on-clause-reads g c) (λ is. absurd cc)
 
 pub returns-in-Err-walk_on-clause-only : goal.returns-in-Err-walk_on-clause-only
 returns-in-Err-walk_on-clause-only g c folder d told stands all =

@@ -4,7 +4,7 @@ use Rattle.repl_control.specs.declared.control.Role.TheVariants.{Primary, Standb
 use Rattle.repl_disk.specs.State.{DiskState}
 use Rattle.repl_store.proofs.Apart.{apart_itself, apart_on}
 use Rattle.repl_store.specs.Apart.{StaysApart}
-use Rattle.repl_wal.specs.Holding.{HeldLog}
+use Rattle.repl_wal.specs.Holding.{HeldLog, held_of}
 use Rattle.repl_wal.specs.Promoting.{PromoteLeaves, Promotes}
 use Rattle.repl_wal.specs.State.{LogState, role_of}
 use Rattle.repl_wal.specs.declared.fault.NodeFault.TheVariants as fault
@@ -18,21 +18,21 @@ use Rattle.repl_wal.proofs.wal.Wal.promote.Goals as goal
 pub returns-then-not-is_standby-clause-steps : goal.returns-then-not-is_standby-clause-steps
 returns-then-not-is_standby-clause-steps g c n =
     let state = g.D.Disk.state in
-    let old : HeldLog g.row.D.Denot = record { store = c.self.inside.store; walker = c.self.inside.walker; stopped = c.self.inside.stopped } in
+    let old : HeldLog g.row.D.Denot = held_of c.self.inside.store c.self.inside.walker c.self.inside.stopped in
     let at_least = c.args.at_least in
     let here : Ends state old old at_least (Err fault.NotStandby) n = λ holds.
-    let runs = running old n (none_of old.stopped (sym c.if-is_some.ensures)) holds.remembers in
+    let runs = running old n (none_of old.log.stopped (sym c.if-is_some.ensures)) holds.remembers in
     let not : c.status-before.result.role ≡ Standby → ⊥ = λ is. (let yes = c.is_standby.ensures.1 is in absurd cc) in
-    let primary : role_of n ≡ Primary = sym (role_told c.status-before.result old.store.head n c.status-before.ensures.told runs.2.control)
+    let primary : role_of n ≡ Primary = sym (role_told c.status-before.result old.log.head n c.status-before.ensures.told runs.2.control)
     ∙ standby_not c.status-before.result.role not in
-    untouched (Err fault.NotStandby) (state old.store.disk) old n (Promotes n at_least (Err fault.NotStandby)) (PromoteLeaves n at_least)
-    (g.met.D.Disk.only_now old.store.disk) holds (runs.0, primary, refl) (λ d was. inl was) (λ is. absurd cc) in
+    untouched (Err fault.NotStandby) (state old.disk) old n (Promotes n at_least (Err fault.NotStandby)) (PromoteLeaves n at_least)
+    (g.met.D.Disk.only_now old.disk) holds (runs.0, primary, refl) (λ d was. inl was) (λ is. absurd cc) in
     subst (λ (h : HeldLog g.row.D.Denot). Ends state h h at_least (Err fault.NotStandby) n) c.self.view_is here
 
 -- ---- the listing
 
 abbrev old : (g : Over) → After-known_numbers g → HeldLog g.row.D.Denot
-old g c = record { store = c.self.inside.store; walker = c.self.inside.walker; stopped = c.self.inside.stopped }
+old g c = held_of c.self.inside.store c.self.inside.walker c.self.inside.stopped
 
 begun : (g : Over) (c : After-known_numbers g) → Begun (g.D.Disk.state c.self.inside.store.disk) (old g c) c.status-before.result
 begun g c = record {
@@ -43,11 +43,9 @@ begun g c = record {
   standby = c.is_standby.ensures.0 (let no = c.if-not-is_standby.false in cc);
 }
 
-not_listed : (g : Over) (c : After-stop g) (n : LogState) → Ends g.D.Disk.state (old g (goal.at.invariant_of-self g c).After-known_numbers) (record {
-  store = c.known_numbers.new.self;
-  walker = c.self.inside.walker;
-  stopped = c.stop.new.stopped;
-}) c.args.at_least (Err c.stop.result) n
+not_listed : (g : Over) (c : After-stop g) (n : LogState)
+    → Ends g.D.Disk.state (old g (goal.at.invariant_of-self g c).After-known_numbers)
+    (held_of c.known_numbers.new.self c.self.inside.walker c.stop.new.stopped) c.args.at_least (Err c.stop.result) n
 not_listed g c n holds =
     let state = g.D.Disk.state in
     let before = (goal.at.invariant_of-self g c).After-known_numbers in
@@ -69,18 +67,13 @@ not_listed g c n holds =
 pub returns-in-Err-clause-steps : goal.returns-in-Err-clause-steps
 returns-in-Err-clause-steps g c n =
     let here = not_listed g c n in
-    subst (λ (h : HeldLog g.row.D.Denot). Ends g.D.Disk.state h (record {
-      store = c.known_numbers.new.self;
-      walker = c.self.inside.walker;
-      stopped = c.stop.new.stopped;
-    }) c.args.at_least (Err c.stop.result) n) c.self.view_is here
+    subst (λ (h : HeldLog g.row.D.Denot). Ends g.D.Disk.state h (held_of c.known_numbers.new.self c.self.inside.walker c.stop.new.stopped)
+    c.args.at_least (Err c.stop.result) n) c.self.view_is here
 
 pub invariant_of-self : goal.invariant_of-self
-invariant_of-self g c = remembers g.D.Disk.state (old g (goal.at.invariant_of-self g c).After-known_numbers) (record {
-  store = c.known_numbers.new.self;
-  walker = c.self.inside.walker;
-  stopped = c.stop.new.stopped;
-}) c.args.at_least (Err c.stop.result) c.self.invariant.0 c.self.invariant.1 (not_listed g c)
+invariant_of-self g c = remembers g.D.Disk.state (old g (goal.at.invariant_of-self g c).After-known_numbers)
+    (held_of c.known_numbers.new.self c.self.inside.walker c.stop.new.stopped) c.args.at_least (Err c.stop.result) c.self.invariant.0
+    c.self.invariant.1 (not_listed g c)
 
 -- ---- the child
 
@@ -106,33 +99,28 @@ child_for-requires-clause-past g c =
     let was = old g at.After-known_numbers in
     let now = c.known_numbers.new.self in
     let n = c.self.invariant.0 in
-    let holds = untold_holds (state was.store.disk) was n c.self.invariant.1 in
-    past (state was.store.disk) (state now.disk) was now (untold n) c.args.at_least c.status-before.result (begun g at.After-known_numbers) holds c.in-Ok.known
+    let holds = untold_holds (state was.disk) was n c.self.invariant.1 in
+    past (state was.disk) (state now.disk) was now (untold n) c.args.at_least c.status-before.result (begun g at.After-known_numbers) holds
+    c.in-Ok.known
     (lists g at.After-path) c.path.result.now c.last_end-whole.result c.path.ensures c.last_end-whole.ensures
 
 no_child : (g : Over) (c : In-Err-child_for g) (n : LogState)
-    → Ends g.D.Disk.state (old g (goal.at.returns-in-Err-child_for-clause-steps g c).After-known_numbers) (record {
-      store = c.known_numbers.new.self;
-      walker = c.self.inside.walker;
-      stopped = c.self.inside.stopped;
-    }) c.args.at_least (Err c.in-Err-child_for.fault) n
+    → Ends g.D.Disk.state (old g (goal.at.returns-in-Err-child_for-clause-steps g c).After-known_numbers)
+    (held_of c.known_numbers.new.self c.self.inside.walker c.self.inside.stopped) c.args.at_least (Err c.in-Err-child_for.fault) n
 no_child g c n holds =
     let state = g.D.Disk.state in
     let at = goal.at.returns-in-Err-child_for-clause-steps g c in
     let was = old g at.After-known_numbers in
     let now = c.known_numbers.new.self in
-    childless (state was.store.disk) (state now.disk) was now n c.args.at_least c.status-before.result (begun g at.After-known_numbers) holds
+    childless (state was.disk) (state now.disk) was now n c.args.at_least c.status-before.result (begun g at.After-known_numbers) holds
     c.in-Ok.known (lists g at.After-path) c.path.result.now c.greater-known.result c.last_end-whole.result c.in-Err-child_for.fault c.path.ensures
     c.greater-known.ensures c.last_end-whole.ensures c.in-Err-child_for.ensures.refused
 
 pub returns-in-Err-child_for-clause-steps : goal.returns-in-Err-child_for-clause-steps
 returns-in-Err-child_for-clause-steps g c n =
     let here = no_child g c n in
-    subst (λ (h : HeldLog g.row.D.Denot). Ends g.D.Disk.state h (record {
-      store = c.known_numbers.new.self;
-      walker = c.self.inside.walker;
-      stopped = c.self.inside.stopped;
-    }) c.args.at_least (Err c.in-Err-child_for.fault) n) c.self.view_is here
+    subst (λ (h : HeldLog g.row.D.Denot). Ends g.D.Disk.state h (held_of c.known_numbers.new.self c.self.inside.walker c.self.inside.stopped)
+    c.args.at_least (Err c.in-Err-child_for.fault) n) c.self.view_is here
 
 -- ---- the flush
 
@@ -155,17 +143,14 @@ flush-requires g c =
     let was = old g at.After-known_numbers in
     let now = c.known_numbers.new.self in
     let n = c.self.invariant.0 in
-    let holds = untold_holds (state was.store.disk) was n c.self.invariant.1 in
-    can_certain (state was.store.disk) (state now.disk) was now (untold n) c.args.at_least c.status-before.result (begun g at.After-known_numbers) holds
+    let holds = untold_holds (state was.disk) was n c.self.invariant.1 in
+    can_certain (state was.disk) (state now.disk) was now (untold n) c.args.at_least c.status-before.result (begun g at.After-known_numbers) holds
     c.in-Ok.known (lists g at.After-path) c.greater-known.result c.last_end-whole.result c.last_start-last.result c.path.result.now
     c.in-Ok-child_for.child (chooses g at.In-Ok-child_for) (state now.disk) now
 
 not_flushed : (g : Over) (c : After-drop-child-inside g) (n : LogState)
-    → Ends g.D.Disk.state (old g (goal.at.returns-in-Err-flush-clause-steps g c).After-known_numbers) (record {
-      store = c.flush.new.self;
-      walker = c.self.inside.walker;
-      stopped = c.stop-in-Err-flush.new.stopped;
-    }) c.args.at_least (Err c.stop-in-Err-flush.result) n
+    → Ends g.D.Disk.state (old g (goal.at.returns-in-Err-flush-clause-steps g c).After-known_numbers)
+    (held_of c.flush.new.self c.self.inside.walker c.stop-in-Err-flush.new.stopped) c.args.at_least (Err c.stop-in-Err-flush.result) n
 not_flushed g c n holds =
     let state = g.D.Disk.state in
     let at = goal.at.returns-in-Err-flush-clause-steps g c in
@@ -173,7 +158,7 @@ not_flushed g c n holds =
     let now = c.known_numbers.new.self in
     let second = c.flush.new.self in
     let is = c.in-Err-flush.ensures in
-    unflushed (state was.store.disk) (state now.disk) was now n c.args.at_least c.status-before.result (begun g at.After-known_numbers) holds
+    unflushed (state was.disk) (state now.disk) was now n c.args.at_least c.status-before.result (begun g at.After-known_numbers) holds
     c.in-Ok.known (lists g at.After-path) c.greater-known.result c.last_end-whole.result c.last_start-last.result c.path.result.now
     c.in-Ok-child_for.child (chooses g at.In-Ok-child_for) (state second.disk) second c.in-Err-flush.fault c.stop-in-Err-flush.result
     c.stop-in-Err-flush.new.stopped (record {
@@ -189,25 +174,20 @@ not_flushed g c n holds =
 pub returns-in-Err-flush-clause-steps : goal.returns-in-Err-flush-clause-steps
 returns-in-Err-flush-clause-steps g c n =
     let here = not_flushed g c n in
-    subst (λ (h : HeldLog g.row.D.Denot). Ends g.D.Disk.state h (record {
-      store = c.flush.new.self;
-      walker = c.self.inside.walker;
-      stopped = c.stop-in-Err-flush.new.stopped;
-    }) c.args.at_least (Err c.stop-in-Err-flush.result) n) c.self.view_is here
+    subst (λ (h : HeldLog g.row.D.Denot). Ends g.D.Disk.state h (held_of c.flush.new.self c.self.inside.walker c.stop-in-Err-flush.new.stopped)
+    c.args.at_least (Err c.stop-in-Err-flush.result) n) c.self.view_is here
 
 pub invariant_of-self-in-Err-flush : goal.invariant_of-self-in-Err-flush
-invariant_of-self-in-Err-flush g c = remembers g.D.Disk.state (old g (goal.at.invariant_of-self-in-Err-flush g c).After-known_numbers) (record {
-  store = c.flush.new.self;
-  walker = c.self.inside.walker;
-  stopped = c.stop-in-Err-flush.new.stopped;
-}) c.args.at_least (Err c.stop-in-Err-flush.result) c.self.invariant.0 c.self.invariant.1 (not_flushed g c)
+invariant_of-self-in-Err-flush g c = remembers g.D.Disk.state (old g (goal.at.invariant_of-self-in-Err-flush g c).After-known_numbers)
+    (held_of c.flush.new.self c.self.inside.walker c.stop-in-Err-flush.new.stopped) c.args.at_least (Err c.stop-in-Err-flush.result)
+    c.self.invariant.0 c.self.invariant.1 (not_flushed g c)
 
 pub returns-in-Err-flush-clause-keeps : goal.returns-in-Err-flush-clause-keeps
 returns-in-Err-flush-clause-keeps g c =
     let was = old g (goal.at.returns-in-Err-flush-clause-keeps g c).After-known_numbers in
-    let keeps = g.met.D.Disk.keeps_on was.store.disk c.known_numbers.new.self.disk c.flush.new.self.disk c.in-Ok.ensures.keeps
+    let keeps = g.met.D.Disk.keeps_on was.disk c.known_numbers.new.self.disk c.flush.new.self.disk c.in-Ok.ensures.keeps
     c.in-Err-flush.ensures.keeps in
-    subst (λ (h : HeldLog g.row.D.Denot). g.D.Disk.keeps h.store.disk c.flush.new.self.disk) c.self.view_is keeps
+    subst (λ (h : HeldLog g.row.D.Denot). g.D.Disk.keeps h.disk c.flush.new.self.disk) c.self.view_is keeps
 
 -- ---- going over
 
@@ -232,17 +212,14 @@ switch-requires g c =
     let was = old g at.After-known_numbers in
     let now = c.known_numbers.new.self in
     let n = c.self.invariant.0 in
-    let holds = untold_holds (state was.store.disk) was n c.self.invariant.1 in
-    can_go (state was.store.disk) (state now.disk) was now (untold n) c.args.at_least c.status-before.result (begun g at.After-known_numbers) holds
+    let holds = untold_holds (state was.disk) was n c.self.invariant.1 in
+    can_go (state was.disk) (state now.disk) was now (untold n) c.args.at_least c.status-before.result (begun g at.After-known_numbers) holds
     c.in-Ok.known (lists g at.After-path) c.greater-known.result c.last_end-whole.result c.last_start-last.result c.path.result.now
     c.in-Ok-child_for.child (chooses g at.In-Ok-child_for) (state c.flush.new.self.disk) c.flush.new.self (certain g at.In-Ok-flush)
 
 went : (g : Over) (c : After-drop-child-inside-in-Ok-switch g) (n : LogState)
-    → Ends g.D.Disk.state (old g (goal.at.returns-in-Ok-switch-clause-steps g c).After-known_numbers) (record {
-      store = c.switch.new.self;
-      walker = c.new-self-inside.result;
-      stopped = c.self.inside.stopped;
-    }) c.args.at_least (Ok (c.own.result, c.last_end-whole.result)) n
+    → Ends g.D.Disk.state (old g (goal.at.returns-in-Ok-switch-clause-steps g c).After-known_numbers)
+    (held_of c.switch.new.self c.new-self-inside.result c.self.inside.stopped) c.args.at_least (Ok (c.own.result, c.last_end-whole.result)) n
 went g c n holds =
     let state = g.D.Disk.state in
     let at = goal.at.returns-in-Ok-switch-clause-steps g c in
@@ -261,7 +238,7 @@ went g c n holds =
       lacks = (g.met.D.Disk.never_falls second.disk third.disk is.keeps).lacks;
       comes = is.comes;
     } in
-    gone (state was.store.disk) (state now.disk) was now n c.args.at_least c.status-before.result (begun g at.After-known_numbers) holds
+    gone (state was.disk) (state now.disk) was now n c.args.at_least c.status-before.result (begun g at.After-known_numbers) holds
     c.in-Ok.known (lists g at.After-path) c.greater-known.result c.last_end-whole.result c.last_start-last.result c.path.result.now
     c.in-Ok-child_for.child (chooses g at.In-Ok-child_for) (state second.disk) second (certain g at.In-Ok-flush) (state third.disk) third c.new-self-inside.result c.own.result goes
     c.new-self-inside.ensures.stands c.new-self-inside.ensures.ident c.own.ensures
@@ -269,33 +246,25 @@ went g c n holds =
 pub returns-in-Ok-switch-clause-steps : goal.returns-in-Ok-switch-clause-steps
 returns-in-Ok-switch-clause-steps g c n =
     let here = went g c n in
-    subst (λ (h : HeldLog g.row.D.Denot). Ends g.D.Disk.state h (record {
-      store = c.switch.new.self;
-      walker = c.new-self-inside.result;
-      stopped = c.self.inside.stopped;
-    }) c.args.at_least (Ok (c.own.result, c.last_end-whole.result)) n) c.self.view_is here
+    subst (λ (h : HeldLog g.row.D.Denot). Ends g.D.Disk.state h (held_of c.switch.new.self c.new-self-inside.result c.self.inside.stopped)
+    c.args.at_least (Ok (c.own.result, c.last_end-whole.result)) n) c.self.view_is here
 
 pub invariant_of-self-in-Ok-switch : goal.invariant_of-self-in-Ok-switch
-invariant_of-self-in-Ok-switch g c = remembers g.D.Disk.state (old g (goal.at.invariant_of-self-in-Ok-switch g c).After-known_numbers) (record {
-  store = c.switch.new.self;
-  walker = c.new-self-inside.result;
-  stopped = c.self.inside.stopped;
-}) c.args.at_least (Ok (c.own.result, c.last_end-whole.result)) c.self.invariant.0 c.self.invariant.1 (went g c)
+invariant_of-self-in-Ok-switch g c = remembers g.D.Disk.state (old g (goal.at.invariant_of-self-in-Ok-switch g c).After-known_numbers)
+    (held_of c.switch.new.self c.new-self-inside.result c.self.inside.stopped) c.args.at_least (Ok (c.own.result, c.last_end-whole.result))
+    c.self.invariant.0 c.self.invariant.1 (went g c)
 
 pub returns-in-Ok-switch-clause-keeps : goal.returns-in-Ok-switch-clause-keeps
 returns-in-Ok-switch-clause-keeps g c =
     let was = old g (goal.at.returns-in-Ok-switch-clause-keeps g c).After-known_numbers in
-    let first = g.met.D.Disk.keeps_on was.store.disk c.known_numbers.new.self.disk c.flush.new.self.disk c.in-Ok.ensures.keeps
+    let first = g.met.D.Disk.keeps_on was.disk c.known_numbers.new.self.disk c.flush.new.self.disk c.in-Ok.ensures.keeps
     c.in-Ok-flush.ensures.keeps in
-    let keeps = g.met.D.Disk.keeps_on was.store.disk c.flush.new.self.disk c.switch.new.self.disk first c.in-Ok-switch.ensures.keeps in
-    subst (λ (h : HeldLog g.row.D.Denot). g.D.Disk.keeps h.store.disk c.switch.new.self.disk) c.self.view_is keeps
+    let keeps = g.met.D.Disk.keeps_on was.disk c.flush.new.self.disk c.switch.new.self.disk first c.in-Ok-switch.ensures.keeps in
+    subst (λ (h : HeldLog g.row.D.Denot). g.D.Disk.keeps h.disk c.switch.new.self.disk) c.self.view_is keeps
 
 not_gone : (g : Over) (c : After-stop-in-Err-switch g) (n : LogState)
-    → Ends g.D.Disk.state (old g (goal.at.invariant_of-self-in-Err-switch g c).After-known_numbers) (record {
-      store = c.switch.new.self;
-      walker = c.self.inside.walker;
-      stopped = c.stop-in-Err-switch.new.stopped;
-    }) c.args.at_least (Err c.stop-in-Err-switch.result) n
+    → Ends g.D.Disk.state (old g (goal.at.invariant_of-self-in-Err-switch g c).After-known_numbers)
+    (held_of c.switch.new.self c.self.inside.walker c.stop-in-Err-switch.new.stopped) c.args.at_least (Err c.stop-in-Err-switch.result) n
 not_gone g c n holds =
     let state = g.D.Disk.state in
     let at = goal.at.invariant_of-self-in-Err-switch g c in
@@ -314,7 +283,7 @@ not_gone g c n holds =
       lacks = (g.met.D.Disk.never_falls second.disk third.disk is.keeps).lacks;
       comes = is.comes;
     } in
-    ungone (state was.store.disk) (state now.disk) was now n c.args.at_least c.status-before.result (begun g at.After-known_numbers) holds
+    ungone (state was.disk) (state now.disk) was now n c.args.at_least c.status-before.result (begun g at.After-known_numbers) holds
     c.in-Ok.known (lists g at.After-path) c.greater-known.result c.last_end-whole.result c.last_start-last.result c.path.result.now
     c.in-Ok-child_for.child (chooses g at.In-Ok-child_for) (state second.disk) second (certain g at.In-Ok-flush) (state third.disk) third c.in-Err-switch.fault
     c.stop-in-Err-switch.result c.stop-in-Err-switch.new.stopped goes c.stop-in-Err-switch.ensures.answer c.stop-in-Err-switch.ensures.stopped
@@ -322,58 +291,53 @@ not_gone g c n holds =
 pub returns-clause-steps : goal.returns-clause-steps
 returns-clause-steps g c n =
     let here = not_gone g (goal.at.returns-clause-steps g c).After-stop-in-Err-switch n in
-    subst (λ (h : HeldLog g.row.D.Denot). Ends g.D.Disk.state h (record {
-      store = c.switch.new.self;
-      walker = c.self.inside.walker;
-      stopped = c.stop-in-Err-switch.new.stopped;
-    }) c.args.at_least (Err c.stop-in-Err-switch.result) n) c.self.view_is here
+    subst (λ (h : HeldLog g.row.D.Denot). Ends g.D.Disk.state h (held_of c.switch.new.self c.self.inside.walker c.stop-in-Err-switch.new.stopped)
+    c.args.at_least (Err c.stop-in-Err-switch.result) n) c.self.view_is here
 
 pub invariant_of-self-in-Err-switch : goal.invariant_of-self-in-Err-switch
-invariant_of-self-in-Err-switch g c = remembers g.D.Disk.state (old g (goal.at.invariant_of-self-in-Err-switch g c).After-known_numbers) (record {
-  store = c.switch.new.self;
-  walker = c.self.inside.walker;
-  stopped = c.stop-in-Err-switch.new.stopped;
-}) c.args.at_least (Err c.stop-in-Err-switch.result) c.self.invariant.0 c.self.invariant.1 (not_gone g c)
+invariant_of-self-in-Err-switch g c = remembers g.D.Disk.state (old g (goal.at.invariant_of-self-in-Err-switch g c).After-known_numbers)
+    (held_of c.switch.new.self c.self.inside.walker c.stop-in-Err-switch.new.stopped) c.args.at_least (Err c.stop-in-Err-switch.result)
+    c.self.invariant.0 c.self.invariant.1 (not_gone g c)
 
 pub returns-clause-keeps : goal.returns-clause-keeps
 returns-clause-keeps g c =
     let was = old g (goal.at.returns-clause-keeps g c).After-known_numbers in
-    let first = g.met.D.Disk.keeps_on was.store.disk c.known_numbers.new.self.disk c.flush.new.self.disk c.in-Ok.ensures.keeps
+    let first = g.met.D.Disk.keeps_on was.disk c.known_numbers.new.self.disk c.flush.new.self.disk c.in-Ok.ensures.keeps
     c.in-Ok-flush.ensures.keeps in
-    let keeps = g.met.D.Disk.keeps_on was.store.disk c.flush.new.self.disk c.switch.new.self.disk first c.in-Err-switch.ensures.keeps in
-    subst (λ (h : HeldLog g.row.D.Denot). g.D.Disk.keeps h.store.disk c.switch.new.self.disk) c.self.view_is keeps
+    let keeps = g.met.D.Disk.keeps_on was.disk c.flush.new.self.disk c.switch.new.self.disk first c.in-Err-switch.ensures.keeps in
+    subst (λ (h : HeldLog g.row.D.Denot). g.D.Disk.keeps h.disk c.switch.new.self.disk) c.self.view_is keeps
 
 -- ---- the files of the slots
 
 -- from the log as it was given
 from_self : {D : Type 0} (state : D → DiskState) (old before : HeldLog D) (new : D) → old ≡ before
-    → StaysApart (state old.store.disk) (state new) → StaysApart (state before.store.disk) (state new)
-from_self {D} state old before new is = subst (λ (h : HeldLog D). StaysApart (state h.store.disk) (state new)) is
+    → StaysApart (state old.disk) (state new) → StaysApart (state before.disk) (state new)
+from_self {D} state old before new is = subst (λ (h : HeldLog D). StaysApart (state h.disk) (state new)) is
 
 pub returns-then-not-is_standby-clause-apart : goal.returns-then-not-is_standby-clause-apart
-returns-then-not-is_standby-clause-apart g c = apart_itself (g.D.Disk.state c.args.self.now.store.disk) (g.met.D.Disk.only_now c.args.self.now.store.disk)
+returns-then-not-is_standby-clause-apart g c = apart_itself (g.D.Disk.state c.args.self.now.disk) (g.met.D.Disk.only_now c.args.self.now.disk)
 
 pub returns-in-Err-flush-clause-apart : goal.returns-in-Err-flush-clause-apart
 returns-in-Err-flush-clause-apart g c =
     let state = g.D.Disk.state in
-    let old : HeldLog g.row.D.Denot = record { store = c.self.inside.store; walker = c.self.inside.walker; stopped = c.self.inside.stopped } in
+    let old : HeldLog g.row.D.Denot = held_of c.self.inside.store c.self.inside.walker c.self.inside.stopped in
     from_self state old c.args.self.now c.flush.new.self.disk c.self.view_is
-    (apart_on (state old.store.disk) (state c.known_numbers.new.self.disk) (state c.flush.new.self.disk) c.in-Ok.ensures.apart c.in-Err-flush.ensures.apart)
+    (apart_on (state old.disk) (state c.known_numbers.new.self.disk) (state c.flush.new.self.disk) c.in-Ok.ensures.apart c.in-Err-flush.ensures.apart)
 
 pub returns-in-Ok-switch-clause-apart : goal.returns-in-Ok-switch-clause-apart
 returns-in-Ok-switch-clause-apart g c =
     let state = g.D.Disk.state in
-    let old : HeldLog g.row.D.Denot = record { store = c.self.inside.store; walker = c.self.inside.walker; stopped = c.self.inside.stopped } in
+    let old : HeldLog g.row.D.Denot = held_of c.self.inside.store c.self.inside.walker c.self.inside.stopped in
     from_self state old c.args.self.now c.switch.new.self.disk c.self.view_is
-    (apart_on (state old.store.disk) (state c.known_numbers.new.self.disk) (state c.switch.new.self.disk) c.in-Ok.ensures.apart
+    (apart_on (state old.disk) (state c.known_numbers.new.self.disk) (state c.switch.new.self.disk) c.in-Ok.ensures.apart
     (apart_on (state c.known_numbers.new.self.disk) (state c.flush.new.self.disk) (state c.switch.new.self.disk) c.in-Ok-flush.ensures.apart
     c.switch.ensures.apart))
 
 pub returns-clause-apart : goal.returns-clause-apart
 returns-clause-apart g c =
     let state = g.D.Disk.state in
-    let old : HeldLog g.row.D.Denot = record { store = c.self.inside.store; walker = c.self.inside.walker; stopped = c.self.inside.stopped } in
+    let old : HeldLog g.row.D.Denot = held_of c.self.inside.store c.self.inside.walker c.self.inside.stopped in
     from_self state old c.args.self.now c.switch.new.self.disk c.self.view_is
-    (apart_on (state old.store.disk) (state c.known_numbers.new.self.disk) (state c.switch.new.self.disk) c.in-Ok.ensures.apart
+    (apart_on (state old.disk) (state c.known_numbers.new.self.disk) (state c.switch.new.self.disk) c.in-Ok.ensures.apart
     (apart_on (state c.known_numbers.new.self.disk) (state c.flush.new.self.disk) (state c.switch.new.self.disk) c.in-Ok-flush.ensures.apart
     c.switch.ensures.apart))
