@@ -13,7 +13,7 @@ use Rattle.repl_wal.specs.Holding.{HeldLog}
 use Rattle.repl_wal.specs.State.{LogState, own_timeline}
 use Rattle.repl_wal.specs.declared.fault.NodeFault.{NodeFault}
 use Rattle.repl_node.specs.Cloning.{IsCopyingNode}
-use Rattle.repl_node.specs.Holding.{HeldNode}
+use Rattle.repl_node.specs.Holding.{HeldNode, disk_after, disk_of}
 use Rattle.repl_node.specs.Making.{HasNoSlots, IsClearing}
 use Rattle.repl_node.proofs.Begun.{is_some_as, known_on}
 use Rattle.repl_node.proofs.Passing.{both, told}
@@ -86,3 +86,9 @@ pub joint : {A E : Type 0} (result : Result A E) (P Q : A → Type 0) (R S : E �
     → MatchResult result (λ x. P x × Q x) (λ e. R e × S e)
 joint (Ok x) P Q R S first second = (first, second)
 joint (Err e) P Q R S first second = (first, second)
+
+-- what holds of the node's disk, or of the one that is given back, holds of the disk after it
+pub on_disk : {D : Type 0} (result : Result (HeldNode D) (NodeFault × D)) (P : D → Type 0) → MatchResult result (λ node. P (disk_of node)) (λ e. P e.1)
+    → P (disk_after result)
+on_disk (Ok node) P is = is
+on_disk (Err e) P is = is

@@ -17,15 +17,15 @@ pub record NodeState : Type 0 where
 
 -- the same node with another log
 abbrev pub with_log : NodeState → LogState → NodeState
-with_log n log = record { log = log; slots = n.slots; saved = n.saved }
+with_log n log = record n { log = log }
 
 -- the same node with other slots in memory
 abbrev pub with_slots : NodeState → List Slot → NodeState
-with_slots n slots = record { log = n.log; slots = slots; saved = n.saved }
+with_slots n slots = record n { slots = slots }
 
 -- the slots are saved as they are
 abbrev pub saved_node : NodeState → NodeState
-saved_node n = record { log = n.log; slots = map settled n.slots; saved = entries_of n.slots }
+saved_node n = record n { slots = map settled n.slots; saved = entries_of n.slots }
 
 -- a call of the disk failed
 abbrev pub broken_node : NodeState → NodeState

@@ -12,7 +12,7 @@ ghost use Rattle.repl_wal.specs.Making.{IsOpened};
 ghost use Rattle.repl_wal.specs.State.{own_timeline, path_of};
 ghost use Rattle.repl_wal.specs.declared.fault.NodeFault.TheVariants as NodeFault;
 ghost use Rattle.repl_node.specs.Cloning.{IsCopyingNode, LeavesNode};
-ghost use Rattle.repl_node.specs.Holding.{Holds, Remembers};
+ghost use Rattle.repl_node.specs.Holding.{Holds, Remembers, answer_of, disk_after, disk_of};
 ghost use Rattle.repl_node.specs.Making.{SlotsAgree, mounted_node};
 ghost use Rattle.repl_node.specs.State.{NodeState};
 
@@ -36,32 +36,31 @@ impl<D: Disk> Node<D> {
     ) -> Result<Node<D>, (NodeFault, D)>
         // Where all images have heard of the same timelines, and have slots where the disk reads so, the files are known to be the
         // new node's.
-        ensures holds { (n : NodeState) (known : ℕ) → Holds (E.state from.old.wal.store.disk) from.old n → n.log.told ≡ true → n.log.size ≡ VERSION_1_SIZE
+        ensures holds { (n : NodeState) (known : ℕ) → Holds (E.state (disk_of from.old)) from.old n → n.log.told ≡ true → n.log.size ≡ VERSION_1_SIZE
             → IsSome (D.state disk).files → SlotsAgree (D.state disk)
             → ((image : Folder) → (D.state disk).may_leave image → IsKnown image (own_timeline n.log) known)
-            → IfOk result (λ node. Holds (D.state node.wal.store.disk) node (mounted_node VERSION_1_SIZE (copied n.log.kept.durable known) [])) }
+            → IfOk result (λ node. Holds (D.state (disk_of node)) node (mounted_node VERSION_1_SIZE (copied n.log.kept.durable known) [])) }
         ensures none { IfOk result (λ node. IfTold (D.state disk).files (λ folder. folder control_name ≡ None)) }
         ensures exists { IfErr result (λ e. e.0 ≡ NodeFault.Exists → IfTold (D.state disk).files (λ folder. IsSome (folder control_name))) }
         ensures too_long { (n : NodeState) → Remembers from.old n →
             IfErr result (λ e. (have : ℕ) → e.0 ≡ NodeFault.HistoryFull have → IsTooLong (path_of n.log) have) }
         // A crash leaves the control that was there, or the copy, and the slots that were there, or none.
-        ensures moments { (n : NodeState) (known : ℕ) → IsKnownSource (E.state from.old.wal.store.disk) from.old.wal (D.state disk) n.log known → MatchResult result
-            (λ node. LeavesOnly (D.state disk) (D.state node.wal.store.disk) (IsCopyingNode (D.state disk) n.log.size n.log.kept.durable))
-            (λ e. LeavesOnly (D.state disk) (D.state e.1) (IsCopyingNode (D.state disk) n.log.size n.log.kept.durable)) }
+        ensures moments { (n : NodeState) (known : ℕ) → IsKnownSource (E.state (disk_of from.old)) from.old.wal (D.state disk) n.log known
+            → LeavesOnly (D.state disk) (D.state (disk_after result)) (IsCopyingNode (D.state disk) n.log.size n.log.kept.durable) }
         // Each failure of the disk is told, and none is told without one, or without a lack.
-        ensures caused { MatchResult result (λ node. IsOpened (Ok node) (D.state disk) (D.state node.wal.store.disk)) (λ e. IsOpened {A = Node D} (Err e.0) (D.state disk) (D.state e.1)) }
-        ensures rose { (n : NodeState) (known : ℕ) → IsKnownSource (E.state from.old.wal.store.disk) from.old.wal (D.state disk) n.log known
+        ensures caused { IsOpened (answer_of result) (D.state disk) (D.state (disk_after result)) }
+        ensures rose { (n : NodeState) (known : ℕ) → IsKnownSource (E.state (disk_of from.old)) from.old.wal (D.state disk) n.log known
             → IfErr result (λ e. e.0 ≡ NodeFault.DiskFault → Rose (D.state disk).faults (D.state e.1).faults) }
         // The source stays as it was, unless its disk failed.
-        ensures source { (n : NodeState) → Holds (E.state from.old.wal.store.disk) from.old n →
-            LeavesNode result (E.state from.old.wal.store.disk) (E.state from.new.wal.store.disk) from.new n }
+        ensures source { (n : NodeState) → Holds (E.state (disk_of from.old)) from.old n →
+            LeavesNode result (E.state (disk_of from.old)) (E.state (disk_of from.new)) from.new n }
         // Each failure of the source's disk is told, and none is told without one, or without a lack, but where the source is broken.
-        ensures counted { MatchResult result (λ node. Stood (E.state from.old.wal.store.disk).faults (E.state from.new.wal.store.disk).faults × Stood (E.state from.old.wal.store.disk).wants (E.state from.new.wal.store.disk).wants)
-            (λ e. (e.0 ≡ NodeFault.SourceFault) ⊎ Stood (E.state from.old.wal.store.disk).faults (E.state from.new.wal.store.disk).faults) }
+        ensures counted { MatchResult result (λ node. Stood (E.state (disk_of from.old)).faults (E.state (disk_of from.new)).faults × Stood (E.state (disk_of from.old)).wants (E.state (disk_of from.new)).wants)
+            (λ e. (e.0 ≡ NodeFault.SourceFault) ⊎ Stood (E.state (disk_of from.old)).faults (E.state (disk_of from.new)).faults) }
         ensures failed { (n : NodeState) → Remembers from.old n → IfErr result (λ e. e.0 ≡ NodeFault.SourceFault → (n.log.broken ≡ true)
-            ⊎ Rose (E.state from.old.wal.store.disk).faults (E.state from.new.wal.store.disk).faults ⊎ Rose (E.state from.old.wal.store.disk).lacks (E.state from.new.wal.store.disk).lacks) }
-        ensures keeps { MatchResult result (λ node. D.keeps disk node.wal.store.disk) (λ e. D.keeps disk e.1) }
-        ensures source_keeps { E.keeps from.old.wal.store.disk from.new.wal.store.disk }
+            ⊎ Rose (E.state (disk_of from.old)).faults (E.state (disk_of from.new)).faults ⊎ Rose (E.state (disk_of from.old)).lacks (E.state (disk_of from.new)).lacks) }
+        ensures keeps { D.keeps disk (disk_after result) }
+        ensures source_keeps { E.keeps (disk_of from.old) (disk_of from.new) }
     {
         let mut disk = disk;
         match clear(&mut disk) {

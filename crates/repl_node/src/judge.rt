@@ -8,6 +8,7 @@ ghost use Rattle.repl_slots.specs.declared.fault.SlotFault.TheVariants as SlotFa
 ghost use Rattle.repl_store.specs.Backing.{OnlyReads};
 ghost use Rattle.repl_wal.specs.Faults.{of_store};
 ghost use Rattle.repl_wal.specs.declared.fault.NodeFault.TheVariants as NodeFault;
+ghost use Rattle.repl_node.specs.Holding.{disk_beside};
 ghost use Rattle.repl_node.specs.Making.{IsBeforeSlots, IsFirstRefusal, IsJudged, IsOfSlots};
 
 use repl_disk::Disk;
@@ -25,8 +26,8 @@ pub fn mount_slots<D: Disk>(alloc: Global, disk: D) -> Result<(Slots, D), (NodeF
     ensures refused { IfErr result (λ e. IfTold (D.state disk).files (λ folder. IsFirstRefusal VERSION_1_SIZE folder e.0)) }
     ensures answers { IfErr result (λ e. IsOfSlots e.0) }
     ensures caused { MatchResult result (λ r. IsJudged (Ok r) (D.state disk) (D.state r.1)) (λ e. IsJudged {A = Unit {0}} (Err e.0) (D.state disk) (D.state e.1)) }
-    ensures only { MatchResult result (λ r. OnlyReads (D.state disk) (D.state r.1)) (λ e. OnlyReads (D.state disk) (D.state e.1)) }
-    ensures keeps { MatchResult result (λ r. D.keeps disk r.1) (λ e. D.keeps disk e.1) }
+    ensures only { OnlyReads (D.state disk) (D.state (disk_beside result)) }
+    ensures keeps { D.keeps disk (disk_beside result) }
 {
     let mut disk = disk;
     match Slots::mount(alloc, &mut disk) {

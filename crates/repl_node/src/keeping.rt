@@ -1,9 +1,6 @@
 //! How far the log is kept.
-ghost use Rattle.std.specs.Prelude.{◌≡◌, Err};
-ghost use Rattle.repl_node.specs.Holding.{Comes, Holds};
+ghost use Rattle.repl_node.specs.Holding.{Calls, IsIdle, disk_of};
 ghost use Rattle.repl_node.specs.Keeping.{IsTrimmedNode, TrimLeavesNode};
-ghost use Rattle.repl_node.specs.State.{NodeState};
-ghost use Rattle.repl_wal.specs.declared.fault.NodeFault.TheVariants as NodeFault;
 
 use crate::node::Node;
 use repl_disk::Disk;
@@ -15,10 +12,9 @@ impl<D: Disk> Node<D> {
     /// and answers it. What holds a slot's log back is the position that was saved, where it lasts. The files of the segments
     /// below the floor are removed. The floor never falls.
     pub fn trim(&mut self, keep: u64) -> Result<Lsn, NodeFault>
-        ensures steps { (n : NodeState) → Holds (D.state self.old.wal.store.disk) self.old n →
-            Comes result (D.state self.old.wal.store.disk) (D.state self.new.wal.store.disk) self.new n (IsTrimmedNode n keep result) (TrimLeavesNode n keep) }
-        ensures idle { result ≡ Err NodeFault.Broken → self.new.wal.store.disk ≡ self.old.wal.store.disk }
-        ensures keeps { D.keeps self.old.wal.store.disk self.new.wal.store.disk }
+        ensures steps { Calls D.state self.old self.new result (λ n. IsTrimmedNode n keep result) (λ n. TrimLeavesNode n keep) }
+        ensures idle { IsIdle result self.old self.new }
+        ensures keeps { D.keeps (disk_of self.old) (disk_of self.new) }
     {
         self.wal.trim(self.slots.floor_for(), keep)
     }

@@ -1,7 +1,7 @@
 //! The calls that concern the log: they are the log's own, and the slots stay as they were.
 ghost use Rattle.std.specs.Prelude.{◌≡◌, ◌≢◌, Err};
 ghost use Rattle.repl_effects.specs.Counts.{Rose};
-ghost use Rattle.repl_node.specs.Holding.{Comes, Holds, Remembers};
+ghost use Rattle.repl_node.specs.Holding.{Calls, IsIdle, Remembers, SameDisk, disk_of};
 ghost use Rattle.repl_node.specs.State.{LeftOf, NodeState};
 ghost use Rattle.repl_node.specs.Steps.{OfLog};
 ghost use Rattle.repl_wal.specs.Following.{FollowLeaves, Follows};
@@ -24,10 +24,9 @@ impl<D: Disk> Node<D> {
     /// Appends a record after the last one, and answers where it ends. It is certain on the disk from the next `flush` on.
     /// Takes memory for the record's image, once.
     pub fn append(&mut self, alloc: Global, item: &RecordIn) -> Result<Lsn, NodeFault>
-        ensures steps { (n : NodeState) → Holds (D.state self.old.wal.store.disk) self.old n →
-            Comes result (D.state self.old.wal.store.disk) (D.state self.new.wal.store.disk) self.new n (OfLog n (Appends n.log item.now result)) (LeftOf n (Old n.log)) }
-        ensures idle { result ≡ Err NodeFault.Broken → self.new.wal.store.disk ≡ self.old.wal.store.disk }
-        ensures keeps { D.keeps self.old.wal.store.disk self.new.wal.store.disk }
+        ensures steps { Calls D.state self.old self.new result (λ n. OfLog n (Appends n.log item.now result)) (λ n. LeftOf n (Old n.log)) }
+        ensures idle { IsIdle result self.old self.new }
+        ensures keeps { D.keeps (disk_of self.old) (disk_of self.new) }
     {
         self.wal.append(alloc, item)
     }
@@ -41,10 +40,9 @@ impl<D: Disk> Node<D> {
         start: Lsn,
         bytes: &[u8],
     ) -> Result<Lsn, NodeFault>
-        ensures steps { (n : NodeState) → Holds (D.state self.old.wal.store.disk) self.old n →
-            Comes result (D.state self.old.wal.store.disk) (D.state self.new.wal.store.disk) self.new n (OfLog n (Receives n.log tli start bytes.now result)) (LeftOf n (Old n.log)) }
-        ensures idle { result ≡ Err NodeFault.Broken → self.new.wal.store.disk ≡ self.old.wal.store.disk }
-        ensures keeps { D.keeps self.old.wal.store.disk self.new.wal.store.disk }
+        ensures steps { Calls D.state self.old self.new result (λ n. OfLog n (Receives n.log tli start bytes.now result)) (λ n. LeftOf n (Old n.log)) }
+        ensures idle { IsIdle result self.old self.new }
+        ensures keeps { D.keeps (disk_of self.old) (disk_of self.new) }
     {
         self.wal.receive(alloc, tli, start, bytes)
     }
@@ -52,12 +50,11 @@ impl<D: Disk> Node<D> {
     /// Makes all written bytes certain, and answers where they end. Where nothing was written since the last flush it makes
     /// no call of the disk. Takes no memory but the disk's.
     pub fn flush(&mut self) -> Result<Lsn, NodeFault>
-        ensures steps { (n : NodeState) → Holds (D.state self.old.wal.store.disk) self.old n →
-            Comes result (D.state self.old.wal.store.disk) (D.state self.new.wal.store.disk) self.new n (OfLog n (Flushes n.log result)) (LeftOf n (FlushLeaves n.log)) }
-        ensures still { (n : NodeState) → Remembers self.old n → written_end n.log ≡ flushed_end n.log → self.new.wal.store.disk ≡ self.old.wal.store.disk }
-        ensures idle { result ≡ Err NodeFault.Broken → self.new.wal.store.disk ≡ self.old.wal.store.disk }
-        ensures wants { result ≡ Err NodeFault.Memory → Rose (D.state self.old.wal.store.disk).wants (D.state self.new.wal.store.disk).wants }
-        ensures keeps { D.keeps self.old.wal.store.disk self.new.wal.store.disk }
+        ensures steps { Calls D.state self.old self.new result (λ n. OfLog n (Flushes n.log result)) (λ n. LeftOf n (FlushLeaves n.log)) }
+        ensures still { (n : NodeState) → Remembers self.old n → written_end n.log ≡ flushed_end n.log → SameDisk self.old self.new }
+        ensures idle { IsIdle result self.old self.new }
+        ensures wants { result ≡ Err NodeFault.Memory → Rose (D.state (disk_of self.old)).wants (D.state (disk_of self.new)).wants }
+        ensures keeps { D.keeps (disk_of self.old) (disk_of self.new) }
     {
         self.wal.flush()
     }
@@ -65,11 +62,10 @@ impl<D: Disk> Node<D> {
     /// Makes all written bytes certain and a primary into a standby, by one renaming of the control. A standby is refused
     /// (`NotPrimary`). Takes no memory but the disk's.
     pub fn demote(&mut self) -> Result<(), NodeFault>
-        ensures steps { (n : NodeState) → Holds (D.state self.old.wal.store.disk) self.old n →
-            Comes result (D.state self.old.wal.store.disk) (D.state self.new.wal.store.disk) self.new n (OfLog n (Demotes n.log result)) (LeftOf n (DemoteLeaves n.log)) }
-        ensures idle { result ≡ Err NodeFault.Broken → self.new.wal.store.disk ≡ self.old.wal.store.disk }
-        ensures wants { result ≡ Err NodeFault.Memory → Rose (D.state self.old.wal.store.disk).wants (D.state self.new.wal.store.disk).wants }
-        ensures keeps { D.keeps self.old.wal.store.disk self.new.wal.store.disk }
+        ensures steps { Calls D.state self.old self.new result (λ n. OfLog n (Demotes n.log result)) (λ n. LeftOf n (DemoteLeaves n.log)) }
+        ensures idle { IsIdle result self.old self.new }
+        ensures wants { result ≡ Err NodeFault.Memory → Rose (D.state (disk_of self.old)).wants (D.state (disk_of self.new)).wants }
+        ensures keeps { D.keeps (disk_of self.old) (disk_of self.new) }
     {
         self.wal.demote()
     }
@@ -78,10 +74,9 @@ impl<D: Disk> Node<D> {
     /// given one and above every one that was heard of. What is written of a further record goes. Takes memory for the history
     /// and a piece of a segment.
     pub fn promote(&mut self, alloc: Global, at_least: u32) -> Result<(Tli, Lsn), NodeFault>
-        ensures steps { (n : NodeState) → Holds (D.state self.old.wal.store.disk) self.old n →
-            Comes result (D.state self.old.wal.store.disk) (D.state self.new.wal.store.disk) self.new n (OfLog n (Promotes n.log at_least result)) (LeftOf n (PromoteLeaves n.log at_least)) }
-        ensures idle { result ≡ Err NodeFault.Broken → self.new.wal.store.disk ≡ self.old.wal.store.disk }
-        ensures keeps { D.keeps self.old.wal.store.disk self.new.wal.store.disk }
+        ensures steps { Calls D.state self.old self.new result (λ n. OfLog n (Promotes n.log at_least result)) (λ n. LeftOf n (PromoteLeaves n.log at_least)) }
+        ensures idle { IsIdle result self.old self.new }
+        ensures keeps { D.keeps (disk_of self.old) (disk_of self.new) }
     {
         self.wal.promote(alloc, at_least)
     }
@@ -89,10 +84,9 @@ impl<D: Disk> Node<D> {
     /// Goes on with a timeline that another node began where this log's whole records end. What is written or flushed
     /// after that goes. Takes memory for the history and a piece of a segment.
     pub fn follow(&mut self, alloc: Global, child: &History) -> Result<(), NodeFault>
-        ensures steps { (n : NodeState) → Holds (D.state self.old.wal.store.disk) self.old n →
-            Comes result (D.state self.old.wal.store.disk) (D.state self.new.wal.store.disk) self.new n (OfLog n (Follows n.log child.now result)) (LeftOf n (FollowLeaves n.log child.now)) }
-        ensures idle { result ≡ Err NodeFault.Broken → self.new.wal.store.disk ≡ self.old.wal.store.disk }
-        ensures keeps { D.keeps self.old.wal.store.disk self.new.wal.store.disk }
+        ensures steps { Calls D.state self.old self.new result (λ n. OfLog n (Follows n.log child.now result)) (λ n. LeftOf n (FollowLeaves n.log child.now)) }
+        ensures idle { IsIdle result self.old self.new }
+        ensures keeps { D.keeps (disk_of self.old) (disk_of self.new) }
     {
         self.wal.follow(alloc, child)
     }
@@ -107,10 +101,9 @@ impl<D: Disk> Node<D> {
         at: Lsn,
         room: &mut [u8],
     ) -> Result<ReadOut, NodeFault>
-        ensures steps { (n : NodeState) → Holds (D.state self.old.wal.store.disk) self.old n →
-            Comes result (D.state self.old.wal.store.disk) (D.state self.new.wal.store.disk) self.new n (OfLog n (Reads n.log tli at room.old room.new result)) (LeftOf n (Old n.log)) }
-        ensures idle { result ≡ Err NodeFault.Broken → self.new.wal.store.disk ≡ self.old.wal.store.disk }
-        ensures keeps { D.keeps self.old.wal.store.disk self.new.wal.store.disk }
+        ensures steps { Calls D.state self.old self.new result (λ n. OfLog n (Reads n.log tli at room.old room.new result)) (λ n. LeftOf n (Old n.log)) }
+        ensures idle { IsIdle result self.old self.new }
+        ensures keeps { D.keeps (disk_of self.old) (disk_of self.new) }
     {
         self.wal.read(alloc, tli, at, room)
     }

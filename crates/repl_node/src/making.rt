@@ -1,5 +1,5 @@
 //! Making a node.
-ghost use Rattle.std.specs.Prelude.{◌≡◌, ◌⊎◌, ℕ, [], None, Some, IsSome, IfOk, IfErr, Ok, Err, OnOk, MatchResult};
+ghost use Rattle.std.specs.Prelude.{◌≡◌, ◌⊎◌, ℕ, [], None, Some, IsSome, IfOk, IfErr, OnOk};
 ghost use Rattle.repl_control.specs.declared.control.TheConstants.{VERSION_1_SIZE};
 ghost use Rattle.repl_effects.specs.Counts.{Stood};
 ghost use Rattle.repl_disk.specs.Crash.{Elapses, LeavesOnly};
@@ -8,7 +8,7 @@ ghost use Rattle.repl_store.specs.Creating.{fresh};
 ghost use Rattle.repl_store.specs.Durable.{IsKnown, StandsFor, control_name};
 ghost use Rattle.repl_wal.specs.Making.{IsMadeOf, IsUnmade, untold_log};
 ghost use Rattle.repl_wal.specs.declared.fault.NodeFault.TheVariants as NodeFault;
-ghost use Rattle.repl_node.specs.Holding.{Holds, Remembers};
+ghost use Rattle.repl_node.specs.Holding.{Holds, Remembers, answer_of, disk_after, disk_of};
 ghost use Rattle.repl_node.specs.Making.{HasNoSlots, IsBegun, IsCleared, IsClearing, SlotsAgree, mounted_node};
 
 use crate::node::Node;
@@ -33,20 +33,17 @@ impl<D: Disk> Node<D> {
         ensures made { IfOk result (λ node. Remembers node (record { log = untold_log VERSION_1_SIZE (fresh role ident 1); slots = []; saved = [] })) }
         // There was no control, and from here on every image is the new node's.
         ensures images { IfOk result (λ node. IfTold (D.state disk).files (λ folder. (folder control_name ≡ None)
-            × ((image : Folder) → (D.state node.wal.store.disk).may_leave image → (known : ℕ) × StandsFor VERSION_1_SIZE image (fresh role ident known)))) }
+            × ((image : Folder) → (D.state (disk_of node)).may_leave image → (known : ℕ) × StandsFor VERSION_1_SIZE image (fresh role ident known)))) }
         // Where all images have heard of the same timelines, and have slots where the disk reads so, the files are known to be the
         // new node's.
         ensures holds { IfOk result (λ node. (known : ℕ) → IsSome (D.state disk).files → SlotsAgree (D.state disk)
             → ((image : Folder) → (D.state disk).may_leave image → IsKnown image 1 known)
-            → Holds (D.state node.wal.store.disk) node (mounted_node VERSION_1_SIZE (fresh role ident known) [])) }
+            → Holds (D.state (disk_of node)) node (mounted_node VERSION_1_SIZE (fresh role ident known) [])) }
         ensures refused { IfErr result (λ e. IsUnmade (D.state disk).files e.0) }
         // A crash leaves what one before might have left, but for its slots, or the new node.
-        ensures moments { IfTold (D.state disk).files (λ folder. MatchResult result
-            (λ node. LeavesOnly (D.state disk) (D.state node.wal.store.disk) (IsBegun (D.state disk).may_leave role ident))
-            (λ e. LeavesOnly (D.state disk) (D.state e.1) (IsBegun (D.state disk).may_leave role ident))) }
-        ensures caused { MatchResult result (λ node. IsMadeOf (Ok node) (D.state disk) (D.state node.wal.store.disk))
-            (λ e. IsMadeOf {A = Node D} (Err e.0) (D.state disk) (D.state e.1)) }
-        ensures keeps { MatchResult result (λ node. D.keeps disk node.wal.store.disk) (λ e. D.keeps disk e.1) }
+        ensures moments { IfTold (D.state disk).files (λ folder. LeavesOnly (D.state disk) (D.state (disk_after result)) (IsBegun (D.state disk).may_leave role ident)) }
+        ensures caused { IsMadeOf (answer_of result) (D.state disk) (D.state (disk_after result)) }
+        ensures keeps { D.keeps disk (disk_after result) }
     {
         let mut disk = disk;
         match clear(&mut disk) {

@@ -1,5 +1,5 @@
 //! Opening the node that stands on a disk.
-ghost use Rattle.std.specs.Prelude.{◌≡◌, ◌⊎◌, List, false, None, Some, All, Ok, Err, IfOk, IfErr, MatchResult};
+ghost use Rattle.std.specs.Prelude.{◌≡◌, ◌⊎◌, List, false, None, Some, All, IfOk, IfErr};
 ghost use Rattle.repl_control.specs.declared.control.TheConstants.{VERSION_1_SIZE};
 ghost use Rattle.repl_effects.specs.Counts.{Rose};
 ghost use Rattle.repl_disk.specs.Folder.{Folder, IfTold};
@@ -10,7 +10,7 @@ ghost use Rattle.repl_store.specs.Durable.{Durable, StandsFor};
 ghost use Rattle.repl_store.specs.Head.{IsMounted};
 ghost use Rattle.repl_wal.specs.Making.{IsOpened};
 ghost use Rattle.repl_wal.specs.declared.fault.NodeFault.TheVariants as NodeFault;
-ghost use Rattle.repl_node.specs.Holding.{Holds, Remembers};
+ghost use Rattle.repl_node.specs.Holding.{Holds, Remembers, answer_of, disk_after, disk_of};
 ghost use Rattle.repl_node.specs.Making.{IsNodeRefusal, IsOfNodeMount, OnlyOpensNode, mounted_node};
 ghost use Rattle.repl_node.specs.State.{NodeState};
 
@@ -36,21 +36,20 @@ impl<D: Disk> Node<D> {
         // Where a crash leaves nothing else, the files are known to be the node's from here on.
         ensures holds { IfOk result (λ node. (folder : Folder) (d : Durable) → (D.state disk).files ≡ Some folder → StandsFor VERSION_1_SIZE folder d
             → ((image : Folder) → (D.state disk).may_leave image → StandsFor VERSION_1_SIZE image d × Stores (entries_of node.slots.slots) image)
-            → Holds (D.state node.wal.store.disk) node (mounted_node VERSION_1_SIZE d node.slots.slots)) }
+            → Holds (D.state (disk_of node)) node (mounted_node VERSION_1_SIZE d node.slots.slots)) }
         ensures refused { IfErr result (λ e. IfTold (D.state disk).files (λ folder. IsNodeRefusal VERSION_1_SIZE folder (D.state disk).may_leave e.0)) }
         ensures answers { IfErr result (λ e. IsOfNodeMount e.0) }
-        ensures caused { MatchResult result (λ node. IsOpened (Ok node) (D.state disk) (D.state node.wal.store.disk)) (λ e. IsOpened {A = Node D} (Err e.0) (D.state disk) (D.state e.1)) }
+        ensures caused { IsOpened (answer_of result) (D.state disk) (D.state (disk_after result)) }
         // A lack is told only where the files stand for a store and for slots, or are not told.
         ensures lost { IfErr result (λ e. e.0 ≡ NodeFault.DiskFault → Rose (D.state disk).faults (D.state e.1).faults
             ⊎ IfTold (D.state disk).files (λ folder. (d : Durable) × (saved : List Entry) × StandsFor VERSION_1_SIZE folder d × Stores saved folder)) }
         // No file changes, and a crash leaves nothing new.
-        ensures reads { MatchResult result (λ node. OnlyReads (D.state disk) (D.state node.wal.store.disk)) (λ e. OnlyReads (D.state disk) (D.state e.1)) }
+        ensures reads { OnlyReads (D.state disk) (D.state (disk_after result)) }
         // Where a crash leaves nothing else, it leaves that at each moment, and a failure is one that the disk counted.
         ensures only { (folder : Folder) (d : Durable) (saved : List Entry) → (D.state disk).files ≡ Some folder → StandsFor VERSION_1_SIZE folder d
             → ((image : Folder) → (D.state disk).may_leave image → StandsFor VERSION_1_SIZE image d × Stores saved image)
-            → MatchResult result (λ node. OnlyOpensNode (Ok node) (D.state disk) (D.state node.wal.store.disk) VERSION_1_SIZE d saved)
-            (λ e. OnlyOpensNode {A = Node D} (Err e.0) (D.state disk) (D.state e.1) VERSION_1_SIZE d saved) }
-        ensures keeps { MatchResult result (λ node. D.keeps disk node.wal.store.disk) (λ e. D.keeps disk e.1) }
+            → OnlyOpensNode (answer_of result) (D.state disk) (D.state (disk_after result)) VERSION_1_SIZE d saved }
+        ensures keeps { D.keeps disk (disk_after result) }
     {
         match mount_slots(alloc, disk) {
             Ok((slots, disk)) => match Wal::mount(alloc, disk) {

@@ -3,7 +3,7 @@ ghost use Rattle.std.specs.Prelude.{◌≡◌, ◌↔◌, false, true, None, IsT
 ghost use Rattle.repl_slots.specs.Slot.{AreSlots};
 ghost use Rattle.repl_store.specs.Head.{status_of};
 ghost use Rattle.repl_wal.specs.State.{IsLog, identity_in, path_of, status_of_log};
-ghost use Rattle.repl_node.specs.Holding.{Remembers};
+ghost use Rattle.repl_node.specs.Holding.{Remembers, disk_of};
 ghost use Rattle.repl_node.specs.State.{NodeState};
 
 use repl_disk::Disk;
@@ -63,7 +63,7 @@ impl<D: Disk> Node<D> {
 
     /// The disk, as the node leaves it.
     pub fn into_disk(self) -> D
-        ensures { result ≡ self.wal.store.disk }
+        ensures { result ≡ disk_of self }
     {
         self.wal.into_disk()
     }

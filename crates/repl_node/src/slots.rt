@@ -1,12 +1,11 @@
 //! The calls on the slots: they change the list in memory, and `slot_save` makes it certain.
-ghost use Rattle.std.specs.Prelude.{◌≡◌, ◌≢◌, ◌⊎◌, ◌++◌, ◌∷◌, [], map, false, Err, None};
-ghost use Rattle.repl_effects.specs.Counts.{Rose};
+ghost use Rattle.std.specs.Prelude.{◌≡◌, ◌≢◌, ◌++◌, ◌∷◌, [], map, false, Err, None};
 ghost use Rattle.repl_slots.specs.Slot.{CanCreate, CanUse, acquired, confirmed, ended, made, released, without};
 ghost use Rattle.repl_slots.specs.declared.fault.SlotFault.TheVariants as SlotFault;
 ghost use Rattle.repl_wal.specs.Holding.{Remembers as RemembersLog};
 ghost use Rattle.repl_wal.specs.State.{LogState, breaking};
-ghost use Rattle.repl_node.specs.Holding.{Goes, Holds};
-ghost use Rattle.repl_node.specs.State.{NodeState, with_slots};
+ghost use Rattle.repl_node.specs.Holding.{HasCause, SameDisk, Steps, disk_of};
+ghost use Rattle.repl_node.specs.State.{with_slots};
 ghost use Rattle.repl_node.specs.Steps.{OfSlots, SameLeft, SaveLeaves, Saves};
 
 use crate::node::Node;
@@ -29,8 +28,7 @@ impl<D: Disk> Node<D> {
         restart: Option<Lsn>,
     ) -> Result<(), SlotFault>
         ensures answer { CanCreate self.old.slots.slots name.now result }
-        ensures steps { (n : NodeState) → Holds (D.state self.old.wal.store.disk) self.old n →
-            Goes (D.state self.old.wal.store.disk) (D.state self.new.wal.store.disk) self.new n (OfSlots n (n.slots ++ made name.now temporary session restart ∷ []) result) (SameLeft n) }
+        ensures steps { Steps D.state self.old self.new (λ n. OfSlots n (n.slots ++ made name.now temporary session restart ∷ []) result) SameLeft }
         ensures rest { self.new.wal ≡ self.old.wal }
     {
         self.slots.create(alloc, name, temporary, session, restart)
@@ -40,8 +38,7 @@ impl<D: Disk> Node<D> {
     /// temporary one of another session (`InUse`).
     pub fn slot_drop(&mut self, name: &[u8], session: u64) -> Result<(), SlotFault>
         ensures answer { CanUse self.old.slots.slots name.now session result }
-        ensures steps { (n : NodeState) → Holds (D.state self.old.wal.store.disk) self.old n →
-            Goes (D.state self.old.wal.store.disk) (D.state self.new.wal.store.disk) self.new n (OfSlots n (without name.now n.slots) result) (SameLeft n) }
+        ensures steps { Steps D.state self.old self.new (λ n. OfSlots n (without name.now n.slots) result) SameLeft }
         ensures rest { self.new.wal ≡ self.old.wal }
     {
         self.slots.drop_slot(name, session)
@@ -50,8 +47,7 @@ impl<D: Disk> Node<D> {
     /// Makes the session the owner of the slot of this name. Refuses what `slot_drop` does.
     pub fn slot_acquire(&mut self, name: &[u8], session: u64) -> Result<(), SlotFault>
         ensures answer { CanUse self.old.slots.slots name.now session result }
-        ensures steps { (n : NodeState) → Holds (D.state self.old.wal.store.disk) self.old n →
-            Goes (D.state self.old.wal.store.disk) (D.state self.new.wal.store.disk) self.new n (OfSlots n (map (acquired name.now session) n.slots) result) (SameLeft n) }
+        ensures steps { Steps D.state self.old self.new (λ n. OfSlots n (map (acquired name.now session) n.slots) result) SameLeft }
         ensures rest { self.new.wal ≡ self.old.wal }
     {
         self.slots.acquire(name, session)
@@ -59,8 +55,7 @@ impl<D: Disk> Node<D> {
 
     /// Takes from the session each slot that it owns.
     pub fn slot_release(&mut self, session: u64)
-        ensures steps { (n : NodeState) → Holds (D.state self.old.wal.store.disk) self.old n →
-            Goes (D.state self.old.wal.store.disk) (D.state self.new.wal.store.disk) self.new n (λ m. m ≡ with_slots n (map (released session) n.slots)) (SameLeft n) }
+        ensures steps { Steps D.state self.old self.new (λ n m. m ≡ with_slots n (map (released session) n.slots)) SameLeft }
         ensures rest { self.new.wal ≡ self.old.wal }
     {
         self.slots.release(session);
@@ -69,8 +64,7 @@ impl<D: Disk> Node<D> {
     /// Raises the restart position of each slot that the session owns to this one, which a slot without one gets. No
     /// restart position falls, and what was saved stays.
     pub fn slot_confirm(&mut self, session: u64, at: Lsn)
-        ensures steps { (n : NodeState) → Holds (D.state self.old.wal.store.disk) self.old n →
-            Goes (D.state self.old.wal.store.disk) (D.state self.new.wal.store.disk) self.new n (λ m. m ≡ with_slots n (map (confirmed session at) n.slots)) (SameLeft n) }
+        ensures steps { Steps D.state self.old self.new (λ n m. m ≡ with_slots n (map (confirmed session at) n.slots)) SameLeft }
         ensures rest { self.new.wal ≡ self.old.wal }
     {
         self.slots.confirm(session, at);
@@ -78,8 +72,7 @@ impl<D: Disk> Node<D> {
 
     /// Does what a session's end does to slots: takes from it each that it owns, and drops those that it made for itself.
     pub fn slot_end_session(&mut self, session: u64)
-        ensures steps { (n : NodeState) → Holds (D.state self.old.wal.store.disk) self.old n →
-            Goes (D.state self.old.wal.store.disk) (D.state self.new.wal.store.disk) self.new n (λ m. m ≡ with_slots n (ended session n.slots)) (SameLeft n) }
+        ensures steps { Steps D.state self.old self.new (λ n m. m ≡ with_slots n (ended session n.slots)) SameLeft }
         ensures rest { self.new.wal ≡ self.old.wal }
     {
         self.slots.end_session(session);
@@ -89,13 +82,10 @@ impl<D: Disk> Node<D> {
     /// slots that were saved, or these. Takes memory for the file's bytes; where there is none nothing changes. After a failure
     /// of the disk the node is broken.
     pub fn slot_save(&mut self, alloc: Global) -> Result<(), SlotFault>
-        ensures steps { (n : NodeState) → Holds (D.state self.old.wal.store.disk) self.old n →
-            Goes (D.state self.old.wal.store.disk) (D.state self.new.wal.store.disk) self.new n (Saves n result) (SaveLeaves n) }
-        ensures failed { (n : NodeState) → Holds (D.state self.old.wal.store.disk) self.old n → result ≡ Err SlotFault.DiskFault
-            → Rose (D.state self.old.wal.store.disk).faults (D.state self.new.wal.store.disk).faults
-            ⊎ ((n.log.told ≡ false) × Rose (D.state self.old.wal.store.disk).lacks (D.state self.new.wal.store.disk).lacks) }
-        ensures idle { result ≡ Err SlotFault.Broken → self.new.wal.store.disk ≡ self.old.wal.store.disk }
-        ensures keeps { D.keeps self.old.wal.store.disk self.new.wal.store.disk }
+        ensures steps { Steps D.state self.old self.new (λ n. Saves n result) SaveLeaves }
+        ensures failed { HasCause D.state self.old self.new (result ≡ Err SlotFault.DiskFault) }
+        ensures idle { result ≡ Err SlotFault.Broken → SameDisk self.old self.new }
+        ensures keeps { D.keeps (disk_of self.old) (disk_of self.new) }
     {
         if self.wal.is_broken() {
             return Err(SlotFault::Broken);

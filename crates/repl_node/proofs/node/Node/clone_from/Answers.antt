@@ -19,11 +19,11 @@ use Rattle.repl_store.specs.Apart.{StaysApart}
 use Rattle.repl_store.specs.Durable.{Durable}
 use Rattle.repl_wal.proofs.Cloning.{if_err}
 use Rattle.repl_node.specs.Cloning.{IsCopyingNode, LeavesNode}
-use Rattle.repl_node.specs.Holding.{AllStore, HeldNode, Holds, Remembers}
+use Rattle.repl_node.specs.Holding.{AllStore, HeldNode, Holds, Remembers, disk_after}
 use Rattle.repl_node.specs.Making.{IsCleared, IsClearing, mounted_node}
 use Rattle.repl_node.proofs.Begun.{is_some_as, known_on, some_folder, without_slots}
 use Rattle.repl_node.proofs.Copied.{source_left}
-use Rattle.repl_node.proofs.Copying.{copying_cleared, copying_moments, joint, known_past, passed}
+use Rattle.repl_node.proofs.Copying.{copying_cleared, copying_moments, joint, known_past, on_disk, passed}
 use Rattle.repl_node.proofs.node.Node.clone_from.Goals as goal
 
 -- the node of a log that is so, without slots
@@ -102,14 +102,15 @@ returns-clause-moments g c n known is =
     let every : (new : g.row.D.Denot) → Leaves new × Apart new → All new = λ new both. copying_moments old mid folder.0 slots (state new) size d first
     both.0 both.1 in
     let From : HeldNode g.row.E.Denot → Type 0 = λ h. IsKnownSource (g.E.Disk.state h.wal.store.disk) h.wal old n.log known
-    → MatchResult c.without_slots.result (λ node. All node.wal.store.disk) (λ e. All e.1) in
+    → All (disk_after c.without_slots.result) in
     let before : HeldNode g.row.E.Denot = record { wal = c.from.inside.wal; slots = c.from.inside.slots } in
     let here : From before = λ is.
     let copy = c.clone_from.ensures.moments n.log known (known_past old mid folder.0 slots (g.E.Disk.state before.wal.store.disk) before.wal n.log known is) in
-    passed c.clone_from.result c.without_slots.result (λ wal. Leaves wal.store.disk × Apart wal.store.disk) (λ node. All node.wal.store.disk)
+    on_disk c.without_slots.result All (passed c.clone_from.result c.without_slots.result
+    (λ wal. Leaves wal.store.disk × Apart wal.store.disk) (λ node. All node.wal.store.disk)
     (λ e. Leaves e.1 × Apart e.1) (λ e. All e.1) c.without_slots.ensures.made c.without_slots.ensures.refused (λ node. every node.wal.store.disk)
     (λ e. every e.1) (joint c.clone_from.result (λ wal. Leaves wal.store.disk) (λ wal. Apart wal.store.disk) (λ e. Leaves e.1) (λ e. Apart e.1) copy
-    c.clone_from.ensures.apart) in
+    c.clone_from.ensures.apart)) in
     subst From c.from.view_is here is
 
 pub returns-clause-rose : goal.returns-clause-rose
