@@ -38,12 +38,10 @@ pub record IsConnected (h : HubView) (name : List ℕ) (replication : Bool) (num
   pub next : number ≡ h.last + 1
   pub told : State
   pub step : SyncStep h.sync (sync.Connect number name) sync.Done told
-  pub becomes : m ≡ record {
-    node = h.node;
+  pub becomes : m ≡ record h {
     sync = told;
     links = h.links ++ record { number = number; replication = replication } ∷ [];
     last = number;
-    stopped = h.stopped;
   }
 
 abbrev pub IsConnect : HubView → List ℕ → Bool → Result ℕ ConnectFault → HubView → Type 0
@@ -82,13 +80,7 @@ IsFeedback h session value result m = OfSync h (sync.Feedback session value) (do
 pub record IsDisconnected (h : HubView) (session : ℕ) (m : HubView) : Type 0 where
   pub told : State
   pub step : SyncStep h.sync (sync.Disconnect session) sync.Done told
-  pub becomes : m ≡ record {
-    node = with_slots h.node (ended session h.node.slots);
-    sync = told;
-    links = unlinked session h.links;
-    last = h.last;
-    stopped = h.stopped;
-  }
+  pub becomes : m ≡ record h { node = with_slots h.node (ended session h.node.slots); sync = told; links = unlinked session h.links }
 
 abbrev pub IsDisconnect : HubView → ℕ → Result (Unit {0}) SyncFault → HubView → Type 0
 IsDisconnect h session (Ok done) m = IsDisconnected h session m

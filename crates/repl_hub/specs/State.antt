@@ -21,13 +21,13 @@ pub record HubView : Type 0 where
 -- ---- the same hub, but for one part
 
 abbrev pub with_node : HubView → NodeState → HubView
-with_node h node = record { node = node; sync = h.sync; links = h.links; last = h.last; stopped = h.stopped }
+with_node h node = record h { node = node }
 
 abbrev pub with_sync : HubView → State → HubView
-with_sync h sync = record { node = h.node; sync = sync; links = h.links; last = h.last; stopped = h.stopped }
+with_sync h sync = record h { sync = sync }
 
 abbrev pub with_both : HubView → NodeState → State → HubView
-with_both h node sync = record { node = node; sync = sync; links = h.links; last = h.last; stopped = h.stopped }
+with_both h node sync = record h { node = node; sync = sync }
 
 abbrev pub slotted : HubView → List Slot → HubView
 slotted h slots = with_node h (with_slots h.node slots)

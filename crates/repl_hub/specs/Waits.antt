@@ -57,4 +57,4 @@ IsNames h (Err e) = Unit {0}
 pub record IsStop (h m : HubView) : Type 0 where
   pub told : State
   pub step : SyncStep h.sync sync.CancelAll sync.Done told
-  pub becomes : m ≡ record { node = h.node; sync = told; links = h.links; last = h.last; stopped = true }
+  pub becomes : m ≡ record h { sync = told; stopped = true }

@@ -1,6 +1,6 @@
 //! A hub.
 ghost use Rattle.std.specs.Prelude.{◌≡◌, [], false};
-ghost use Rattle.repl_hub.specs.Holding.{Goes, HasFailed, Holds};
+ghost use Rattle.repl_hub.specs.Holding.{HasCause, Steps, disk_of};
 ghost use Rattle.repl_hub.specs.Leaving.{HubLeaves};
 ghost use Rattle.repl_hub.specs.State.{HubView};
 ghost use Rattle.repl_hub.specs.Step.{HubStep, TellsFailure};
@@ -61,7 +61,7 @@ impl<D: Disk> HubState<D> {
 
     /// The disk, as the hub leaves it.
     pub fn into_disk(self) -> D
-        ensures { result ≡ self.node.wal.store.disk }
+        ensures { result ≡ disk_of self }
     {
         self.node.into_disk()
     }
@@ -69,14 +69,12 @@ impl<D: Disk> HubState<D> {
     /// Makes an event. What is replied, and what becomes of the hub, is said event by event. An event of the node's log or of its
     /// slots calls the disk as the node's call of the same name does, and no other event calls it.
     pub fn step(&mut self, event: HubEvent) -> HubReply
-        ensures steps { (h : HubView) → Holds (D.state self.old.node.wal.store.disk) self.old h →
-            Goes (D.state self.old.node.wal.store.disk) (D.state self.new.node.wal.store.disk) self.new h (HubStep h event result) (HubLeaves h event) }
+        ensures steps { Steps D.state self.old self.new (λ h. HubStep h event result) (λ h. HubLeaves h event) }
         // In some state it is so over every disk.
         ensures gives { (h : HubView) × (m : HubView) × HubStep h event result m }
         // A failure is replied only where the disk counted one, or, where its files are not known, a lack.
-        ensures failed { (h : HubView) → Holds (D.state self.old.node.wal.store.disk) self.old h → TellsFailure result
-            → HasFailed h (D.state self.old.node.wal.store.disk) (D.state self.new.node.wal.store.disk) }
-        ensures keeps { D.keeps self.old.node.wal.store.disk self.new.node.wal.store.disk }
+        ensures failed { HasCause D.state self.old self.new (TellsFailure result) }
+        ensures keeps { D.keeps (disk_of self.old) (disk_of self.new) }
     {
         // The node is in some state.
         let _ = &self.node;
@@ -85,11 +83,9 @@ impl<D: Disk> HubState<D> {
 
     /// Makes an event.
     fn make(&mut self, event: HubEvent) -> HubReply
-        ensures steps { (h : HubView) → Holds (D.state self.old.node.wal.store.disk) self.old h →
-            Goes (D.state self.old.node.wal.store.disk) (D.state self.new.node.wal.store.disk) self.new h (HubStep h event result) (HubLeaves h event) }
-        ensures failed { (h : HubView) → Holds (D.state self.old.node.wal.store.disk) self.old h → TellsFailure result
-            → HasFailed h (D.state self.old.node.wal.store.disk) (D.state self.new.node.wal.store.disk) }
-        ensures keeps { D.keeps self.old.node.wal.store.disk self.new.node.wal.store.disk }
+        ensures steps { Steps D.state self.old self.new (λ h. HubStep h event result) (λ h. HubLeaves h event) }
+        ensures failed { HasCause D.state self.old self.new (TellsFailure result) }
+        ensures keeps { D.keeps (disk_of self.old) (disk_of self.new) }
     {
         match event {
             HubEvent::Identify => HubReply::Identify(self.node.identify()),

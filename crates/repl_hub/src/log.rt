@@ -1,8 +1,7 @@
 //! Events that are calls of the node on its log.
 ghost use Rattle.std.specs.Prelude.{◌≡◌, take, Err, MatchResult};
-ghost use Rattle.repl_hub.specs.Holding.{Comes, Holds};
+ghost use Rattle.repl_hub.specs.Holding.{Calls, disk_of};
 ghost use Rattle.repl_hub.specs.Log.{IsAppend, IsCarried, IsDemote, IsFlush, IsFollow, IsHistory, IsPromote, IsRead, IsReceive, IsSharedOf, IsTrim, read_room};
-ghost use Rattle.repl_hub.specs.State.{HubView};
 ghost use Rattle.repl_hub.specs.declared.reply.LogRead.TheVariants as LogRead;
 ghost use Rattle.repl_node.specs.Keeping.{TrimLeavesNode};
 ghost use Rattle.repl_node.specs.State.{LeftOf};
@@ -29,18 +28,16 @@ const _: () = prove!(READ_LIMIT == 131_072);
 impl<D: Disk> HubState<D> {
     /// The text of a timeline's history. Takes memory for it.
     pub(crate) fn history(&mut self, tli: Tli) -> Result<Bytes, NodeFault>
-        ensures steps { (h : HubView) → Holds (D.state self.old.node.wal.store.disk) self.old h →
-            Comes result (D.state self.old.node.wal.store.disk) (D.state self.new.node.wal.store.disk) self.new h (IsHistory h tli result) (SameLeft h.node) }
-        ensures keeps { D.keeps self.old.node.wal.store.disk self.new.node.wal.store.disk }
+        ensures steps { Calls D.state self.old self.new result (λ h. IsHistory h tli result) (λ h. SameLeft h.node) }
+        ensures keeps { D.keeps (disk_of self.old) (disk_of self.new) }
     {
         shared_text(self.node.history(self.alloc, tli))
     }
 
     /// The log's bytes from a position on. Takes memory for them.
     pub(crate) fn read(&mut self, tli: Tli, at: Lsn, most: u64) -> Result<LogRead, NodeFault>
-        ensures steps { (h : HubView) → Holds (D.state self.old.node.wal.store.disk) self.old h →
-            Comes result (D.state self.old.node.wal.store.disk) (D.state self.new.node.wal.store.disk) self.new h (IsRead h tli at most result) (SameLeft h.node) }
-        ensures keeps { D.keeps self.old.node.wal.store.disk self.new.node.wal.store.disk }
+        ensures steps { Calls D.state self.old self.new result (λ h. IsRead h tli at most result) (λ h. SameLeft h.node) }
+        ensures keeps { D.keeps (disk_of self.old) (disk_of self.new) }
     {
         if self.node.is_broken() {
             return Err(NodeFault::Broken);
@@ -58,36 +55,32 @@ impl<D: Disk> HubState<D> {
 
     /// A record is added. Takes memory for its image.
     pub(crate) fn append(&mut self, item: &RecordIn) -> Result<Lsn, NodeFault>
-        ensures steps { (h : HubView) → Holds (D.state self.old.node.wal.store.disk) self.old h →
-            Comes result (D.state self.old.node.wal.store.disk) (D.state self.new.node.wal.store.disk) self.new h (IsAppend h item.now result) (SameLeft h.node) }
-        ensures keeps { D.keeps self.old.node.wal.store.disk self.new.node.wal.store.disk }
+        ensures steps { Calls D.state self.old self.new result (λ h. IsAppend h item.now result) (λ h. SameLeft h.node) }
+        ensures keeps { D.keeps (disk_of self.old) (disk_of self.new) }
     {
         self.node.append(self.alloc, item)
     }
 
     /// All written bytes are made certain.
     pub(crate) fn flush(&mut self) -> Result<Lsn, NodeFault>
-        ensures steps { (h : HubView) → Holds (D.state self.old.node.wal.store.disk) self.old h →
-            Comes result (D.state self.old.node.wal.store.disk) (D.state self.new.node.wal.store.disk) self.new h (IsFlush h result) (LeftOf h.node (FlushLeaves h.node.log)) }
-        ensures keeps { D.keeps self.old.node.wal.store.disk self.new.node.wal.store.disk }
+        ensures steps { Calls D.state self.old self.new result (λ h. IsFlush h result) (λ h. LeftOf h.node (FlushLeaves h.node.log)) }
+        ensures keeps { D.keeps (disk_of self.old) (disk_of self.new) }
     {
         self.node.flush()
     }
 
     /// Bytes of another node's log are added.
     pub(crate) fn receive(&mut self, tli: Tli, start: Lsn, bytes: &[u8]) -> Result<Lsn, NodeFault>
-        ensures steps { (h : HubView) → Holds (D.state self.old.node.wal.store.disk) self.old h →
-            Comes result (D.state self.old.node.wal.store.disk) (D.state self.new.node.wal.store.disk) self.new h (IsReceive h tli start bytes.now result) (SameLeft h.node) }
-        ensures keeps { D.keeps self.old.node.wal.store.disk self.new.node.wal.store.disk }
+        ensures steps { Calls D.state self.old self.new result (λ h. IsReceive h tli start bytes.now result) (λ h. SameLeft h.node) }
+        ensures keeps { D.keeps (disk_of self.old) (disk_of self.new) }
     {
         self.node.receive(self.alloc, tli, start, bytes)
     }
 
     /// The node goes over to a child of its timeline, and then no session streams and no report counts.
     pub(crate) fn follow(&mut self, child: &History) -> Result<(), NodeFault>
-        ensures steps { (h : HubView) → Holds (D.state self.old.node.wal.store.disk) self.old h →
-            Comes result (D.state self.old.node.wal.store.disk) (D.state self.new.node.wal.store.disk) self.new h (IsFollow h child.now result) (LeftOf h.node (FollowLeaves h.node.log child.now)) }
-        ensures keeps { D.keeps self.old.node.wal.store.disk self.new.node.wal.store.disk }
+        ensures steps { Calls D.state self.old self.new result (λ h. IsFollow h child.now result) (λ h. LeftOf h.node (FollowLeaves h.node.log child.now)) }
+        ensures keeps { D.keeps (disk_of self.old) (disk_of self.new) }
     {
         match self.node.follow(self.alloc, child) {
             Ok(()) => {
@@ -100,9 +93,8 @@ impl<D: Disk> HubState<D> {
 
     /// The node becomes a primary on a new timeline, and then no session streams and no report counts.
     pub(crate) fn promote(&mut self, at_least: u32) -> Result<(Tli, Lsn), NodeFault>
-        ensures steps { (h : HubView) → Holds (D.state self.old.node.wal.store.disk) self.old h →
-            Comes result (D.state self.old.node.wal.store.disk) (D.state self.new.node.wal.store.disk) self.new h (IsPromote h at_least result) (LeftOf h.node (PromoteLeaves h.node.log at_least)) }
-        ensures keeps { D.keeps self.old.node.wal.store.disk self.new.node.wal.store.disk }
+        ensures steps { Calls D.state self.old self.new result (λ h. IsPromote h at_least result) (λ h. LeftOf h.node (PromoteLeaves h.node.log at_least)) }
+        ensures keeps { D.keeps (disk_of self.old) (disk_of self.new) }
     {
         match self.node.promote(self.alloc, at_least) {
             Ok(begun) => {
@@ -115,9 +107,8 @@ impl<D: Disk> HubState<D> {
 
     /// The node becomes a standby, and then nobody waits.
     pub(crate) fn demote(&mut self) -> Result<(), NodeFault>
-        ensures steps { (h : HubView) → Holds (D.state self.old.node.wal.store.disk) self.old h →
-            Comes result (D.state self.old.node.wal.store.disk) (D.state self.new.node.wal.store.disk) self.new h (IsDemote h result) (LeftOf h.node (DemoteLeaves h.node.log)) }
-        ensures keeps { D.keeps self.old.node.wal.store.disk self.new.node.wal.store.disk }
+        ensures steps { Calls D.state self.old self.new result (λ h. IsDemote h result) (λ h. LeftOf h.node (DemoteLeaves h.node.log)) }
+        ensures keeps { D.keeps (disk_of self.old) (disk_of self.new) }
     {
         match self.node.demote() {
             Ok(()) => {
@@ -130,9 +121,8 @@ impl<D: Disk> HubState<D> {
 
     /// The floor rises.
     pub(crate) fn trim(&mut self, keep: u64) -> Result<Lsn, NodeFault>
-        ensures steps { (h : HubView) → Holds (D.state self.old.node.wal.store.disk) self.old h →
-            Comes result (D.state self.old.node.wal.store.disk) (D.state self.new.node.wal.store.disk) self.new h (IsTrim h keep result) (TrimLeavesNode h.node keep) }
-        ensures keeps { D.keeps self.old.node.wal.store.disk self.new.node.wal.store.disk }
+        ensures steps { Calls D.state self.old self.new result (λ h. IsTrim h keep result) (λ h. TrimLeavesNode h.node keep) }
+        ensures keeps { D.keeps (disk_of self.old) (disk_of self.new) }
     {
         self.node.trim(keep)
     }

@@ -1,6 +1,6 @@
 //! Events of sessions.
 ghost use Rattle.std.specs.Prelude.{◌≡◌, ◌<◌, ◌≤◌, ◌⊎◌, IsTrue};
-ghost use Rattle.repl_hub.specs.Holding.{Goes, Holds};
+ghost use Rattle.repl_hub.specs.Holding.{Goes, Holds, SameDisk, Steps, disk_of};
 ghost use Rattle.repl_hub.specs.Sessions.{HasRoom, IsConnect, IsDisconnect, IsFeedback, IsReport, IsStopStreaming, IsStreaming, KnowsLink};
 ghost use Rattle.repl_hub.specs.State.{HubView, count_kind, is_linked, limit_of, unlinked};
 ghost use Rattle.repl_hub.specs.declared.link.TheConstants.{LAST_SESSION};
@@ -19,7 +19,7 @@ use repl_text::Text;
 impl<D: Disk> HubState<D> {
     /// What the node is, how many sessions stream, and whether a `Stop` came.
     pub(crate) fn status(&self) -> HubStatus
-        ensures { (h : HubView) → Holds (D.state self.now.node.wal.store.disk) self.now h → result ≡ status_of_hub h }
+        ensures { (h : HubView) → Holds (D.state (disk_of self.now)) self.now h → result ≡ status_of_hub h }
     {
         HubStatus {
             identity: self.node.identify(),
@@ -31,9 +31,8 @@ impl<D: Disk> HubState<D> {
     /// A session begins, and gets the number after the last one. Takes memory for its name, and for the certificates in which
     /// it may stand.
     pub(crate) fn connect(&mut self, name: &Text, replication: bool) -> Result<u64, ConnectFault>
-        ensures steps { (h : HubView) → Holds (D.state self.old.node.wal.store.disk) self.old h →
-            Goes (D.state self.old.node.wal.store.disk) (D.state self.new.node.wal.store.disk) self.new h (IsConnect h name.now replication result) (SameLeft h.node) }
-        ensures disk { self.new.node.wal.store.disk ≡ self.old.node.wal.store.disk }
+        ensures steps { Steps D.state self.old self.new (λ h. IsConnect h name.now replication result) (λ h. SameLeft h.node) }
+        ensures disk { SameDisk self.old self.new }
     {
         if self.stopped {
             return Err(ConnectFault::Stopped);
@@ -48,9 +47,9 @@ impl<D: Disk> HubState<D> {
     /// A session begins, for which there is room.
     fn admit(&mut self, name: &Text, replication: bool) -> Result<u64, ConnectFault>
         requires { self.old.last < LAST_SESSION }
-        ensures steps { (h : HubView) → Holds (D.state self.old.node.wal.store.disk) self.old h → HasRoom h replication →
-            Goes (D.state self.old.node.wal.store.disk) (D.state self.new.node.wal.store.disk) self.new h (IsConnect h name.now replication result) (SameLeft h.node) }
-        ensures disk { self.new.node.wal.store.disk ≡ self.old.node.wal.store.disk }
+        ensures steps { (h : HubView) → Holds (D.state (disk_of self.old)) self.old h → HasRoom h replication →
+            Goes (D.state (disk_of self.old)) (D.state (disk_of self.new)) self.new h (IsConnect h name.now replication result) (SameLeft h.node) }
+        ensures disk { SameDisk self.old self.new }
     {
         let number = self.last + 1;
         match self.links.reserve(1) {
@@ -72,9 +71,8 @@ impl<D: Disk> HubState<D> {
 
     /// The session begins to stream a timeline. Where that is an older one, it counts for no commit.
     pub(crate) fn streaming(&mut self, session: u64, tli: Tli) -> Result<(), SyncFault>
-        ensures steps { (h : HubView) → Holds (D.state self.old.node.wal.store.disk) self.old h →
-            Goes (D.state self.old.node.wal.store.disk) (D.state self.new.node.wal.store.disk) self.new h (IsStreaming h session tli result) (SameLeft h.node) }
-        ensures disk { self.new.node.wal.store.disk ≡ self.old.node.wal.store.disk }
+        ensures steps { Steps D.state self.old self.new (λ h. IsStreaming h session tli result) (λ h. SameLeft h.node) }
+        ensures disk { SameDisk self.old self.new }
     {
         if self.node.identify().tli == tli {
             self.sync.streaming(session)
@@ -85,9 +83,8 @@ impl<D: Disk> HubState<D> {
 
     /// The session streams no more.
     pub(crate) fn stop_streaming(&mut self, session: u64) -> Result<(), SyncFault>
-        ensures steps { (h : HubView) → Holds (D.state self.old.node.wal.store.disk) self.old h →
-            Goes (D.state self.old.node.wal.store.disk) (D.state self.new.node.wal.store.disk) self.new h (IsStopStreaming h session result) (SameLeft h.node) }
-        ensures disk { self.new.node.wal.store.disk ≡ self.old.node.wal.store.disk }
+        ensures steps { Steps D.state self.old self.new (λ h. IsStopStreaming h session result) (λ h. SameLeft h.node) }
+        ensures disk { SameDisk self.old self.new }
     {
         self.sync.stop_streaming(session)
     }
@@ -100,9 +97,8 @@ impl<D: Disk> HubState<D> {
         flushed: Lsn,
         applied: Lsn,
     ) -> Result<(), SyncFault>
-        ensures steps { (h : HubView) → Holds (D.state self.old.node.wal.store.disk) self.old h →
-            Goes (D.state self.old.node.wal.store.disk) (D.state self.new.node.wal.store.disk) self.new h (IsReport h session written flushed applied result) (SameLeft h.node) }
-        ensures disk { self.new.node.wal.store.disk ≡ self.old.node.wal.store.disk }
+        ensures steps { Steps D.state self.old self.new (λ h. IsReport h session written flushed applied result) (λ h. SameLeft h.node) }
+        ensures disk { SameDisk self.old self.new }
     {
         let end = self.node.identify().flushed;
         self.sync.report(
@@ -115,18 +111,16 @@ impl<D: Disk> HubState<D> {
 
     /// The session's standby tells its oldest transactions.
     pub(crate) fn feedback(&mut self, session: u64, value: FeedbackValue) -> Result<(), SyncFault>
-        ensures steps { (h : HubView) → Holds (D.state self.old.node.wal.store.disk) self.old h →
-            Goes (D.state self.old.node.wal.store.disk) (D.state self.new.node.wal.store.disk) self.new h (IsFeedback h session value result) (SameLeft h.node) }
-        ensures disk { self.new.node.wal.store.disk ≡ self.old.node.wal.store.disk }
+        ensures steps { Steps D.state self.old self.new (λ h. IsFeedback h session value result) (λ h. SameLeft h.node) }
+        ensures disk { SameDisk self.old self.new }
     {
         self.sync.feedback(session, value)
     }
 
     /// The session ends: its slots are nobody's, and its temporary ones go.
     pub(crate) fn disconnect(&mut self, session: u64) -> Result<(), SyncFault>
-        ensures steps { (h : HubView) → Holds (D.state self.old.node.wal.store.disk) self.old h →
-            Goes (D.state self.old.node.wal.store.disk) (D.state self.new.node.wal.store.disk) self.new h (IsDisconnect h session result) (SameLeft h.node) }
-        ensures disk { self.new.node.wal.store.disk ≡ self.old.node.wal.store.disk }
+        ensures steps { Steps D.state self.old self.new (λ h. IsDisconnect h session result) (λ h. SameLeft h.node) }
+        ensures disk { SameDisk self.old self.new }
     {
         match self.sync.disconnect(session) {
             Ok(()) => {

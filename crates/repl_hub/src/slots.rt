@@ -1,6 +1,6 @@
 //! Events that are calls of the node on its slots.
 ghost use Rattle.std.specs.Prelude.{◌≡◌, None, Some, Err, MatchOption, min, if◌then◌else◌};
-ghost use Rattle.repl_hub.specs.Holding.{Goes, HasFailed, Holds};
+ghost use Rattle.repl_hub.specs.Holding.{HasCause, Holds, SameDisk, Steps, disk_of};
 ghost use Rattle.repl_hub.specs.Slots.{IsSlotAcquire, IsSlotConfirm, IsSlotCreate, IsSlotDrop, IsSlotRelease, IsSlotSave, place_of, slot_place};
 ghost use Rattle.repl_hub.specs.State.{HubView};
 ghost use Rattle.repl_node.specs.Steps.{SameLeft, SaveLeaves};
@@ -23,9 +23,8 @@ impl<D: Disk> HubState<D> {
         temporary: bool,
         reserve: bool,
     ) -> Result<(), SlotFault>
-        ensures steps { (h : HubView) → Holds (D.state self.old.node.wal.store.disk) self.old h →
-            Goes (D.state self.old.node.wal.store.disk) (D.state self.new.node.wal.store.disk) self.new h (IsSlotCreate h session name.now temporary reserve result) (SameLeft h.node) }
-        ensures disk { self.new.node.wal.store.disk ≡ self.old.node.wal.store.disk }
+        ensures steps { Steps D.state self.old self.new (λ h. IsSlotCreate h session name.now temporary reserve result) (λ h. SameLeft h.node) }
+        ensures disk { SameDisk self.old self.new }
     {
         let restart = reserved(reserve, self.node.identify().flushed);
         self.node
@@ -34,16 +33,15 @@ impl<D: Disk> HubState<D> {
 
     /// The slot goes.
     pub(crate) fn slot_drop(&mut self, session: u64, name: &Text) -> Result<(), SlotFault>
-        ensures steps { (h : HubView) → Holds (D.state self.old.node.wal.store.disk) self.old h →
-            Goes (D.state self.old.node.wal.store.disk) (D.state self.new.node.wal.store.disk) self.new h (IsSlotDrop h session name.now result) (SameLeft h.node) }
-        ensures disk { self.new.node.wal.store.disk ≡ self.old.node.wal.store.disk }
+        ensures steps { Steps D.state self.old self.new (λ h. IsSlotDrop h session name.now result) (λ h. SameLeft h.node) }
+        ensures disk { SameDisk self.old self.new }
     {
         self.node.slot_drop(name.as_slice(), session)
     }
 
     /// Where the slot with this name begins.
     pub(crate) fn slot_read(&self, name: &Text) -> SlotPlace
-        ensures { (h : HubView) → Holds (D.state self.now.node.wal.store.disk) self.now h → result ≡ slot_place h name.now }
+        ensures { (h : HubView) → Holds (D.state (disk_of self.now)) self.now h → result ≡ slot_place h name.now }
     {
         match find(self.node.slots(), name.as_slice()) {
             None => SlotPlace::NoSlot,
@@ -53,27 +51,24 @@ impl<D: Disk> HubState<D> {
 
     /// The session owns the slot.
     pub(crate) fn slot_acquire(&mut self, session: u64, name: &Text) -> Result<(), SlotFault>
-        ensures steps { (h : HubView) → Holds (D.state self.old.node.wal.store.disk) self.old h →
-            Goes (D.state self.old.node.wal.store.disk) (D.state self.new.node.wal.store.disk) self.new h (IsSlotAcquire h session name.now result) (SameLeft h.node) }
-        ensures disk { self.new.node.wal.store.disk ≡ self.old.node.wal.store.disk }
+        ensures steps { Steps D.state self.old self.new (λ h. IsSlotAcquire h session name.now result) (λ h. SameLeft h.node) }
+        ensures disk { SameDisk self.old self.new }
     {
         self.node.slot_acquire(name.as_slice(), session)
     }
 
     /// The session owns no slot.
     pub(crate) fn slot_release(&mut self, session: u64)
-        ensures steps { (h : HubView) → Holds (D.state self.old.node.wal.store.disk) self.old h →
-            Goes (D.state self.old.node.wal.store.disk) (D.state self.new.node.wal.store.disk) self.new h (IsSlotRelease h session) (SameLeft h.node) }
-        ensures disk { self.new.node.wal.store.disk ≡ self.old.node.wal.store.disk }
+        ensures steps { Steps D.state self.old self.new (λ h. IsSlotRelease h session) (λ h. SameLeft h.node) }
+        ensures disk { SameDisk self.old self.new }
     {
         self.node.slot_release(session);
     }
 
     /// The session's slots hold nothing back before a position, which counts up to the flushed end.
     pub(crate) fn slot_confirm(&mut self, session: u64, at: Lsn)
-        ensures steps { (h : HubView) → Holds (D.state self.old.node.wal.store.disk) self.old h →
-            Goes (D.state self.old.node.wal.store.disk) (D.state self.new.node.wal.store.disk) self.new h (IsSlotConfirm h session at) (SameLeft h.node) }
-        ensures disk { self.new.node.wal.store.disk ≡ self.old.node.wal.store.disk }
+        ensures steps { Steps D.state self.old self.new (λ h. IsSlotConfirm h session at) (λ h. SameLeft h.node) }
+        ensures disk { SameDisk self.old self.new }
     {
         let flushed = self.node.identify().flushed;
         self.node.slot_confirm(session, lesser(at, flushed));
@@ -81,11 +76,9 @@ impl<D: Disk> HubState<D> {
 
     /// The slots are made certain. Takes memory for their file.
     pub(crate) fn slot_save(&mut self) -> Result<(), SlotFault>
-        ensures steps { (h : HubView) → Holds (D.state self.old.node.wal.store.disk) self.old h →
-            Goes (D.state self.old.node.wal.store.disk) (D.state self.new.node.wal.store.disk) self.new h (IsSlotSave h result) (SaveLeaves h.node) }
-        ensures failed { (h : HubView) → Holds (D.state self.old.node.wal.store.disk) self.old h → result ≡ Err SlotFault.DiskFault
-            → HasFailed h (D.state self.old.node.wal.store.disk) (D.state self.new.node.wal.store.disk) }
-        ensures keeps { D.keeps self.old.node.wal.store.disk self.new.node.wal.store.disk }
+        ensures steps { Steps D.state self.old self.new (λ h. IsSlotSave h result) (λ h. SaveLeaves h.node) }
+        ensures failed { HasCause D.state self.old self.new (result ≡ Err SlotFault.DiskFault) }
+        ensures keeps { D.keeps (disk_of self.old) (disk_of self.new) }
     {
         self.node.slot_save(self.alloc)
     }

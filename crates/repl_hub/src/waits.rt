@@ -1,7 +1,7 @@
 //! Events of commits that wait for standbys.
 ghost use Rattle.std.specs.Prelude.{◌≡◌, ◌⊎◌, true, false, IsTrue, Ok, Err, OnOk, OnErr};
 ghost use Rattle.repl_control.specs.declared.control.Role.TheVariants as Role;
-ghost use Rattle.repl_hub.specs.Holding.{Goes, Holds};
+ghost use Rattle.repl_hub.specs.Holding.{Holds, SameDisk, Steps, disk_of};
 ghost use Rattle.repl_hub.specs.State.{HubView};
 ghost use Rattle.repl_hub.specs.Waits.{IsCancel, IsLook, IsNames, IsPrepare, IsSetNames, IsStop, IsWait};
 ghost use Rattle.repl_hub.specs.declared.reply.WaitFault.TheVariants as WaitFault;
@@ -20,18 +20,16 @@ use std::alloc::AllocError;
 impl<D: Disk> HubState<D> {
     /// A ticket for a commit. Takes memory for it and for its certificate.
     pub(crate) fn prepare(&mut self) -> Result<u64, SyncFault>
-        ensures steps { (h : HubView) → Holds (D.state self.old.node.wal.store.disk) self.old h →
-            Goes (D.state self.old.node.wal.store.disk) (D.state self.new.node.wal.store.disk) self.new h (IsPrepare h result) (SameLeft h.node) }
-        ensures disk { self.new.node.wal.store.disk ≡ self.old.node.wal.store.disk }
+        ensures steps { Steps D.state self.old self.new (λ h. IsPrepare h result) (λ h. SameLeft h.node) }
+        ensures disk { SameDisk self.old self.new }
     {
         self.sync.prepare(self.alloc)
     }
 
     /// The ticket's commit waits for standbys. On a standby, and where a `Stop` came, the wait is cancelled as it begins.
     pub(crate) fn wait(&mut self, ticket: u64, end: Lsn, mode: Mode) -> Result<(), WaitFault>
-        ensures steps { (h : HubView) → Holds (D.state self.old.node.wal.store.disk) self.old h →
-            Goes (D.state self.old.node.wal.store.disk) (D.state self.new.node.wal.store.disk) self.new h (IsWait h ticket end mode result) (SameLeft h.node) }
-        ensures disk { self.new.node.wal.store.disk ≡ self.old.node.wal.store.disk }
+        ensures steps { Steps D.state self.old self.new (λ h. IsWait h ticket end mode result) (λ h. SameLeft h.node) }
+        ensures disk { SameDisk self.old self.new }
     {
         if !self.sync.is_prepared(ticket) {
             return Err(WaitFault::Unknown);
@@ -50,43 +48,39 @@ impl<D: Disk> HubState<D> {
 
     /// What has become of the ticket's commit.
     pub(crate) fn look(&mut self, ticket: u64) -> Look
-        ensures steps { (h : HubView) → Holds (D.state self.old.node.wal.store.disk) self.old h →
-            Goes (D.state self.old.node.wal.store.disk) (D.state self.new.node.wal.store.disk) self.new h (IsLook h ticket result) (SameLeft h.node) }
-        ensures disk { self.new.node.wal.store.disk ≡ self.old.node.wal.store.disk }
+        ensures steps { Steps D.state self.old self.new (λ h. IsLook h ticket result) (λ h. SameLeft h.node) }
+        ensures disk { SameDisk self.old self.new }
     {
         self.sync.look(ticket)
     }
 
     /// The ticket's commit waits no more.
     pub(crate) fn cancel(&mut self, ticket: u64) -> Result<(), SyncFault>
-        ensures steps { (h : HubView) → Holds (D.state self.old.node.wal.store.disk) self.old h →
-            Goes (D.state self.old.node.wal.store.disk) (D.state self.new.node.wal.store.disk) self.new h (IsCancel h ticket result) (SameLeft h.node) }
-        ensures disk { self.new.node.wal.store.disk ≡ self.old.node.wal.store.disk }
+        ensures steps { Steps D.state self.old self.new (λ h. IsCancel h ticket result) (λ h. SameLeft h.node) }
+        ensures disk { SameDisk self.old self.new }
     {
         self.sync.cancel(ticket)
     }
 
     /// This list is in force from here on. Takes memory for it, and for certificates.
     pub(crate) fn set_names(&mut self, list: &StandbyList) -> Result<(), AllocError>
-        ensures steps { (h : HubView) → Holds (D.state self.old.node.wal.store.disk) self.old h →
-            Goes (D.state self.old.node.wal.store.disk) (D.state self.new.node.wal.store.disk) self.new h (IsSetNames h list.now result) (SameLeft h.node) }
-        ensures disk { self.new.node.wal.store.disk ≡ self.old.node.wal.store.disk }
+        ensures steps { Steps D.state self.old self.new (λ h. IsSetNames h list.now result) (λ h. SameLeft h.node) }
+        ensures disk { SameDisk self.old self.new }
     {
         self.sync.set_names(self.alloc, list)
     }
 
     /// The list in force. Takes memory for the copy.
     pub(crate) fn names(&self) -> Result<StandbyList, AllocError>
-        ensures { (h : HubView) → Holds (D.state self.now.node.wal.store.disk) self.now h → IsNames h result }
+        ensures { (h : HubView) → Holds (D.state (disk_of self.now)) self.now h → IsNames h result }
     {
         self.sync.names().copy(self.alloc)
     }
 
     /// No session begins from here on, and no commit waits.
     pub(crate) fn stop(&mut self)
-        ensures steps { (h : HubView) → Holds (D.state self.old.node.wal.store.disk) self.old h →
-            Goes (D.state self.old.node.wal.store.disk) (D.state self.new.node.wal.store.disk) self.new h (IsStop h) (SameLeft h.node) }
-        ensures disk { self.new.node.wal.store.disk ≡ self.old.node.wal.store.disk }
+        ensures steps { Steps D.state self.old self.new IsStop (λ h. SameLeft h.node) }
+        ensures disk { SameDisk self.old self.new }
     {
         self.sync.cancel_all();
         self.stopped = true;
