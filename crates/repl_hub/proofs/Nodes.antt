@@ -39,8 +39,8 @@ untold_runs head w n runs = record {
   primary = runs.primary;
 }
 
-untold_log : {D : Type 0} (held : HeldLog D) (n : NodeState) → RemembersLog held n.log → RemembersLog held (untold n).log
-untold_log held n (inl runs) = inl (runs.0, runs.1, runs.2, untold_runs held.store.head held.walker n runs.3)
+untold_log : {D : Type 0} (held : HeldLog D) (n : NodeState) → RemembersLog held.log n.log → RemembersLog held.log (untold n).log
+untold_log held n (inl runs) = inl (runs.0, runs.1, runs.2, untold_runs held.log.head held.log.walker n runs.3)
 untold_log held n (inr stopped) = inr (stopped.0, stopped.1, stopped.2)
 
 -- who remembers a state is in it over every disk, where nothing is said of the disk

@@ -27,7 +27,7 @@ log_of n log P (inr (is, was, because)) = (ap (λ (l : LogState). l.told) is, λ
 pub source_left : {A B D E : Type 0} (first : Result A (NodeFault × D)) (result : Result B (NodeFault × D)) (old new : DiskState)
     (before after : HeldNode E) (n : NodeState)
     → (IfErr first (λ e. e.0 ≡ fault.SourceFault) → IfErr result (λ e. e.0 ≡ fault.SourceFault)) → Holds old before n → StaysApart old new
-    → after.slots ≡ before.slots → LeavesSource first old new after.wal n.log → LeavesNode result old new after n
+    → after.slots ≡ before.slots → LeavesSource first old new after.wal.log n.log → LeavesNode result old new after n
 source_left first result old new before after n because holds apart same source =
     let keeps = log_of n source.next (IfErr first (λ e. e.0 ≡ fault.SourceFault)) source.is in
     record {

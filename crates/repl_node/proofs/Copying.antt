@@ -1,5 +1,5 @@
 -- What a copy leaves of its disk, from which the slots go first.
-use Rattle.std.proofs.Common.{◌≡◌, ℕ, [], false, Result, Ok, Err, IfOk, IfErr, MatchResult, inl, inr, ⊎_elim, refl, ◌∙◌, subst}
+use Rattle.std.proofs.Common.{◌≡◌, ℕ, [], false, Result, Ok, Err, IfOk, IfErr, inl, inr, ⊎_elim, refl, ap, ◌∙◌}
 use Rattle.repl_clone.specs.Copied.{IsCopying}
 use Rattle.repl_disk.specs.Crash.{LeavesOnly}
 use Rattle.repl_disk.specs.Folder.{Folder}
@@ -9,11 +9,11 @@ use Rattle.repl_slots.specs.Stored.{slots_name}
 use Rattle.repl_store.specs.Apart.{IsLikeOne, StaysApart}
 use Rattle.repl_store.specs.Durable.{Durable, control_name}
 use Rattle.repl_wal.specs.Cloning.{IsKnownSource}
-use Rattle.repl_wal.specs.Holding.{HeldLog}
+use Rattle.repl_wal.specs.Holding.{HeldLog, disk_after as log_disk_after}
 use Rattle.repl_wal.specs.State.{LogState, own_timeline}
 use Rattle.repl_wal.specs.declared.fault.NodeFault.{NodeFault}
 use Rattle.repl_node.specs.Cloning.{IsCopyingNode}
-use Rattle.repl_node.specs.Holding.{HeldNode, disk_after, disk_of}
+use Rattle.repl_node.specs.Holding.{HeldNode, disk_after}
 use Rattle.repl_node.specs.Making.{HasNoSlots, IsClearing}
 use Rattle.repl_node.proofs.Begun.{is_some_as, known_on}
 use Rattle.repl_node.proofs.Passing.{both, told}
@@ -55,8 +55,8 @@ module _ (old mid : DiskState) (folder : Folder) (slots : HasNoSlots old mid fol
       (copying_copied size d))
 
   -- the log's source is known to it as to the node
-  pub known_past : {E : Type 0} (source : DiskState) (held : HeldLog E) (n : LogState) (known : ℕ) → IsKnownSource source held old n known
-      → IsKnownSource source held mid n known
+  pub known_past : {E : Type 0} (source : DiskState) (held : HeldLog E) (n : LogState) (known : ℕ) → IsKnownSource source held.log old n known
+      → IsKnownSource source held.log mid n known
   known_past source held n known is = record {
     holds = is.holds;
     told = is.told;
@@ -67,28 +67,9 @@ module _ (old mid : DiskState) (folder : Folder) (slots : HasNoSlots old mid fol
 
 -- ---- the log's answer, and the node's
 
--- what the log's says
-pub passed : {D : Type 0} (log : Result (HeldLog D) (NodeFault × D)) (result : Result (HeldNode D) (NodeFault × D)) (P : HeldLog D → Type 0)
-    (Q : HeldNode D → Type 0) (R S : NodeFault × D → Type 0)
+-- the disk after the node's call is the one after the log's
+pub same_disk : {D : Type 0} (log : Result (HeldLog D) (NodeFault × D)) (result : Result (HeldNode D) (NodeFault × D))
     → IfOk result (λ node. (log ≡ Ok node.wal) × (node.slots ≡ record { slots = []; broken = false })) → IfErr result (λ e. log ≡ Err e)
-    → ((node : HeldNode D) → P node.wal → Q node) → ((e : NodeFault × D) → R e → S e) → MatchResult log P R → MatchResult result Q S
-passed {D} log (Ok node) P Q R S made refused leads fails has =
-    let At : Result (HeldLog D) (NodeFault × D) → Type 0 = λ r. MatchResult r P R in
-    let here : At (Ok node.wal) = subst At made.0 has in
-    leads node here
-passed {D} log (Err e) P Q R S made refused leads fails has =
-    let At : Result (HeldLog D) (NodeFault × D) → Type 0 = λ r. MatchResult r P R in
-    let here : At (Err e) = subst At refused has in
-    fails e here
-
--- what two of its clauses say
-pub joint : {A E : Type 0} (result : Result A E) (P Q : A → Type 0) (R S : E → Type 0) → MatchResult result P R → MatchResult result Q S
-    → MatchResult result (λ x. P x × Q x) (λ e. R e × S e)
-joint (Ok x) P Q R S first second = (first, second)
-joint (Err e) P Q R S first second = (first, second)
-
--- what holds of the node's disk, or of the one that is given back, holds of the disk after it
-pub on_disk : {D : Type 0} (result : Result (HeldNode D) (NodeFault × D)) (P : D → Type 0) → MatchResult result (λ node. P (disk_of node)) (λ e. P e.1)
-    → P (disk_after result)
-on_disk (Ok node) P is = is
-on_disk (Err e) P is = is
+    → log_disk_after log ≡ disk_after result
+same_disk log (Ok node) made refused = ap log_disk_after made.0
+same_disk log (Err e) made refused = ap log_disk_after refused

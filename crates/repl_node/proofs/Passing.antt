@@ -40,7 +40,7 @@ pub told : {A : Type 0} (disk : DiskState) (folder : Folder) → disk.files ≡ 
 told {A} disk folder is here = subst (λ files. IfTold files (λ f. A)) is here
 
 -- segments in memory have the size of the log's
-pub size_of : {D : Type 0} (held : HeldLog D) (n : LogState) → n.broken ≡ false → RemembersLog held n → held.store.head.size ≡ n.size
+pub size_of : {D : Type 0} (held : HeldLog D) (n : LogState) → n.broken ≡ false → RemembersLog held.log n → held.log.head.size ≡ n.size
 size_of held n sound (inl runs) = runs.3.size
 size_of held n sound (inr stopped) = let no : false ≡ true = sym sound ∙ stopped.1 in absurd cc
 
@@ -65,7 +65,7 @@ tamed n m (partly is sound) when some = let keeps = some m is in (keeps.0, λ ye
 
 pub of_log : {A D : Type 0} (result : Result A NodeFault) (old new : DiskState) (before after : HeldNode D) (n : NodeState)
     (Next : LogState → Type 0) (column : Durable → Type 0) → Tame n Next → Holds old before n → StaysApart old new
-    → after.slots ≡ before.slots → LogComes result old new after.wal n.log Next column
+    → after.slots ≡ before.slots → LogComes result old new after.wal.log n.log Next column
     → Comes result old new after n (OfLog n Next) (LeftOf n column)
 of_log result old new before after n Next column tame holds apart same comes =
     let log = comes.next in

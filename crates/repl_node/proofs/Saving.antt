@@ -71,12 +71,12 @@ module _ {D : Type 0} (old new : DiskState) (before : HeldNode D) (disk : D) (n 
   moments_of : n.log.told ≡ true → n.log.broken ≡ false → LeavesSome old new n.log.size (SaveLeaves n)
   moments_of tells sound =
       let backs = holds.log.backs tells sound in
-      let size : before.wal.store.head.size ≡ n.log.size = size_of before.wal n.log sound holds.log.remembers in
+      let size : before.wal.log.head.size ≡ n.log.size = size_of before.wal n.log sound holds.log.remembers in
       let entries : entries_of before.slots.slots ≡ entries_of n.slots = ap entries_of holds.slots in
       let through = told_so old.files backs.folder (λ folder. StoresThrough old new (entries_of before.slots.slots)) backs.told stored n.saved
       (holds.stored tells sound) in
       let log : LeavesOne old new n.log.size (Before n.log.kept) = subst (λ (k : ℕ). LeavesOne old new k (Before n.log.kept)) size
-      (moments_apart old new before.wal.store.head n.log.kept only backs) in
+      (moments_apart old new before.wal.log.head n.log.kept only backs) in
       weakened old new
       (λ image. ((d : Durable) × Before n.log.kept d × StandsFor n.log.size image d) × (Stores n.saved image ⊎ Stores (entries_of before.slots.slots) image))
       (λ image. (d : Durable) × (saved : List Entry) × SaveLeaves n d saved × StandsFor n.log.size image d × Stores saved image)
@@ -88,10 +88,10 @@ module _ {D : Type 0} (old new : DiskState) (before : HeldNode D) (disk : D) (n 
       ])
 
   -- the log goes on over the disk as it is now
-  log_on : HoldsLog new (with_disk before.wal disk) n.log
+  log_on : HoldsLog new (with_disk before.wal disk).log n.log
   log_on = record {
     remembers = holds.log.remembers;
-    backs = λ yes sound. backs_on_apart old new before.wal.store.head n.log.kept only (holds.log.backs yes sound);
+    backs = λ yes sound. backs_on_apart old new before.wal.log.head n.log.kept only (holds.log.backs yes sound);
   }
 
   pub saved_goes : n.log.broken ≡ false → (after : SlotList) → after ≡ having before.slots (map settled before.slots.slots)
@@ -131,7 +131,7 @@ module _ {D : Type 0} (old new : DiskState) (before : HeldNode D) (disk : D) (n 
     moments = moments_of;
   }
 
-  pub failed_goes : n.log.broken ≡ false → (wal : HeldLog D) → RemembersLog wal (breaking n.log) → (after : SlotList)
+  pub failed_goes : n.log.broken ≡ false → (wal : HeldLog D) → RemembersLog wal.log (breaking n.log) → (after : SlotList)
       → after ≡ record { slots = before.slots.slots; broken = true }
       → Goes {D = D} old new (record { wal = wal; slots = after }) n (Saves {A = Unit {0}} n (Err fault.DiskFault)) (SaveLeaves n)
   failed_goes sound wal remembers after is = record {
@@ -146,7 +146,7 @@ module _ {D : Type 0} (old new : DiskState) (before : HeldNode D) (disk : D) (n 
     moments = moments_of;
   }
 
-  pub refused_goes : n.log.broken ≡ false → (f : SlotFault) (wal : HeldLog D) → (f ≡ fault.DiskFault → RemembersLog wal (breaking n.log))
+  pub refused_goes : n.log.broken ≡ false → (f : SlotFault) (wal : HeldLog D) → (f ≡ fault.DiskFault → RemembersLog wal.log (breaking n.log))
       → (f ≢ fault.DiskFault → wal ≡ with_disk before.wal disk) → (after : SlotList) → Saved {A = Unit {0}} before.slots after (Err f)
       → (f ≡ fault.Memory → IfTold old.files (λ folder. IsUntouched old new aside_name))
       → Goes {D = D} old new (record { wal = wal; slots = after }) n (Saves {A = Unit {0}} n (Err f)) (SaveLeaves n)

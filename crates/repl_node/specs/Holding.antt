@@ -19,11 +19,11 @@ pub record HeldNode (D : Type 0) : Type 0 where
   pub slots : SlotList
 
 abbrev pub disk_of : {D : Type 0} → HeldNode D → D
-disk_of held = held.wal.store.disk
+disk_of held = held.wal.disk
 
 -- the log and the slots in memory are those of this node
 pub record Remembers {D : Type 0} (held : HeldNode D) (n : NodeState) : Type 0 where
-  pub log : RemembersLog held.wal n.log
+  pub log : RemembersLog held.wal.log n.log
   pub slots : held.slots.slots ≡ n.slots
   pub sound : n.log.broken ≡ false → held.slots.broken ≡ false
 
@@ -34,7 +34,7 @@ AllStore disk saved = (image : Folder) → disk.may_leave image → Stores saved
 -- The node is in this state: in memory, and, where the disk is known to tell it, in its files. After a failure of the disk
 -- nothing is said of them.
 pub record Holds {D : Type 0} (disk : DiskState) (held : HeldNode D) (n : NodeState) : Type 0 where
-  pub log : HoldsLog disk held.wal n.log
+  pub log : HoldsLog disk held.wal.log n.log
   pub slots : held.slots.slots ≡ n.slots
   pub sound : n.log.broken ≡ false → held.slots.broken ≡ false
   pub stored : n.log.told ≡ true → n.log.broken ≡ false → AllStore disk n.saved

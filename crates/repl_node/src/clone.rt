@@ -45,11 +45,11 @@ impl<D: Disk> Node<D> {
         ensures too_long { (n : NodeState) → Remembers from.old n →
             IfErr result (λ e. (have : ℕ) → e.0 ≡ NodeFault.HistoryFull have → IsTooLong (path_of n.log) have) }
         // A crash leaves the control that was there, or the copy, and the slots that were there, or none.
-        ensures moments { (n : NodeState) (known : ℕ) → IsKnownSource (E.state (disk_of from.old)) from.old.wal (D.state disk) n.log known
+        ensures moments { (n : NodeState) (known : ℕ) → IsKnownSource (E.state (disk_of from.old)) from.old.wal.log (D.state disk) n.log known
             → LeavesOnly (D.state disk) (D.state (disk_after result)) (IsCopyingNode (D.state disk) n.log.size n.log.kept.durable) }
         // Each failure of the disk is told, and none is told without one, or without a lack.
         ensures caused { IsOpened (answer_of result) (D.state disk) (D.state (disk_after result)) }
-        ensures rose { (n : NodeState) (known : ℕ) → IsKnownSource (E.state (disk_of from.old)) from.old.wal (D.state disk) n.log known
+        ensures rose { (n : NodeState) (known : ℕ) → IsKnownSource (E.state (disk_of from.old)) from.old.wal.log (D.state disk) n.log known
             → IfErr result (λ e. e.0 ≡ NodeFault.DiskFault → Rose (D.state disk).faults (D.state e.1).faults) }
         // The source stays as it was, unless its disk failed.
         ensures source { (n : NodeState) → Holds (E.state (disk_of from.old)) from.old n →

@@ -26,8 +26,8 @@ impl<D: Disk> Node<D> {
     /// the control is wrong (`BadControl` at its whole end). Takes memory for a piece of the log, and for the slots.
     pub fn mount(alloc: Global, disk: D) -> Result<Node<D>, (NodeFault, D)>
         // What is mounted is what the files stand for, and nothing is written after it.
-        ensures mounted { IfOk result (λ node. (node.wal.stopped ≡ None) × IfTold (D.state disk).files (λ folder.
-            (d : Durable) × StandsFor VERSION_1_SIZE folder d × IsMounted node.wal.store.head VERSION_1_SIZE d)) }
+        ensures mounted { IfOk result (λ node. (node.wal.log.stopped ≡ None) × IfTold (D.state disk).files (λ folder.
+            (d : Durable) × StandsFor VERSION_1_SIZE folder d × IsMounted node.wal.log.head VERSION_1_SIZE d)) }
         // So are the slots, each with its restart position saved.
         ensures slots { IfOk result (λ node. IfTold (D.state disk).files (λ folder. All IsMountedSlot node.slots.slots × Stores (entries_of node.slots.slots) folder)) }
         ensures sound { IfOk result (λ node. node.slots.broken ≡ false) }

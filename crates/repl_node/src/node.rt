@@ -33,7 +33,7 @@ impl<D: Disk> Node<D> {
     pub fn identify(&self) -> Identity
         ensures told { (n : NodeState) → Remembers self.now n → result ≡ identity_in (status_of_log n.log) }
         // While no call of the disk failed, that is what the store tells, and the log is right.
-        ensures head { self.now.wal.stopped ≡ None → result ≡ identity_in (status_of self.now.wal.store.head) }
+        ensures head { self.now.wal.log.stopped ≡ None → result ≡ identity_in (status_of self.now.wal.log.head) }
         ensures right { (n : NodeState) → Remembers self.now n → n.log.broken ≡ false → IsLog n.log }
     {
         self.wal.identify()

@@ -100,9 +100,9 @@ impl<D: Disk> Node<D> {
 /// Breaks the log off where the disk failed, and gives the fault on.
 fn stop<D: Disk>(wal: &mut Wal<D>, fault: SlotFault) -> SlotFault
     ensures told { result ≡ fault }
-    ensures stopped { fault ≡ SlotFault.DiskFault → (n : LogState) → RemembersLog wal.old n → n.broken ≡ false → RemembersLog wal.new (breaking n) }
+    ensures stopped { fault ≡ SlotFault.DiskFault → (n : LogState) → RemembersLog wal.old.log n → n.broken ≡ false → RemembersLog wal.new.log (breaking n) }
     ensures others { fault ≢ SlotFault.DiskFault → wal.new ≡ wal.old }
-    ensures disk { wal.new.store.disk ≡ wal.old.store.disk }
+    ensures disk { wal.new.disk ≡ wal.old.disk }
 {
     if fault == SlotFault::DiskFault {
         wal.break_off();

@@ -14,7 +14,7 @@ returns-in-Ok-clause-initiated g c =
     let role = c.args.role in
     let old = state c.args.disk in
     let node = c.in-Ok.node in
-    let new = state node.wal.store.disk in
+    let new = state node.wal.disk in
     let ident : ℕ → Ident = λ size. record { sysid = c.args.sysid; magic = c.args.magic; size = size } in
     let size = c.version_1_size.result in
     let ensures = c.in-Ok.ensures in

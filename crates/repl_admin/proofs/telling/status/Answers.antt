@@ -35,7 +35,7 @@ returns-in-Ok-clause-stated g c =
     let n = mounted_node VERSION_1_SIZE d slots in
     let remembers : Remembers node n = record { log = holds.log.remembers; slots = holds.slots; sound = holds.sound } in
     tail_fits d (c.identify.ensures.right n remembers refl) in
-    let stated = mounted_stated node.wal.store.head c.identify.result c.print_status-end.result old (state node.wal.store.disk) w w'
+    let stated = mounted_stated node.wal.log.head c.identify.result c.print_status-end.result old (state node.wal.disk) w w'
     ensures.mounted.1 (slots_right old.files slots ensures.slots) tail (c.identify.ensures.head ensures.mounted.0) ensures.reads
     ensures.caused.ok.0 c.print_status-end.ensures in
     let Over : DiskState → Type 0 = λ d. Stated c.print_status-end.result old d w w' in

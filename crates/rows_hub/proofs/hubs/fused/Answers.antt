@@ -7,6 +7,6 @@ pub returns-in-Some : goal.returns-in-Some
 returns-in-Some c =
     let n = untold c.requires.0 in (
       n,
-      remembered (state_of c.fuse.new.self.wal.store.disk) c.fuse.new.self n
-          (c.fuse.ensures.same n (over_any (state_of c.args.node.wal.store.disk) c.args.node c.requires.0 c.requires.1)),
+      remembered (state_of c.fuse.new.self.wal.disk) c.fuse.new.self n
+          (c.fuse.ensures.same n (over_any (state_of c.args.node.wal.disk) c.args.node c.requires.0 c.requires.1)),
     )

@@ -11,25 +11,25 @@ pub returns-in-Err-clause-steps : goal.returns-in-Err-clause-steps
 returns-in-Err-clause-steps g c h =
     let state = g.D.Disk.state in
     let before : HeldHub g.row.D.Denot = record { node = c.self.inside.node; sync = c.self.inside.sync; links = c.self.inside.links.items; last = c.self.inside.last; stopped = c.self.inside.stopped } in
-    let From : HeldHub g.row.D.Denot → Type 0 = λ k. Holds (state k.node.wal.store.disk) k h → HasRoom h c.args.replication
-    → Goes (state k.node.wal.store.disk) (state before.node.wal.store.disk) (linked before before.sync c.reserve.new.self.items before.last) h
+    let From : HeldHub g.row.D.Denot → Type 0 = λ k. Holds (state k.node.wal.disk) k h → HasRoom h c.args.replication
+    → Goes (state k.node.wal.disk) (state before.node.wal.disk) (linked before before.sync c.reserve.new.self.items before.last) h
     (IsConnect h c.args.name.now c.args.replication (Err connect.Memory)) (SameLeft h.node) in
     subst From c.self.view_is (λ holds room.
-    unconnected (state before.node.wal.store.disk) before h (g.met.D.Disk.only_now before.node.wal.store.disk) holds c.args.name.now
+    unconnected (state before.node.wal.disk) before h (g.met.D.Disk.only_now before.node.wal.disk) holds c.args.name.now
     c.args.replication room before.sync c.reserve.new.self.items refl c.reserve.ensures.items)
 
 pub returns-in-Ok-connect-clause-steps : goal.returns-in-Ok-connect-clause-steps
 returns-in-Ok-connect-clause-steps g c h =
     let state = g.D.Disk.state in
     let before : HeldHub g.row.D.Denot = record { node = c.self.inside.node; sync = c.self.inside.sync; links = c.self.inside.links.items; last = c.self.inside.last; stopped = c.self.inside.stopped } in
-    let Named : List ℕ → Type 0 = λ nm. Goes (state before.node.wal.store.disk) (state before.node.wal.store.disk)
+    let Named : List ℕ → Type 0 = λ nm. Goes (state before.node.wal.disk) (state before.node.wal.disk)
     (linked before c.connect.new.self c.push_reserved.new.self.items (before.last + 1)) h (IsConnect h nm c.args.replication (Ok (before.last + 1))) (SameLeft h.node) in
-    let From : HeldHub g.row.D.Denot → Type 0 = λ k. Holds (state k.node.wal.store.disk) k h → HasRoom h c.args.replication
-    → Goes (state k.node.wal.store.disk) (state before.node.wal.store.disk)
+    let From : HeldHub g.row.D.Denot → Type 0 = λ k. Holds (state k.node.wal.disk) k h → HasRoom h c.args.replication
+    → Goes (state k.node.wal.disk) (state before.node.wal.disk)
     (linked before c.connect.new.self c.push_reserved.new.self.items (before.last + 1)) h
     (IsConnect h c.args.name.now c.args.replication (Ok (before.last + 1))) (SameLeft h.node) in
     subst From c.self.view_is (λ holds room. subst Named c.as_slice.ensures.value
-    (connected (state before.node.wal.store.disk) before h (g.met.D.Disk.only_now before.node.wal.store.disk) holds c.as_slice.result.now
+    (connected (state before.node.wal.disk) before h (g.met.D.Disk.only_now before.node.wal.disk) holds c.as_slice.result.now
     c.args.replication room c.connect.new.self c.push_reserved.new.self.items
     (c.push_reserved.ensures.items ∙ ap (λ items. items ++ record { number = before.last + 1; replication = c.args.replication } ∷ []) c.reserve.ensures.items)
     c.in-Ok-connect.ensures))
@@ -38,9 +38,9 @@ pub returns-in-Err-connect-clause-steps : goal.returns-in-Err-connect-clause-ste
 returns-in-Err-connect-clause-steps g c h =
     let state = g.D.Disk.state in
     let before : HeldHub g.row.D.Denot = record { node = c.self.inside.node; sync = c.self.inside.sync; links = c.self.inside.links.items; last = c.self.inside.last; stopped = c.self.inside.stopped } in
-    let From : HeldHub g.row.D.Denot → Type 0 = λ k. Holds (state k.node.wal.store.disk) k h → HasRoom h c.args.replication
-    → Goes (state k.node.wal.store.disk) (state before.node.wal.store.disk) (linked before c.connect.new.self c.reserve.new.self.items before.last) h
+    let From : HeldHub g.row.D.Denot → Type 0 = λ k. Holds (state k.node.wal.disk) k h → HasRoom h c.args.replication
+    → Goes (state k.node.wal.disk) (state before.node.wal.disk) (linked before c.connect.new.self c.reserve.new.self.items before.last) h
     (IsConnect h c.args.name.now c.args.replication (Err connect.Memory)) (SameLeft h.node) in
     subst From c.self.view_is (λ holds room.
-    unconnected (state before.node.wal.store.disk) before h (g.met.D.Disk.only_now before.node.wal.store.disk) holds c.args.name.now
+    unconnected (state before.node.wal.disk) before h (g.met.D.Disk.only_now before.node.wal.disk) holds c.args.name.now
     c.args.replication room c.connect.new.self c.reserve.new.self.items c.in-Err-connect.ensures.1 c.reserve.ensures.items)

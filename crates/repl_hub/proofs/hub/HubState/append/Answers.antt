@@ -15,9 +15,9 @@ invariant_of-self g c =
     let result = c.append.result in
     let before : HeldHub g.row.D.Denot = record { node = c.self.inside.node; sync = c.self.inside.sync; links = c.self.inside.links.items; last = c.self.inside.last; stopped = c.self.inside.stopped } in
     let n : NodeState = untold c.self.invariant.node in
-    kept_past {A = ℕ} result (state before.node.wal.store.disk) (state c.append.new.self.wal.store.disk) before c.append.new.self c.self.invariant
+    kept_past {A = ℕ} result (state before.node.wal.disk) (state c.append.new.self.wal.disk) before c.append.new.self c.self.invariant
     (OfLog n (Appends n.log c.args.item.now result)) (LeftOf n (Old n.log))
-    (c.append.ensures.steps n (over_any (state before.node.wal.store.disk) before.node c.self.invariant.node c.self.invariant.remembers))
+    (c.append.ensures.steps n (over_any (state before.node.wal.disk) before.node c.self.invariant.node c.self.invariant.remembers))
 
 pub returns-clause-steps : goal.returns-clause-steps
 returns-clause-steps g c h =
@@ -26,8 +26,8 @@ returns-clause-steps g c h =
     let before : HeldHub g.row.D.Denot = record { node = c.self.inside.node; sync = c.self.inside.sync; links = c.self.inside.links.items; last = c.self.inside.last; stopped = c.self.inside.stopped } in
     let after = c.append.new.self in
     let n : NodeState = h.node in
-    let From : HeldHub g.row.D.Denot → Type 0 = λ k. Holds (state k.node.wal.store.disk) k h → Comes {A = ℕ} result (state k.node.wal.store.disk)
-    (state after.wal.store.disk) (held_with before after before.sync) h (IsAppend h c.args.item.now result) (SameLeft h.node) in
+    let From : HeldHub g.row.D.Denot → Type 0 = λ k. Holds (state k.node.wal.disk) k h → Comes {A = ℕ} result (state k.node.wal.disk)
+    (state after.wal.disk) (held_with before after before.sync) h (IsAppend h c.args.item.now result) (SameLeft h.node) in
     subst From c.self.view_is (λ holds.
-    of_node result (state before.node.wal.store.disk) (state after.wal.store.disk) before after h
+    of_node result (state before.node.wal.disk) (state after.wal.disk) before after h
     (OfLog n (Appends n.log c.args.item.now result)) (LeftOf n (Old n.log)) holds (c.append.ensures.steps n holds.node))

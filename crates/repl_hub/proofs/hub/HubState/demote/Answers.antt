@@ -15,18 +15,18 @@ invariant_of-self g c =
     let state = g.D.Disk.state in
     let before : HeldHub g.row.D.Denot = record { node = c.self.inside.node; sync = c.self.inside.sync; links = c.self.inside.links.items; last = c.self.inside.last; stopped = c.self.inside.stopped } in
     let n : NodeState = untold c.self.invariant.node in
-    kept_told {A = Unit {0}} (Ok tt) (state before.node.wal.store.disk) (state c.demote.new.self.wal.store.disk) before c.demote.new.self c.cancel_all.new.self
+    kept_told {A = Unit {0}} (Ok tt) (state before.node.wal.disk) (state c.demote.new.self.wal.disk) before c.demote.new.self c.cancel_all.new.self
     c.self.invariant (OfLog n (Demotes n.log (Ok tt))) (LeftOf n (DemoteLeaves n.log)) (of_cancels before.sync c.cancel_all.new.self c.cancel_all.ensures)
-    (c.in-Ok.ensures.steps n (over_any (state before.node.wal.store.disk) before.node c.self.invariant.node c.self.invariant.remembers))
+    (c.in-Ok.ensures.steps n (over_any (state before.node.wal.disk) before.node c.self.invariant.node c.self.invariant.remembers))
 
 pub invariant_of-self-in-Err : goal.invariant_of-self-in-Err
 invariant_of-self-in-Err g c =
     let state = g.D.Disk.state in
     let before : HeldHub g.row.D.Denot = record { node = c.self.inside.node; sync = c.self.inside.sync; links = c.self.inside.links.items; last = c.self.inside.last; stopped = c.self.inside.stopped } in
     let n : NodeState = untold c.self.invariant.node in
-    kept_past {A = Unit {0}} (Err c.in-Err.fault) (state before.node.wal.store.disk) (state c.demote.new.self.wal.store.disk) before c.demote.new.self
+    kept_past {A = Unit {0}} (Err c.in-Err.fault) (state before.node.wal.disk) (state c.demote.new.self.wal.disk) before c.demote.new.self
     c.self.invariant (OfLog n (Demotes n.log (Err c.in-Err.fault))) (LeftOf n (DemoteLeaves n.log))
-    (c.in-Err.ensures.steps n (over_any (state before.node.wal.store.disk) before.node c.self.invariant.node c.self.invariant.remembers))
+    (c.in-Err.ensures.steps n (over_any (state before.node.wal.disk) before.node c.self.invariant.node c.self.invariant.remembers))
 
 pub returns-in-Ok-clause-steps : goal.returns-in-Ok-clause-steps
 returns-in-Ok-clause-steps g c h =
@@ -34,10 +34,10 @@ returns-in-Ok-clause-steps g c h =
     let before : HeldHub g.row.D.Denot = record { node = c.self.inside.node; sync = c.self.inside.sync; links = c.self.inside.links.items; last = c.self.inside.last; stopped = c.self.inside.stopped } in
     let after = c.demote.new.self in
     let n : NodeState = h.node in
-    let From : HeldHub g.row.D.Denot → Type 0 = λ k. Holds (state k.node.wal.store.disk) k h → Comes {A = Unit {0}} (Ok tt) (state k.node.wal.store.disk)
-    (state after.wal.store.disk) (held_with before after c.cancel_all.new.self) h (IsDemote h (Ok tt)) (LeftOf h.node (DemoteLeaves h.node.log)) in
+    let From : HeldHub g.row.D.Denot → Type 0 = λ k. Holds (state k.node.wal.disk) k h → Comes {A = Unit {0}} (Ok tt) (state k.node.wal.disk)
+    (state after.wal.disk) (held_with before after c.cancel_all.new.self) h (IsDemote h (Ok tt)) (LeftOf h.node (DemoteLeaves h.node.log)) in
     subst From c.self.view_is (λ holds.
-    of_both {A = Unit {0}} (Ok tt) (state before.node.wal.store.disk) (state after.wal.store.disk) before after c.cancel_all.new.self sync.CancelAll h
+    of_both {A = Unit {0}} (Ok tt) (state before.node.wal.disk) (state after.wal.disk) before after c.cancel_all.new.self sync.CancelAll h
     (Demotes n.log (Ok tt)) (LeftOf n (DemoteLeaves n.log)) holds (c.in-Ok.ensures.steps n holds.node) c.cancel_all.ensures)
 
 pub returns-in-Err-clause-steps : goal.returns-in-Err-clause-steps
@@ -46,8 +46,8 @@ returns-in-Err-clause-steps g c h =
     let before : HeldHub g.row.D.Denot = record { node = c.self.inside.node; sync = c.self.inside.sync; links = c.self.inside.links.items; last = c.self.inside.last; stopped = c.self.inside.stopped } in
     let after = c.demote.new.self in
     let n : NodeState = h.node in
-    let From : HeldHub g.row.D.Denot → Type 0 = λ k. Holds (state k.node.wal.store.disk) k h → Comes {A = Unit {0}} (Err c.in-Err.fault) (state k.node.wal.store.disk)
-    (state after.wal.store.disk) (held_with before after before.sync) h (IsDemote h (Err c.in-Err.fault)) (LeftOf h.node (DemoteLeaves h.node.log)) in
+    let From : HeldHub g.row.D.Denot → Type 0 = λ k. Holds (state k.node.wal.disk) k h → Comes {A = Unit {0}} (Err c.in-Err.fault) (state k.node.wal.disk)
+    (state after.wal.disk) (held_with before after before.sync) h (IsDemote h (Err c.in-Err.fault)) (LeftOf h.node (DemoteLeaves h.node.log)) in
     subst From c.self.view_is (λ holds.
-    of_both {A = Unit {0}} (Err c.in-Err.fault) (state before.node.wal.store.disk) (state after.wal.store.disk) before after before.sync sync.CancelAll h
+    of_both {A = Unit {0}} (Err c.in-Err.fault) (state before.node.wal.disk) (state after.wal.disk) before after before.sync sync.CancelAll h
     (Demotes n.log (Err c.in-Err.fault)) (LeftOf n (DemoteLeaves n.log)) holds (c.in-Err.ensures.steps n holds.node) refl)

@@ -12,8 +12,8 @@ pub returns-clause-steps : goal.returns-clause-steps
 returns-clause-steps g c h =
     let state = g.D.Disk.state in
     let before : HeldHub g.row.D.Denot = record { node = c.self.inside.node; sync = c.self.inside.sync; links = c.self.inside.links.items; last = c.self.inside.last; stopped = c.self.inside.stopped } in
-    let From : HeldHub g.row.D.Denot → Type 0 = λ k. Holds (state k.node.wal.store.disk) k h → Goes (state k.node.wal.store.disk)
-    (state before.node.wal.store.disk) (held_with before before.node c.look.new.self) h (IsLook h c.args.ticket c.look.result) (SameLeft h.node) in
+    let From : HeldHub g.row.D.Denot → Type 0 = λ k. Holds (state k.node.wal.disk) k h → Goes (state k.node.wal.disk)
+    (state before.node.wal.disk) (held_with before before.node c.look.new.self) h (IsLook h c.args.ticket c.look.result) (SameLeft h.node) in
     subst From c.self.view_is (λ holds.
-    of_sync (state before.node.wal.store.disk) before c.look.new.self (sync.ToLook c.args.ticket) (sync.Looked c.look.result) h
-    (g.met.D.Disk.only_now before.node.wal.store.disk) holds c.look.ensures)
+    of_sync (state before.node.wal.disk) before c.look.new.self (sync.ToLook c.args.ticket) (sync.Looked c.look.result) h
+    (g.met.D.Disk.only_now before.node.wal.disk) holds c.look.ensures)

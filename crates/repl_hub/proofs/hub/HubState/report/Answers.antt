@@ -17,11 +17,11 @@ pub returns-clause-steps : goal.returns-clause-steps
 returns-clause-steps g c h =
     let state = g.D.Disk.state in
     let before : HeldHub g.row.D.Denot = record { node = c.self.inside.node; sync = c.self.inside.sync; links = c.self.inside.links.items; last = c.self.inside.last; stopped = c.self.inside.stopped } in
-    let From : HeldHub g.row.D.Denot → Type 0 = λ k. Holds (state k.node.wal.store.disk) k h → Goes (state k.node.wal.store.disk)
-    (state before.node.wal.store.disk) (held_with before before.node c.report.new.self) h
+    let From : HeldHub g.row.D.Denot → Type 0 = λ k. Holds (state k.node.wal.disk) k h → Goes (state k.node.wal.disk)
+    (state before.node.wal.disk) (held_with before before.node c.report.new.self) h
     (IsReport h c.args.session c.args.written c.args.flushed c.args.applied c.report.result) (SameLeft h.node) in
     subst From c.self.view_is (λ holds.
-    of_report (state before.node.wal.store.disk) before c.report.new.self h c.args.session c.args.written c.args.flushed c.args.applied _ _ _
-    c.identify-end.result.flushed c.report.result (g.met.D.Disk.only_now before.node.wal.store.disk) holds
-    (told_end (state before.node.wal.store.disk) before h c.identify-end.result holds c.identify-end.ensures.told)
+    of_report (state before.node.wal.disk) before c.report.new.self h c.args.session c.args.written c.args.flushed c.args.applied _ _ _
+    c.identify-end.result.flushed c.report.result (g.met.D.Disk.only_now before.node.wal.disk) holds
+    (told_end (state before.node.wal.disk) before h c.identify-end.result holds c.identify-end.ensures.told)
     c.lesser.ensures c.lesser-2.ensures c.lesser-3.ensures c.report.ensures)

@@ -16,9 +16,9 @@ invariant_of-self g c =
     let state = g.D.Disk.state in
     let before : HeldHub g.row.D.Denot = record { node = c.self.inside.node; sync = c.self.inside.sync; links = c.self.inside.links.items; last = c.self.inside.last; stopped = c.self.inside.stopped } in
     let n : NodeState = untold c.self.invariant.node in
-    kept_listed (state before.node.wal.store.disk) (state c.slot_confirm.new.self.wal.store.disk) before c.slot_confirm.new.self c.self.invariant
+    kept_listed (state before.node.wal.disk) (state c.slot_confirm.new.self.wal.disk) before c.slot_confirm.new.self c.self.invariant
     (λ m. m ≡ with_slots n (map (confirmed c.args.session c.lesser.result) n.slots)) (SameLeft n)
-    (c.slot_confirm.ensures.steps n (over_any (state before.node.wal.store.disk) before.node c.self.invariant.node c.self.invariant.remembers))
+    (c.slot_confirm.ensures.steps n (over_any (state before.node.wal.disk) before.node c.self.invariant.node c.self.invariant.remembers))
 
 pub returns-clause-steps : goal.returns-clause-steps
 returns-clause-steps g c h =
@@ -26,11 +26,11 @@ returns-clause-steps g c h =
     let before : HeldHub g.row.D.Denot = record { node = c.self.inside.node; sync = c.self.inside.sync; links = c.self.inside.links.items; last = c.self.inside.last; stopped = c.self.inside.stopped } in
     let after = c.slot_confirm.new.self in
     let session = c.args.session in
-    let From : HeldHub g.row.D.Denot → Type 0 = λ k. Holds (state k.node.wal.store.disk) k h → Goes (state k.node.wal.store.disk)
-    (state after.wal.store.disk) (held_with before after before.sync) h (IsSlotConfirm h session c.args.at) (SameLeft h.node) in
+    let From : HeldHub g.row.D.Denot → Type 0 = λ k. Holds (state k.node.wal.disk) k h → Goes (state k.node.wal.disk)
+    (state after.wal.disk) (held_with before after before.sync) h (IsSlotConfirm h session c.args.at) (SameLeft h.node) in
     subst From c.self.view_is (λ holds.
-    let old = state before.node.wal.store.disk in
-    let new = state after.wal.store.disk in
+    let old = state before.node.wal.disk in
+    let new = state after.wal.disk in
     let end = told_end old before h c.identify-flushed.result holds c.identify-flushed.ensures.told in
     let at : c.lesser.result ≡ min c.args.at (flushed_end h.node.log) = c.lesser.ensures ∙ ap (min c.args.at) end in
     let P : ℕ → Type 0 = λ p. NodeGoes old new after h.node (λ m. m ≡ with_slots h.node (map (confirmed session p) h.node.slots)) (SameLeft h.node) in

@@ -15,9 +15,9 @@ invariant_of-self g c =
     let state = g.D.Disk.state in
     let before : HeldHub g.row.D.Denot = record { node = c.self.inside.node; sync = c.self.inside.sync; links = c.self.inside.links.items; last = c.self.inside.last; stopped = c.self.inside.stopped } in
     let n : NodeState = untold c.self.invariant.node in
-    kept_listed (state before.node.wal.store.disk) (state c.slot_create.new.self.wal.store.disk) before c.slot_create.new.self c.self.invariant
+    kept_listed (state before.node.wal.disk) (state c.slot_create.new.self.wal.disk) before c.slot_create.new.self c.self.invariant
     (OfSlots n (n.slots ++ made c.as_slice.result.now c.args.temporary c.args.session c.reserved-restart.result ∷ []) c.slot_create.result) (SameLeft n)
-    (c.slot_create.ensures.steps n (over_any (state before.node.wal.store.disk) before.node c.self.invariant.node c.self.invariant.remembers))
+    (c.slot_create.ensures.steps n (over_any (state before.node.wal.disk) before.node c.self.invariant.node c.self.invariant.remembers))
 
 pub returns-clause-steps : goal.returns-clause-steps
 returns-clause-steps g c h =
@@ -27,13 +27,13 @@ returns-clause-steps g c h =
     let name = c.as_slice.result.now in
     let session = c.args.session in
     let result = c.slot_create.result in
-    let Named : List ℕ → Type 0 = λ nm. Goes (state before.node.wal.store.disk) (state after.wal.store.disk) (held_with before after before.sync) h
+    let Named : List ℕ → Type 0 = λ nm. Goes (state before.node.wal.disk) (state after.wal.disk) (held_with before after before.sync) h
     (IsSlotCreate h session nm c.args.temporary c.args.reserve result) (SameLeft h.node) in
-    let From : HeldHub g.row.D.Denot → Type 0 = λ k. Holds (state k.node.wal.store.disk) k h → Goes (state k.node.wal.store.disk)
-    (state after.wal.store.disk) (held_with before after before.sync) h (IsSlotCreate h session c.args.name.now c.args.temporary c.args.reserve result) (SameLeft h.node) in
+    let From : HeldHub g.row.D.Denot → Type 0 = λ k. Holds (state k.node.wal.disk) k h → Goes (state k.node.wal.disk)
+    (state after.wal.disk) (held_with before after before.sync) h (IsSlotCreate h session c.args.name.now c.args.temporary c.args.reserve result) (SameLeft h.node) in
     subst From c.self.view_is (λ holds.
-    let old = state before.node.wal.store.disk in
-    let new = state after.wal.store.disk in
+    let old = state before.node.wal.disk in
+    let new = state after.wal.disk in
     let end = told_end old before h c.identify.result holds c.identify.ensures.told in
     let P : Option ℕ → Type 0 = λ r. NodeGoes old new after h.node (OfSlots h.node (h.node.slots ++ made name c.args.temporary session r ∷ []) result) (SameLeft h.node) in
     let R : ℕ → Option ℕ = λ e. if c.args.reserve then Some e else None in

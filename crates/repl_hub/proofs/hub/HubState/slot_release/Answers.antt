@@ -12,6 +12,6 @@ invariant_of-self g c =
     let state = g.D.Disk.state in
     let before : HeldHub g.row.D.Denot = record { node = c.self.inside.node; sync = c.self.inside.sync; links = c.self.inside.links.items; last = c.self.inside.last; stopped = c.self.inside.stopped } in
     let n : NodeState = untold c.self.invariant.node in
-    kept_listed (state before.node.wal.store.disk) (state c.slot_release.new.self.wal.store.disk) before c.slot_release.new.self c.self.invariant
+    kept_listed (state before.node.wal.disk) (state c.slot_release.new.self.wal.disk) before c.slot_release.new.self c.self.invariant
     (λ m. m ≡ with_slots n (map (released c.args.session) n.slots)) (SameLeft n)
-    (c.slot_release.ensures.steps n (over_any (state before.node.wal.store.disk) before.node c.self.invariant.node c.self.invariant.remembers))
+    (c.slot_release.ensures.steps n (over_any (state before.node.wal.disk) before.node c.self.invariant.node c.self.invariant.remembers))

@@ -12,5 +12,5 @@ returns-clause-gives g c =
     let before = c.args.self.now in
     let after = c.make.new.self in
     let kept : IsKept {D = g.row.D.Denot} before = subst (IsKept {D = g.row.D.Denot}) c.self.view_is c.self.invariant in
-    gives_some (state before.node.wal.store.disk) (state after.node.wal.store.disk) before after kept
+    gives_some (state before.node.wal.disk) (state after.node.wal.disk) before after kept
     (λ h m. HubStep h c.args.event c.make.result m) (λ h. HubLeaves h c.args.event) c.make.ensures.steps

@@ -23,17 +23,17 @@ returns-then-eq-clause-steps g c h =
     let state = g.D.Disk.state in
     let before : HeldHub g.row.D.Denot = record { node = c.self.inside.node; sync = c.self.inside.sync; links = c.self.inside.links.items; last = c.self.inside.last; stopped = c.self.inside.stopped } in
     let own : c.identify.result.tli ≡ c.args.tli = search rules in
-    let From : HeldHub g.row.D.Denot → Type 0 = λ k. Holds (state k.node.wal.store.disk) k h → Goes (state k.node.wal.store.disk)
-    (state before.node.wal.store.disk) (held_with before before.node c.streaming.new.self) h
+    let From : HeldHub g.row.D.Denot → Type 0 = λ k. Holds (state k.node.wal.disk) k h → Goes (state k.node.wal.disk)
+    (state before.node.wal.disk) (held_with before before.node c.streaming.new.self) h
     (IsStreaming h c.args.session c.args.tli c.streaming.result) (SameLeft h.node) in
     subst From c.self.view_is (λ holds.
-    let disk = state before.node.wal.store.disk in
+    let disk = state before.node.wal.disk in
     let after = held_with before before.node c.streaming.new.self in
     wider disk disk after h (OfSync h (sync.Streaming c.args.session) (done c.streaming.result))
     (IsStreaming h c.args.session c.args.tli c.streaming.result) (SameLeft h.node)
     (λ m step. inl (sym own ∙ told_own disk before h c.identify.result holds c.identify.ensures.told, step))
     (of_sync disk before c.streaming.new.self (sync.Streaming c.args.session) (done c.streaming.result) h
-    (g.met.D.Disk.only_now before.node.wal.store.disk) holds c.streaming.ensures))
+    (g.met.D.Disk.only_now before.node.wal.disk) holds c.streaming.ensures))
 
 pub returns-else-eq-clause-steps : goal.returns-else-eq-clause-steps
 returns-else-eq-clause-steps g c h =
@@ -41,12 +41,12 @@ returns-else-eq-clause-steps g c h =
     let before : HeldHub g.row.D.Denot = record { node = c.self.inside.node; sync = c.self.inside.sync; links = c.self.inside.links.items; last = c.self.inside.last; stopped = c.self.inside.stopped } in
     let other : c.identify.result.tli ≢ c.args.tli = λ is. search rules in
     let known : KnowsLink before.links c.args.session c.knows.result = search rules in
-    let From : HeldHub g.row.D.Denot → Type 0 = λ k. Holds (state k.node.wal.store.disk) k h → Goes (state k.node.wal.store.disk)
-    (state k.node.wal.store.disk) k h (IsStreaming h c.args.session c.args.tli c.knows.result) (SameLeft h.node) in
+    let From : HeldHub g.row.D.Denot → Type 0 = λ k. Holds (state k.node.wal.disk) k h → Goes (state k.node.wal.disk)
+    (state k.node.wal.disk) k h (IsStreaming h c.args.session c.args.tli c.knows.result) (SameLeft h.node) in
     subst From c.self.view_is (λ holds.
-    let disk = state before.node.wal.store.disk in
+    let disk = state before.node.wal.disk in
     let own = told_own disk before h c.identify.result holds c.identify.ensures.told in
-    stays disk before h (IsStreaming h c.args.session c.args.tli c.knows.result) (g.met.D.Disk.only_now before.node.wal.store.disk) holds
+    stays disk before h (IsStreaming h c.args.session c.args.tli c.knows.result) (g.met.D.Disk.only_now before.node.wal.disk) holds
     (inr (
       λ is. other (own ∙ sym is),
       subst (λ (links : List Link). KnowsLink links c.args.session c.knows.result) (sym (ap (λ (k : HubView). k.links) holds.is)) known,

@@ -15,22 +15,22 @@ returns-then-not-is_prepared-clause-steps g c h =
     let state = g.D.Disk.state in
     let before : HeldHub g.row.D.Denot = record { node = c.self.inside.node; sync = c.self.inside.sync; links = c.self.inside.links.items; last = c.self.inside.last; stopped = c.self.inside.stopped } in
     let none : fate_of before.sync.tickets c.args.ticket ≡ Some Prepared → ⊥ = λ is. search (rules, tests) in
-    let From : HeldHub g.row.D.Denot → Type 0 = λ k. Holds (state k.node.wal.store.disk) k h → Goes (state k.node.wal.store.disk)
-    (state k.node.wal.store.disk) k h (IsWait h c.args.ticket c.args.end c.args.mode (Err fault.Unknown)) (SameLeft h.node) in
+    let From : HeldHub g.row.D.Denot → Type 0 = λ k. Holds (state k.node.wal.disk) k h → Goes (state k.node.wal.disk)
+    (state k.node.wal.disk) k h (IsWait h c.args.ticket c.args.end c.args.mode (Err fault.Unknown)) (SameLeft h.node) in
     subst From c.self.view_is (λ holds.
-    unknown (state before.node.wal.store.disk) before h c.args.ticket c.args.end c.args.mode (g.met.D.Disk.only_now before.node.wal.store.disk) holds none)
+    unknown (state before.node.wal.disk) before h c.args.ticket c.args.end c.args.mode (g.met.D.Disk.only_now before.node.wal.disk) holds none)
 
 pub returns-then-waits_for_none-clause-steps : goal.returns-then-waits_for_none-clause-steps
 returns-then-waits_for_none-clause-steps g c h =
     let state = g.D.Disk.state in
     let before : HeldHub g.row.D.Denot = record { node = c.self.inside.node; sync = c.self.inside.sync; links = c.self.inside.links.items; last = c.self.inside.last; stopped = c.self.inside.stopped } in
     let prepared : fate_of before.sync.tickets c.args.ticket ≡ Some Prepared = search (rules, tests) in
-    let From : HeldHub g.row.D.Denot → Type 0 = λ k. Holds (state k.node.wal.store.disk) k h → Goes (state k.node.wal.store.disk)
-    (state before.node.wal.store.disk) (held_with before before.node c.wait_cancelled.new.self) h
+    let From : HeldHub g.row.D.Denot → Type 0 = λ k. Holds (state k.node.wal.disk) k h → Goes (state k.node.wal.disk)
+    (state before.node.wal.disk) (held_with before before.node c.wait_cancelled.new.self) h
     (IsWait h c.args.ticket c.args.end c.args.mode c.begun.result) (SameLeft h.node) in
     subst From c.self.view_is (λ holds.
-    let disk = state before.node.wal.store.disk in
-    cancelled disk before h c.args.ticket c.args.end c.args.mode (g.met.D.Disk.only_now before.node.wal.store.disk) holds prepared
+    let disk = state before.node.wal.disk in
+    cancelled disk before h c.args.ticket c.args.end c.args.mode (g.met.D.Disk.only_now before.node.wal.disk) holds prepared
     c.wait_cancelled.new.self c.begun.result c.identify-identity.result.role
     (told_role disk before h c.identify-identity.result holds c.identify-identity.ensures.told)
     (c.waits_for_none.ensures.none (search (rules, tests)))
@@ -42,14 +42,14 @@ returns-then-end-identity-clause-steps g c h =
     let state = g.D.Disk.state in
     let before : HeldHub g.row.D.Denot = record { node = c.self.inside.node; sync = c.self.inside.sync; links = c.self.inside.links.items; last = c.self.inside.last; stopped = c.self.inside.stopped } in
     let prepared : fate_of before.sync.tickets c.args.ticket ≡ Some Prepared = search (rules, tests) in
-    let From : HeldHub g.row.D.Denot → Type 0 = λ k. Holds (state k.node.wal.store.disk) k h → Goes (state k.node.wal.store.disk)
-    (state k.node.wal.store.disk) k h (IsWait h c.args.ticket c.args.end c.args.mode (Err (fault.NotFlushed c.identify-identity.result.flushed)))
+    let From : HeldHub g.row.D.Denot → Type 0 = λ k. Holds (state k.node.wal.disk) k h → Goes (state k.node.wal.disk)
+    (state k.node.wal.disk) k h (IsWait h c.args.ticket c.args.end c.args.mode (Err (fault.NotFlushed c.identify-identity.result.flushed)))
     (SameLeft h.node) in
     subst From c.self.view_is (λ holds.
-    let disk = state before.node.wal.store.disk in
+    let disk = state before.node.wal.disk in
     let identity = c.identify-identity.result in
     let told = c.identify-identity.ensures.told in
-    not_flushed disk before h c.args.ticket c.args.end c.args.mode (g.met.D.Disk.only_now before.node.wal.store.disk) holds prepared
+    not_flushed disk before h c.args.ticket c.args.end c.args.mode (g.met.D.Disk.only_now before.node.wal.disk) holds prepared
     identity.role identity.flushed (told_role disk before h identity holds told) (told_end disk before h identity holds told)
     (c.waits_for_none.ensures.some (search (rules, tests))) (search (rules, tests)))
 
@@ -58,14 +58,14 @@ returns-clause-steps g c h =
     let state = g.D.Disk.state in
     let before : HeldHub g.row.D.Denot = record { node = c.self.inside.node; sync = c.self.inside.sync; links = c.self.inside.links.items; last = c.self.inside.last; stopped = c.self.inside.stopped } in
     let prepared : fate_of before.sync.tickets c.args.ticket ≡ Some Prepared = search (rules, tests) in
-    let From : HeldHub g.row.D.Denot → Type 0 = λ k. Holds (state k.node.wal.store.disk) k h → Goes (state k.node.wal.store.disk)
-    (state before.node.wal.store.disk) (held_with before before.node c.wait.new.self) h
+    let From : HeldHub g.row.D.Denot → Type 0 = λ k. Holds (state k.node.wal.disk) k h → Goes (state k.node.wal.disk)
+    (state before.node.wal.disk) (held_with before before.node c.wait.new.self) h
     (IsWait h c.args.ticket c.args.end c.args.mode c.begun-2.result) (SameLeft h.node) in
     subst From c.self.view_is (λ holds.
-    let disk = state before.node.wal.store.disk in
+    let disk = state before.node.wal.disk in
     let identity = c.identify-identity.result in
     let told = c.identify-identity.ensures.told in
-    waits disk before h c.args.ticket c.args.end c.args.mode (g.met.D.Disk.only_now before.node.wal.store.disk) holds prepared
+    waits disk before h c.args.ticket c.args.end c.args.mode (g.met.D.Disk.only_now before.node.wal.disk) holds prepared
     identity.role identity.flushed (told_role disk before h identity holds told) (told_end disk before h identity holds told)
     (c.waits_for_none.ensures.some (search (rules, tests))) c.wait.new.self c.begun-2.result (search (rules, tests))
     (begins c.args.ticket c.args.end c.args.mode before.sync c.wait.new.self c.wait.result c.begun-2.result prepared c.begun-2.ensures.ok

@@ -1,5 +1,5 @@
 -- The slots go, and then the log is copied.
-use Rattle.std.proofs.Common.{◌≡◌, ℕ, ◌⊎◌, [], true, false, Result, Ok, Err, IfOk, IfErr, MatchResult, refl, sym, ap, subst}
+use Rattle.std.proofs.Common.{◌≡◌, ℕ, ◌⊎◌, [], true, false, Result, Ok, Err, IfOk, IfErr, refl, sym, ap, subst}
 use Rattle.repl_clone.specs.Causes.{IsTooLong}
 use Rattle.repl_clone.specs.Copied.{IsCopying, copied}
 use Rattle.repl_control.specs.declared.control.TheConstants.{VERSION_1_SIZE}
@@ -10,7 +10,7 @@ use Rattle.repl_disk.specs.Runs.{told_so}
 use Rattle.repl_disk.specs.State.{DiskState}
 use Rattle.repl_slots.specs.Slot.{SlotList}
 use Rattle.repl_wal.specs.Cloning.{IsKnownSource}
-use Rattle.repl_wal.specs.Holding.{HeldLog, Holds as HoldsLog}
+use Rattle.repl_wal.specs.Holding.{HeldLog, Holds as HoldsLog, disk_after as log_disk_after}
 use Rattle.repl_wal.specs.Making.{mounted_log}
 use Rattle.repl_wal.specs.State.{path_of}
 use Rattle.repl_wal.specs.declared.fault.NodeFault.{NodeFault}
@@ -23,17 +23,17 @@ use Rattle.repl_node.specs.Holding.{AllStore, HeldNode, Holds, Remembers, disk_a
 use Rattle.repl_node.specs.Making.{IsCleared, IsClearing, mounted_node}
 use Rattle.repl_node.proofs.Begun.{is_some_as, known_on, some_folder, without_slots}
 use Rattle.repl_node.proofs.Copied.{source_left}
-use Rattle.repl_node.proofs.Copying.{copying_cleared, copying_moments, joint, known_past, on_disk, passed}
+use Rattle.repl_node.proofs.Copying.{copying_cleared, copying_moments, known_past, same_disk}
 use Rattle.repl_node.proofs.node.Node.clone_from.Goals as goal
 
 -- the node of a log that is so, without slots
 node_holds : {D : Type 0} (state : D → DiskState) (log : Result (HeldLog D) (NodeFault × D)) (result : Result (HeldNode D) (NodeFault × D))
     (size : ℕ) (d : Durable) → IfOk result (λ node. (log ≡ Ok node.wal) × (node.slots ≡ record { slots = []; broken = false }))
-    → IfOk log (λ wal. HoldsLog (state wal.store.disk) wal (mounted_log size d))
-    → ((wal : HeldLog D) → log ≡ Ok wal → AllStore (state wal.store.disk) [])
-    → IfOk result (λ node. Holds (state node.wal.store.disk) node (mounted_node size d []))
+    → IfOk log (λ wal. HoldsLog (state wal.disk) wal.log (mounted_log size d))
+    → ((wal : HeldLog D) → log ≡ Ok wal → AllStore (state wal.disk) [])
+    → IfOk result (λ node. Holds (state node.wal.disk) node (mounted_node size d []))
 node_holds state log (Ok node) size d made holds stored = record {
-  log = subst (λ r. IfOk r (λ wal. HoldsLog (state wal.store.disk) wal (mounted_log size d))) made.0 holds;
+  log = subst (λ r. IfOk r (λ wal. HoldsLog (state wal.disk) wal.log (mounted_log size d))) made.0 holds;
   slots = ap (λ (l : SlotList). l.slots) made.1;
   sound = λ is. ap (λ (l : SlotList). l.broken) made.1;
   stored = λ tells. λ is. stored node.wal made.0;
@@ -54,23 +54,23 @@ returns-clause-holds g c n known holds told size files agree heard =
     let folder = some_folder old.files files in
     let slots = (told_so old.files folder.0 (λ f. IsCleared old mid f) folder.1 c.in-Ok.ensures.cleared).slots in
     let before : HeldNode g.row.E.Denot = record { wal = c.from.inside.wal; slots = c.from.inside.slots } in
-    let given : Holds (g.E.Disk.state before.wal.store.disk) before n = subst (λ (h : HeldNode g.row.E.Denot). Holds (g.E.Disk.state h.wal.store.disk) h n)
+    let given : Holds (g.E.Disk.state before.wal.disk) before n = subst (λ (h : HeldNode g.row.E.Denot). Holds (g.E.Disk.state h.wal.disk) h n)
     (sym c.from.view_is) holds in
     let copy = c.clone_from.ensures.holds n.log known given.log told size (is_some_as mid.files slots.after slots.told)
     (λ image left. known_on old.may_leave image n.log.kept.durable.control.tli known heard (slots.images image left)) in
     node_holds state c.clone_from.result c.without_slots.result VERSION_1_SIZE (copied n.log.kept.durable known) c.without_slots.ensures.made copy
-    (λ wal is. without_slots old mid (state wal.store.disk) folder.0 slots agree
-    (subst (λ r. MatchResult r (λ w. StaysApart mid (state w.store.disk)) (λ e. StaysApart mid (state e.1))) is c.clone_from.ensures.apart))
+    (λ wal is. without_slots old mid (state wal.disk) folder.0 slots agree
+    (subst (λ r. StaysApart mid (state (log_disk_after r))) is c.clone_from.ensures.apart))
 
 pub returns-clause-source : goal.returns-clause-source
 returns-clause-source g c n =
     let state = g.E.Disk.state in
     let before : HeldNode g.row.E.Denot = record { wal = c.from.inside.wal; slots = c.from.inside.slots } in
     let after : HeldNode g.row.E.Denot = record { wal = c.clone_from.new.from; slots = c.from.inside.slots } in
-    let From : HeldNode g.row.E.Denot → Type 0 = λ h. Holds (state h.wal.store.disk) h n → LeavesNode {D = g.row.D.Denot} c.without_slots.result (state h.wal.store.disk)
-    (state after.wal.store.disk) after n in
+    let From : HeldNode g.row.E.Denot → Type 0 = λ h. Holds (state h.wal.disk) h n → LeavesNode {D = g.row.D.Denot} c.without_slots.result (state h.wal.disk)
+    (state after.wal.disk) after n in
     subst From c.from.view_is (λ holds.
-    source_left c.clone_from.result c.without_slots.result (state before.wal.store.disk) (state after.wal.store.disk) before after n
+    source_left c.clone_from.result c.without_slots.result (state before.wal.disk) (state after.wal.disk) before after n
     (refused_as c.clone_from.result c.without_slots.result (λ e. e.0 ≡ fault.SourceFault) c.without_slots.ensures.refused) holds
     c.clone_from.ensures.source_apart refl (c.clone_from.ensures.source n.log holds.log))
 
@@ -101,16 +101,13 @@ returns-clause-moments g c n known is =
     let All : g.row.D.Denot → Type 0 = λ new. LeavesOnly old (state new) (IsCopyingNode old size d) in
     let every : (new : g.row.D.Denot) → Leaves new × Apart new → All new = λ new both. copying_moments old mid folder.0 slots (state new) size d first
     both.0 both.1 in
-    let From : HeldNode g.row.E.Denot → Type 0 = λ h. IsKnownSource (g.E.Disk.state h.wal.store.disk) h.wal old n.log known
+    let From : HeldNode g.row.E.Denot → Type 0 = λ h. IsKnownSource (g.E.Disk.state h.wal.disk) h.wal.log old n.log known
     → All (disk_after c.without_slots.result) in
     let before : HeldNode g.row.E.Denot = record { wal = c.from.inside.wal; slots = c.from.inside.slots } in
     let here : From before = λ is.
-    let copy = c.clone_from.ensures.moments n.log known (known_past old mid folder.0 slots (g.E.Disk.state before.wal.store.disk) before.wal n.log known is) in
-    on_disk c.without_slots.result All (passed c.clone_from.result c.without_slots.result
-    (λ wal. Leaves wal.store.disk × Apart wal.store.disk) (λ node. All node.wal.store.disk)
-    (λ e. Leaves e.1 × Apart e.1) (λ e. All e.1) c.without_slots.ensures.made c.without_slots.ensures.refused (λ node. every node.wal.store.disk)
-    (λ e. every e.1) (joint c.clone_from.result (λ wal. Leaves wal.store.disk) (λ wal. Apart wal.store.disk) (λ e. Leaves e.1) (λ e. Apart e.1) copy
-    c.clone_from.ensures.apart)) in
+    let copy = c.clone_from.ensures.moments n.log known (known_past old mid folder.0 slots (g.E.Disk.state before.wal.disk) before.wal n.log known is) in
+    subst All (same_disk c.clone_from.result c.without_slots.result c.without_slots.ensures.made c.without_slots.ensures.refused)
+    (every (log_disk_after c.clone_from.result) (copy, c.clone_from.ensures.apart)) in
     subst From c.from.view_is here is
 
 pub returns-clause-rose : goal.returns-clause-rose
@@ -122,13 +119,13 @@ returns-clause-rose g c n known is =
     let slots = (told_so old.files folder.0 (λ f. IsCleared old mid f) folder.1 c.in-Ok.ensures.cleared).slots in
     let First : NodeFault × g.row.D.Denot → Type 0 = λ e. e.0 ≡ fault.DiskFault → Rose mid.faults (state e.1).faults in
     let Rises : NodeFault × g.row.D.Denot → Type 0 = λ e. e.0 ≡ fault.DiskFault → Rose old.faults (state e.1).faults in
-    let From : HeldNode g.row.E.Denot → Type 0 = λ h. IsKnownSource (g.E.Disk.state h.wal.store.disk) h.wal old n.log known
+    let From : HeldNode g.row.E.Denot → Type 0 = λ h. IsKnownSource (g.E.Disk.state h.wal.disk) h.wal.log old n.log known
     → IfErr c.without_slots.result Rises in
     let before : HeldNode g.row.E.Denot = record { wal = c.from.inside.wal; slots = c.from.inside.slots } in
     let here : From before = λ is.
     refused_as c.clone_from.result c.without_slots.result Rises c.without_slots.ensures.refused
     (if_err c.clone_from.result First Rises (λ e rose same. subst (λ (k : ℕ). Rose k (state e.1).faults) c.in-Ok.ensures.caused.ok.0 (rose same))
-    (c.clone_from.ensures.rose n.log known (known_past old mid folder.0 slots (g.E.Disk.state before.wal.store.disk) before.wal n.log known is))) in
+    (c.clone_from.ensures.rose n.log known (known_past old mid folder.0 slots (g.E.Disk.state before.wal.disk) before.wal n.log known is))) in
     subst From c.from.view_is here is
 
 -- ---- refusals that speak of the source
@@ -145,9 +142,9 @@ returns-clause-too_long g c n remembers =
 pub returns-clause-failed : goal.returns-clause-failed
 returns-clause-failed g c n remembers =
     let state = g.E.Disk.state in
-    let new = state c.clone_from.new.from.store.disk in
+    let new = state c.clone_from.new.from.disk in
     let Because : HeldNode g.row.E.Denot → NodeFault × g.row.D.Denot → Type 0 = λ h e. e.0 ≡ fault.SourceFault
-    → (n.log.broken ≡ true) ⊎ Rose (state h.wal.store.disk).faults new.faults ⊎ Rose (state h.wal.store.disk).lacks new.lacks in
+    → (n.log.broken ≡ true) ⊎ Rose (state h.wal.disk).faults new.faults ⊎ Rose (state h.wal.disk).lacks new.lacks in
     let From : HeldNode g.row.E.Denot → Type 0 = λ h. Remembers h n → IfErr c.without_slots.result (Because h) in
     let before : HeldNode g.row.E.Denot = record { wal = c.from.inside.wal; slots = c.from.inside.slots } in
     let here : From before = λ remembers.

@@ -15,7 +15,7 @@ pub returns-in-Ok-init-clause-holds : goal.returns-in-Ok-init-clause-holds
 returns-in-Ok-init-clause-holds g c known told agree all =
     let old = g.D.Disk.state c.args.disk in
     let mid = g.D.Disk.state c.clear.new.disk in
-    let new = g.D.Disk.state c.in-Ok-init.wal.store.disk in
+    let new = g.D.Disk.state c.in-Ok-init.wal.disk in
     let folder = some_folder old.files told in
     let slots = (told_so old.files folder.0 (λ f. IsCleared old mid f) folder.1 c.in-Ok.ensures.cleared).slots in
     record {
@@ -29,7 +29,7 @@ returns-in-Ok-init-clause-holds g c known told agree all =
 pub returns-in-Ok-init-clause-moments : goal.returns-in-Ok-init-clause-moments
 returns-in-Ok-init-clause-moments g c =
     let state = g.D.Disk.state in
-    begun_moments (state c.args.disk) (state c.clear.new.disk) (state c.in-Ok-init.wal.store.disk) c.args.role c.args.ident c.in-Ok.ensures.cleared
+    begun_moments (state c.args.disk) (state c.clear.new.disk) (state c.in-Ok-init.wal.disk) c.args.role c.args.ident c.in-Ok.ensures.cleared
     c.in-Ok.ensures.moments c.in-Ok-init.ensures.moments c.in-Ok-init.ensures.apart
 
 pub returns-in-Err-init-clause-moments : goal.returns-in-Err-init-clause-moments

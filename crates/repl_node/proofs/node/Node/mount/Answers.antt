@@ -20,7 +20,7 @@ use Rattle.repl_node.proofs.node.Node.mount.Goals as goal
 pub returns-in-Ok-mount-clause-reads : goal.returns-in-Ok-mount-clause-reads
 returns-in-Ok-mount-clause-reads g c =
     let state = g.D.Disk.state in
-    reads_then (state c.args.disk) (state c.in-Ok.disk) (state c.in-Ok-mount.wal.store.disk) c.in-Ok.ensures.only c.in-Ok-mount.ensures.reads
+    reads_then (state c.args.disk) (state c.in-Ok.disk) (state c.in-Ok-mount.wal.disk) c.in-Ok.ensures.only c.in-Ok-mount.ensures.reads
 
 pub returns-in-Err-mount-clause-reads : goal.returns-in-Err-mount-clause-reads
 returns-in-Err-mount-clause-reads g c =
@@ -99,7 +99,7 @@ returns-in-Err-mount-clause-lost g c is =
 pub returns-in-Ok-mount-clause-only : goal.returns-in-Ok-mount-clause-only
 returns-in-Ok-mount-clause-only g c folder d saved tells stands all =
     let state = g.D.Disk.state in
-    only_opens _ (state c.args.disk) (state c.in-Ok-mount.wal.store.disk) VERSION_1_SIZE d saved all (returns-in-Ok-mount-clause-reads g c)
+    only_opens _ (state c.args.disk) (state c.in-Ok-mount.wal.disk) VERSION_1_SIZE d saved all (returns-in-Ok-mount-clause-reads g c)
     (λ k. absurd cc)
 
 pub returns-in-Err-mount-clause-only : goal.returns-in-Err-mount-clause-only

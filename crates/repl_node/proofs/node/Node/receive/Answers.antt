@@ -15,8 +15,8 @@ returns-clause-steps g c n =
     let result = c.receive.result in
     let before : HeldNode g.row.D.Denot = record { wal = c.self.inside.wal; slots = c.self.inside.slots } in
     let after : HeldNode g.row.D.Denot = record { wal = c.receive.new.self; slots = c.self.inside.slots } in
-    let From : HeldNode g.row.D.Denot → Type 0 = λ h. Holds (state h.wal.store.disk) h n → Comes {A = ℕ} result (state h.wal.store.disk)
-    (state after.wal.store.disk) after n (OfLog n (Receives n.log c.args.tli c.args.start c.args.bytes.now result)) (LeftOf n (Old n.log)) in
+    let From : HeldNode g.row.D.Denot → Type 0 = λ h. Holds (state h.wal.disk) h n → Comes {A = ℕ} result (state h.wal.disk)
+    (state after.wal.disk) after n (OfLog n (Receives n.log c.args.tli c.args.start c.args.bytes.now result)) (LeftOf n (Old n.log)) in
     subst From c.self.view_is (λ holds.
-    of_log result (state before.wal.store.disk) (state after.wal.store.disk) before after n (Receives n.log c.args.tli c.args.start c.args.bytes.now result) (Old n.log)
+    of_log result (state before.wal.disk) (state after.wal.disk) before after n (Receives n.log c.args.tli c.args.start c.args.bytes.now result) (Old n.log)
     (receives n c.args.tli c.args.start c.args.bytes.now result) holds c.receive.ensures.apart refl (c.receive.ensures.steps n.log holds.log))

@@ -11,8 +11,8 @@ returns-clause-steps g c n =
     let state = g.D.Disk.state in
     let before : HeldNode g.row.D.Denot = record { wal = c.self.inside.wal; slots = c.self.inside.slots } in
     let after : HeldNode g.row.D.Denot = record { wal = c.self.inside.wal; slots = c.acquire.new.self } in
-    let From : HeldNode g.row.D.Denot → Type 0 = λ h. Holds (state h.wal.store.disk) h n → Goes (state h.wal.store.disk)
-    (state after.wal.store.disk) after n (OfSlots n (map (acquired c.args.name.now c.args.session) n.slots) c.acquire.result) (SameLeft n) in
+    let From : HeldNode g.row.D.Denot → Type 0 = λ h. Holds (state h.wal.disk) h n → Goes (state h.wal.disk)
+    (state after.wal.disk) after n (OfSlots n (map (acquired c.args.name.now c.args.session) n.slots) c.acquire.result) (SameLeft n) in
     subst From c.self.view_is (λ holds.
-    answered c.acquire.result (state before.wal.store.disk) before after n (λ slots. map (acquired c.args.name.now c.args.session) slots)
-    (g.met.D.Disk.only_now before.wal.store.disk) holds refl c.acquire.ensures.done c.acquire.ensures.refused)
+    answered c.acquire.result (state before.wal.disk) before after n (λ slots. map (acquired c.args.name.now c.args.session) slots)
+    (g.met.D.Disk.only_now before.wal.disk) holds refl c.acquire.ensures.done c.acquire.ensures.refused)

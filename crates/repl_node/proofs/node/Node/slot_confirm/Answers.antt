@@ -12,8 +12,8 @@ returns-clause-steps g c n =
     let state = g.D.Disk.state in
     let before : HeldNode g.row.D.Denot = record { wal = c.self.inside.wal; slots = c.self.inside.slots } in
     let after : HeldNode g.row.D.Denot = record { wal = c.self.inside.wal; slots = c.confirm.new.self } in
-    let From : HeldNode g.row.D.Denot → Type 0 = λ h. Holds (state h.wal.store.disk) h n → Goes (state h.wal.store.disk)
-    (state after.wal.store.disk) after n (λ m. m ≡ with_slots n (map (confirmed c.args.session c.args.at) n.slots)) (SameLeft n) in
+    let From : HeldNode g.row.D.Denot → Type 0 = λ h. Holds (state h.wal.disk) h n → Goes (state h.wal.disk)
+    (state after.wal.disk) after n (λ m. m ≡ with_slots n (map (confirmed c.args.session c.args.at) n.slots)) (SameLeft n) in
     subst From c.self.view_is (λ holds.
-    changed (state before.wal.store.disk) before after n (λ slots. map (confirmed c.args.session c.args.at) slots)
-    (g.met.D.Disk.only_now before.wal.store.disk) holds refl c.confirm.ensures)
+    changed (state before.wal.disk) before after n (λ slots. map (confirmed c.args.session c.args.at) slots)
+    (g.met.D.Disk.only_now before.wal.disk) holds refl c.confirm.ensures)

@@ -18,7 +18,7 @@ returns-in-Ok-clause-steps g c n =
     let before : HeldNode g.row.D.Denot = record { wal = c.self.inside.wal; slots = c.self.inside.slots } in
     let disk = c.save.new.disk in
     let After : HeldNode g.row.D.Denot = record { wal = with_disk c.self.inside.wal disk; slots = c.save.new.self } in
-    let From : HeldNode g.row.D.Denot → Type 0 = λ h. Holds (state h.wal.store.disk) h n → Goes (state h.wal.store.disk) (state disk) After n
+    let From : HeldNode g.row.D.Denot → Type 0 = λ h. Holds (state h.wal.disk) h n → Goes (state h.wal.disk) (state disk) After n
     (Saves {A = Unit {0}} n (Ok tt)) (SaveLeaves n) in
     subst From c.self.view_is (λ holds.
     let sound = not_so c.is_broken.result n.log.broken (c.is_broken.ensures n.log holds.log.remembers) c.if-is_broken.false in
@@ -39,8 +39,8 @@ returns-in-Err-clause-steps g c n =
     let disk = c.save.new.disk in
     let wal = c.stop.new.wal in
     let After : HeldNode g.row.D.Denot = record { wal = wal; slots = c.save.new.self } in
-    let Ends : HeldNode g.row.D.Denot → SlotFault → Type 0 = λ h e. Holds (state h.wal.store.disk) h n → Goes (state h.wal.store.disk)
-    (state wal.store.disk) After n (Saves {A = Unit {0}} n (Err e)) (SaveLeaves n) in
+    let Ends : HeldNode g.row.D.Denot → SlotFault → Type 0 = λ h e. Holds (state h.wal.disk) h n → Goes (state h.wal.disk)
+    (state wal.disk) After n (Saves {A = Unit {0}} n (Err e)) (SaveLeaves n) in
     let here : Ends before f = λ holds.
     let sound = not_so c.is_broken.result n.log.broken (c.is_broken.ensures n.log holds.log.remembers) c.if-is_broken.false in
     let is = c.in-Err.ensures in
@@ -48,7 +48,7 @@ returns-in-Err-clause-steps g c n =
     let value = c.disk_mut.ensures.value in
     let only = only_slots lent (state disk) (file_of before.slots.slots) (Err f) (λ t image le may. g.met.D.Disk.counts_now disk t image le may)
     is.any_moment tt is.half_done in
-    subst (λ d. Goes (state d) (state wal.store.disk) After n (Saves {A = Unit {0}} n (Err f)) (SaveLeaves n)) value
+    subst (λ d. Goes (state d) (state wal.disk) After n (Saves {A = Unit {0}} n (Err f)) (SaveLeaves n)) value
     (subst (λ d. Goes lent (state d) After n (Saves {A = Unit {0}} n (Err f)) (SaveLeaves n)) (sym c.stop.ensures.disk)
     (refused_goes lent (state disk) before disk n (subst (λ d. Holds (state d) before n) (sym value) holds) only is.stored sound f wal
     (λ failed. c.stop.ensures.stopped failed n.log holds.log.remembers sound) c.stop.ensures.others c.save.new.self is.answer
