@@ -27,3 +27,5 @@ pub mod Quieting
 pub mod Falling
 -- calls of a pass
 pub mod Calling
+-- which of them complete a commit
+pub mod Completing

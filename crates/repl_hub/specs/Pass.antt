@@ -71,9 +71,33 @@ abbrev pub made_by : ℕ → List Call → List Made
 made_by by calls = map (λ (c : Call). entry by c.event c.reply) calls
 
 -- The pass made these, in this order, and no other.
-pub record Calls (opening : HubView) (p : Passed) (calls : List Call) (q : Passed) : Type 0 where
+pub record Makes (opening : HubView) (p : Passed) (calls : List Call) (q : Passed) : Type 0 where
   pub more : List Made
   pub seen : q.seen ≡ p.seen ++ more
   pub made : mine q ≡ mine p ++ made_by (number p) calls
   pub numbers : q.numbers ≡ p.numbers
   pub legal : IsLegal opening p.seen → IsLegal opening q.seen
+
+-- ---- what a pass tells, where its hub tells in which state it began
+
+module _ {P : Type 0} (opened : P → HubView → Type 0) where
+  -- the hub of both passes began in the same state
+  abbrev pub Stays : P → P → Type 0
+  Stays p q = (h : HubView) → opened p h → opened q h
+
+module _ {P : Type 0} (opened : P → HubView → Type 0) (known : P → Passed) where
+  -- the pass makes one event
+  abbrev pub Asks : P → HubEvent → HubReply → P → Type 0
+  Asks p event reply q = (h : HubView) → opened p h → Acts h (known p) event reply (known q)
+
+  -- the pass sees events of others
+  abbrev pub Sees : P → P → Type 0
+  Sees p q = (h : HubView) → opened p h → Watches h (known p) (known q)
+
+  -- the pass makes these events
+  abbrev pub MakesThese : P → List Call → P → Type 0
+  MakesThese p calls q = (h : HubView) → opened p h → Makes h (known p) calls (known q)
+
+  -- it makes events of which this holds, and no other
+  abbrev pub MakesSome : P → (List Call → Type 0) → P → Type 0
+  MakesSome p Are q = (calls : List Call) × Are calls × MakesThese p calls q

@@ -1,6 +1,5 @@
 //! Events as calls, each with the value that is replied.
-ghost use Rattle.repl_hub.specs.Pass.{Acts};
-ghost use Rattle.repl_hub.specs.State.{HubView};
+ghost use Rattle.repl_hub.specs.Pass.{Asks, Stays};
 ghost use Rattle.repl_hub.specs.declared.event.HubEvent.TheVariants as event;
 ghost use Rattle.repl_hub.specs.declared.reply.HubReply.TheVariants as reply;
 
@@ -18,8 +17,8 @@ use std::sync::Wait;
 pub fn prepare<H: Hub, R: Wait>(rt: &R, hub: &H, pass: &mut H::Pass) -> Result<u64, SyncFault>
     requires { H.of hub.now pass.old }
     ensures of { H.of hub.now pass.new }
-    ensures opened { (h : HubView) → H.opened pass.old h → H.opened pass.new h }
-    ensures asked { (h : HubView) → H.opened pass.old h → Acts h (H.known pass.old) event.Prepare (reply.Prepare result) (H.known pass.new) }
+    ensures opened { Stays H.opened pass.old pass.new }
+    ensures asked { Asks H.opened H.known pass.old event.Prepare (reply.Prepare result) pass.new }
 {
     match hub.act(rt, pass, HubEvent::Prepare) {
         HubReply::Prepare(result) => result,
@@ -36,8 +35,8 @@ pub fn append<H: Hub, R: Wait>(
 ) -> Result<Lsn, NodeFault>
     requires { H.of hub.now pass.old }
     ensures of { H.of hub.now pass.new }
-    ensures opened { (h : HubView) → H.opened pass.old h → H.opened pass.new h }
-    ensures asked { (h : HubView) → H.opened pass.old h → Acts h (H.known pass.old) (event.Append item) (reply.Append result) (H.known pass.new) }
+    ensures opened { Stays H.opened pass.old pass.new }
+    ensures asked { Asks H.opened H.known pass.old (event.Append item) (reply.Append result) pass.new }
 {
     match hub.act(rt, pass, HubEvent::Append(item)) {
         HubReply::Append(result) => result,
@@ -49,8 +48,8 @@ pub fn append<H: Hub, R: Wait>(
 pub fn flush<H: Hub, R: Wait>(rt: &R, hub: &H, pass: &mut H::Pass) -> Result<Lsn, NodeFault>
     requires { H.of hub.now pass.old }
     ensures of { H.of hub.now pass.new }
-    ensures opened { (h : HubView) → H.opened pass.old h → H.opened pass.new h }
-    ensures asked { (h : HubView) → H.opened pass.old h → Acts h (H.known pass.old) event.Flush (reply.Flush result) (H.known pass.new) }
+    ensures opened { Stays H.opened pass.old pass.new }
+    ensures asked { Asks H.opened H.known pass.old event.Flush (reply.Flush result) pass.new }
 {
     match hub.act(rt, pass, HubEvent::Flush) {
         HubReply::Flush(result) => result,
@@ -69,8 +68,8 @@ pub fn wait<H: Hub, R: Wait>(
 ) -> Result<(), WaitFault>
     requires { H.of hub.now pass.old }
     ensures of { H.of hub.now pass.new }
-    ensures opened { (h : HubView) → H.opened pass.old h → H.opened pass.new h }
-    ensures asked { (h : HubView) → H.opened pass.old h → Acts h (H.known pass.old) (event.Wait ticket end mode) (reply.Wait result) (H.known pass.new) }
+    ensures opened { Stays H.opened pass.old pass.new }
+    ensures asked { Asks H.opened H.known pass.old (event.Wait ticket end mode) (reply.Wait result) pass.new }
 {
     match hub.act(rt, pass, HubEvent::Wait { ticket, end, mode }) {
         HubReply::Wait(result) => result,
@@ -82,8 +81,8 @@ pub fn wait<H: Hub, R: Wait>(
 pub fn look<H: Hub, R: Wait>(rt: &R, hub: &H, pass: &mut H::Pass, ticket: u64) -> Look
     requires { H.of hub.now pass.old }
     ensures of { H.of hub.now pass.new }
-    ensures opened { (h : HubView) → H.opened pass.old h → H.opened pass.new h }
-    ensures asked { (h : HubView) → H.opened pass.old h → Acts h (H.known pass.old) (event.Look ticket) (reply.Look result) (H.known pass.new) }
+    ensures opened { Stays H.opened pass.old pass.new }
+    ensures asked { Asks H.opened H.known pass.old (event.Look ticket) (reply.Look result) pass.new }
 {
     match hub.act(rt, pass, HubEvent::Look(ticket)) {
         HubReply::Look(result) => result,
@@ -100,8 +99,8 @@ pub fn cancel<H: Hub, R: Wait>(
 ) -> Result<(), SyncFault>
     requires { H.of hub.now pass.old }
     ensures of { H.of hub.now pass.new }
-    ensures opened { (h : HubView) → H.opened pass.old h → H.opened pass.new h }
-    ensures asked { (h : HubView) → H.opened pass.old h → Acts h (H.known pass.old) (event.Cancel ticket) (reply.Cancel result) (H.known pass.new) }
+    ensures opened { Stays H.opened pass.old pass.new }
+    ensures asked { Asks H.opened H.known pass.old (event.Cancel ticket) (reply.Cancel result) pass.new }
 {
     match hub.act(rt, pass, HubEvent::Cancel(ticket)) {
         HubReply::Cancel(result) => result,

@@ -1,8 +1,8 @@
 //! A commit, as events of a hub.
-ghost use Rattle.std.specs.Prelude.{◌≡◌, List, Err};
-ghost use Rattle.repl_hub.specs.Commit.{AreLooks, Commit, IsAdding, IsFlushing, IsGivenUp, IsWaitingFor, looked, of_node, of_prepare};
-ghost use Rattle.repl_hub.specs.Pass.{Call, Calls};
-ghost use Rattle.repl_hub.specs.State.{HubView};
+ghost use Rattle.std.specs.Prelude.{◌≡◌, ℕ, [], ◌∷◌, true, Some, Ok, Err};
+ghost use Rattle.repl_hub.specs.Commit.{AreBack, AreLooks, Commit, Completes, append_call, flush_call, looked, of_node, of_prepare};
+ghost use Rattle.repl_hub.specs.Pass.{MakesSome, Stays};
+ghost use Rattle.repl_record.specs.declared.record.RecordIn.{RecordIn};
 
 use crate::asking::{append, cancel, flush, look, prepare, wait};
 use crate::pass::Hub;
@@ -70,9 +70,8 @@ pub fn commit_on<H: Hub, R: Wait>(
 ) -> Result<Acked, CommitFault>
     requires { H.of hub.now pass.old }
     ensures of { H.of hub.now pass.new }
-    ensures opened { (h : HubView) → H.opened pass.old h → H.opened pass.new h }
-    ensures commits { (calls : List Call) × Commit item setting calls result
-        × ((h : HubView) → H.opened pass.old h → Calls h (H.known pass.old) calls (H.known pass.new)) }
+    ensures opened { Stays H.opened pass.old pass.new }
+    ensures commits { MakesSome H.opened H.known pass.old (λ calls. Commit item setting calls result) pass.new }
 {
     let flushes = !matches!(setting, Setting::Off);
     match setting.mode() {
@@ -95,9 +94,8 @@ fn add<H: Hub, R: Wait>(
 ) -> Result<Acked, CommitFault>
     requires { H.of hub.now pass.old }
     ensures of { H.of hub.now pass.new }
-    ensures opened { (h : HubView) → H.opened pass.old h → H.opened pass.new h }
-    ensures adds { (calls : List Call) × IsAdding waiter flushes item calls result
-        × ((h : HubView) → H.opened pass.old h → Calls h (H.known pass.old) calls (H.known pass.new)) }
+    ensures opened { Stays H.opened pass.old pass.new }
+    ensures adds { MakesSome H.opened H.known pass.old (Completes waiter flushes item [] result) pass.new }
 {
     match append(rt, hub, pass, item) {
         Ok(end) => {
@@ -121,9 +119,8 @@ fn flush_up_to<H: Hub, R: Wait>(
 ) -> Result<Acked, CommitFault>
     requires { H.of hub.now pass.old }
     ensures of { H.of hub.now pass.new }
-    ensures opened { (h : HubView) → H.opened pass.old h → H.opened pass.new h }
-    ensures added { (calls : List Call) × IsFlushing waiter end calls result
-        × ((h : HubView) → H.opened pass.old h → Calls h (H.known pass.old) calls (H.known pass.new)) }
+    ensures opened { Stays H.opened pass.old pass.new }
+    ensures added { MakesSome H.opened H.known pass.old (λ calls. (item : RecordIn) → Completes waiter true item (append_call item (Ok end) ∷ []) result calls) pass.new }
 {
     match flush(rt, hub, pass) {
         Ok(_) => match waiter {
@@ -144,9 +141,9 @@ fn await_standbys<H: Hub, R: Wait>(
 ) -> Result<Acked, CommitFault>
     requires { H.of hub.now pass.old }
     ensures of { H.of hub.now pass.new }
-    ensures opened { (h : HubView) → H.opened pass.old h → H.opened pass.new h }
-    ensures waits { (calls : List Call) × IsWaitingFor waiter end calls result
-        × ((h : HubView) → H.opened pass.old h → Calls h (H.known pass.old) calls (H.known pass.new)) }
+    ensures opened { Stays H.opened pass.old pass.new }
+    ensures waits { MakesSome H.opened H.known pass.old (λ calls. (item : RecordIn) (flushed : ℕ) →
+        Completes (Some waiter) true item (append_call item (Ok end) ∷ flush_call (Ok flushed) ∷ []) result calls) pass.new }
 {
     match wait(rt, hub, pass, waiter.ticket, end, waiter.mode) {
         Ok(()) => looked(end, look_on(rt, hub, pass, waiter.ticket)),
@@ -159,9 +156,8 @@ fn await_standbys<H: Hub, R: Wait>(
 fn look_on<H: Hub, R: Wait>(rt: &R, hub: &H, pass: &mut H::Pass, ticket: u64) -> Look
     requires { H.of hub.now pass.old }
     ensures of { H.of hub.now pass.new }
-    ensures opened { (h : HubView) → H.opened pass.old h → H.opened pass.new h }
-    ensures looks { (calls : List Call) × AreLooks ticket result calls
-        × ((h : HubView) → H.opened pass.old h → Calls h (H.known pass.old) calls (H.known pass.new)) }
+    ensures opened { Stays H.opened pass.old pass.new }
+    ensures looks { MakesSome H.opened H.known pass.old (AreLooks ticket result) pass.new }
 {
     for _ in rt.forever() {
         match look(rt, hub, pass, ticket) {
@@ -184,10 +180,9 @@ fn give_up<H: Hub, R: Wait>(
 ) -> Result<Acked, CommitFault>
     requires { H.of hub.now pass.old }
     ensures of { H.of hub.now pass.new }
-    ensures opened { (h : HubView) → H.opened pass.old h → H.opened pass.new h }
+    ensures opened { Stays H.opened pass.old pass.new }
     ensures answer { result ≡ Err (of_node fault) }
-    ensures gives_up { (calls : List Call) × IsGivenUp waiter calls
-        × ((h : HubView) → H.opened pass.old h → Calls h (H.known pass.old) calls (H.known pass.new)) }
+    ensures gives_up { MakesSome H.opened H.known pass.old (AreBack waiter) pass.new }
 {
     if let Some(waiter) = waiter {
         let _ = cancel(rt, hub, pass, waiter.ticket);

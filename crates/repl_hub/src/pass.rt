@@ -1,5 +1,5 @@
 //! What sessions stand on.
-ghost use Rattle.repl_hub.specs.Pass.{Acts, CanReply, Passed, Watches};
+ghost use Rattle.repl_hub.specs.Pass.{Asks, CanReply, Passed, Sees, Stays};
 ghost use Rattle.repl_hub.specs.State.{HubView};
 
 use crate::event::HubEvent;
@@ -27,13 +27,13 @@ pub trait Hub {
         requires { of self.now pass.old }
         ensures of { of self.now pass.new }
         ensures replies { CanReply event result }
-        ensures opened { (h : HubView) → opened pass.old h → opened pass.new h }
-        ensures acts { (h : HubView) → opened pass.old h → Acts h (known pass.old) event result (known pass.new) };
+        ensures opened { Stays opened pass.old pass.new }
+        ensures acts { Asks opened known pass.old event result pass.new };
 
     /// Waits until an event was made that the pass has not seen. Where nobody else makes any it comes back at once.
     fn wait_for_change<R: Wait>(&self, rt: &R, pass: &mut Self::Pass)
         requires { of self.now pass.old }
         ensures of { of self.now pass.new }
-        ensures opened { (h : HubView) → opened pass.old h → opened pass.new h }
-        ensures watches { (h : HubView) → opened pass.old h → Watches h (known pass.old) (known pass.new) };
+        ensures opened { Stays opened pass.old pass.new }
+        ensures watches { Sees opened known pass.old pass.new };
 }

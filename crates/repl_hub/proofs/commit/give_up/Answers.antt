@@ -1,14 +1,17 @@
 -- The ticket is cancelled, where there is one.
-use Rattle.std.proofs.Common.{sym, subst}
-use Rattle.repl_hub.specs.Commit.{IsGivenUp}
-use Rattle.repl_hub.proofs.Calling.{CallsFor, hands_back, hands_nothing_back}
+use Rattle.std.proofs.Common.{refl, sym, subst}
+use Rattle.repl_hub.specs.Commit.{AreBack}
+use Rattle.repl_hub.specs.Pass.{MakesSome}
+use Rattle.repl_hub.proofs.Calling.{by_none, by_one}
 use Rattle.repl_hub.proofs.commit.give_up.Goals as goal
 use Rattle.repl_hub.proofs.commit.give_up.Goals.{in-Some, in_default}
 
 pub returns-clause-gives_up : goal.returns-clause-gives_up
 returns-clause-gives_up g c = elim c.match-waiter.branch [
-  | in-Some w ↦ subst (λ q. CallsFor g.H.Hub.opened g.H.Hub.known c.args.pass.now (IsGivenUp c.args.waiter) q) (sym w.pass-is)
-      (hands_back g.H.Hub.opened g.H.Hub.known _ _ _ _ _ w.in-Some.is w.cancel.ensures.asked)
-  | in_default w ↦ subst (λ q. CallsFor g.H.Hub.opened g.H.Hub.known c.args.pass.now (IsGivenUp c.args.waiter) q) (sym w.pass-is)
-      (hands_nothing_back g.H.Hub.opened g.H.Hub.known _ _ w.in_default.is)
+  | in-Some w ↦ subst (λ q. MakesSome g.H.Hub.opened g.H.Hub.known c.args.pass.now (AreBack c.args.waiter) q) (sym w.pass-is)
+      (subst (λ v. MakesSome g.H.Hub.opened g.H.Hub.known c.args.pass.now (AreBack v) w.cancel.new.pass) (sym w.in-Some.is)
+      (by_one g.H.Hub.opened g.H.Hub.known _ _ _ _ _ w.cancel.ensures.asked (_, refl)))
+  | in_default w ↦ subst (λ q. MakesSome g.H.Hub.opened g.H.Hub.known c.args.pass.now (AreBack c.args.waiter) q) (sym w.pass-is)
+      (subst (λ v. MakesSome g.H.Hub.opened g.H.Hub.known c.args.pass.now (AreBack v) c.args.pass.now) (sym w.in_default.is)
+      (by_none g.H.Hub.opened g.H.Hub.known _ _ refl))
 ]

@@ -1,9 +1,9 @@
 -- Looks that are not answered yet, and then one that is.
-use Rattle.repl_hub.proofs.Calling.{AreNotYet, by_none, looks_again, looks_last}
+use Rattle.repl_hub.proofs.Calling.{looks_again, looks_last, no_look}
 use Rattle.repl_hub.proofs.commit.look_on.Goals as goal
 
 pub loop-init : goal.loop-init
-loop-init g c = (c.requires, λ h o. o, by_none g.H.Hub.opened g.H.Hub.known _ (AreNotYet c.args.ticket) tt)
+loop-init g c = (c.requires, λ h o. o, no_look g.H.Hub.opened g.H.Hub.known _ c.args.ticket)
 
 pub look-requires : goal.look-requires
 look-requires g c = c.loop.invariant.0
