@@ -196,7 +196,6 @@ err_caused A B e old new caused = record {
   ok = tt;
   failed = λ is. caused.failed (other_err A B e fault.DiskFault is);
   no_memory = λ is. caused.no_memory (other_err A B e fault.Memory is);
-  answers = caused.answers;
 }
 
 pub err_breaks : (A B : Type 0) (e : StoreFault) (old new : Bool) → Breaks (err_of A e) old new → Breaks (err_of B e) old new
@@ -227,6 +226,9 @@ ok_comes A x old now head s far = record {
   no_memory = λ is. absurd cc;
   failed = λ is. absurd cc;
 }
+
+pub ok_caused : (A B : Type 0) (x : A) (y : B) (old new : DiskState) → IsCaused (ok_of A x) old new → IsCaused (ok_of B y) old new
+ok_caused A B x y old new caused = record { ok = caused.ok; failed = λ is. absurd cc; no_memory = λ is. absurd cc }
 
 pub ok_breaks : (A B : Type 0) (x : A) (y : B) (old new : Bool) → Breaks (ok_of A x) old new → Breaks (ok_of B y) old new
 ok_breaks A B x y old new breaks = (

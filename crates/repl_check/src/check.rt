@@ -1,6 +1,6 @@
 //! The log of a store, judged as it stands on its disk.
 ghost use Rattle.std.specs.Prelude.{◌≡◌, ◌↔◌, true, Err, IsOk, OnOk};
-ghost use Rattle.repl_store.specs.Backing.{Backs, Before, Breaks, Comes, IsAnswer, IsCaused, State};
+ghost use Rattle.repl_store.specs.Backing.{Backs, Before, Breaks, Comes, IsCaused, State};
 ghost use Rattle.repl_check.specs.declared.check.CheckFault.TheVariants as CheckFault;
 ghost use Rattle.repl_check.specs.declared.flaw.Flaw.{Flaw};
 ghost use Rattle.repl_check.specs.Found.{LogFits, LogHas, read_of, told};
@@ -74,11 +74,11 @@ fn fault_of_flaw(flaw: Flaw) -> CheckFault
 
 /// What is answered where the log could not be read.
 fn fault_of_store(fault: StoreFault) -> CheckFault
-    ensures { IsAnswer fault → read_of (Err result) ≡ Err fault }
+    ensures { read_of (Err result) ≡ Err fault }
 {
     match fault {
         StoreFault::Broken => CheckFault::Broken,
+        StoreFault::DiskFault => CheckFault::DiskFault,
         StoreFault::Memory => CheckFault::Memory,
-        _ => CheckFault::DiskFault,
     }
 }

@@ -1,5 +1,5 @@
 -- What reads make of the source, one after the other.
-use Rattle.std.proofs.Common.{◌≡◌, ◌≢◌, ◌⊎◌, ℕ, Bool, true, false, Result, Ok, Err, OnOk, refl, sym, ◌∙◌, ap, subst, inl, inr, ⊎_elim, arith}
+use Rattle.std.proofs.Common.{◌≡◌, ◌≢◌, ◌⊎◌, ℕ, Bool, true, false, Result, Ok, Err, OnOk, refl, sym, ◌∙◌, subst, inl, inr, ⊎_elim, arith}
 use Rattle.std.proofs.lemmas.Bool.{false_from_ne_true}
 use Rattle.repl_clone.specs.Causes.{BreaksSource, FromSource, IsOfSource, Lasts, of_store}
 use Rattle.repl_clone.specs.declared.fault.CopyFault.{CopyFault}
@@ -128,44 +128,26 @@ module _ (old new : DiskState) (head later : Head) (was broken : Bool) (same : l
         };
   }
 
-  pub read_failed : (e : StoreFault) → e ≢ store.Memory → IsCaused {A = Unit {0}} (Err e) old new → Breaks {A = Unit {0}} (Err e) was broken
-      → (of_a_store (Err e) ≡ of_a_store (Err store.Broken) → was ≡ true) → Words (Err e) → FromSource {A = Unit {0}} (Err fault.SourceFault) old new head later was broken
-  read_failed e other cause broke unsound comes = record {
+  -- the source was broken, or its disk failed
+  pub read_failed : (e : StoreFault) → (was ≡ true) ⊎ (of_a_store (Err e) ≡ of_a_store (Err store.DiskFault))
+      → IsCaused {A = Unit {0}} (Err e) old new → Breaks {A = Unit {0}} (Err e) was broken → Words (Err e)
+      → FromSource {A = Unit {0}} (Err fault.SourceFault) old new head later was broken
+  read_failed e why cause broke comes = record {
     head_stays = same;
-    breaks = (
-      λ is. inr refl,
-      λ either. ⊎_elim (λ (b : was ≡ true). broke.1 (inl b))
-          (λ (s : of_a_copy (Err fault.SourceFault) ≡ of_a_copy (Err fault.SourceFault)). ⊎_elim (λ (b : e ≡ store.Broken). broke.1 (inl (unsound (ap (λ f. of_a_store (Err f)) b))))
-          (λ (rest : (e ≡ store.DiskFault) ⊎ (e ≡ store.Memory)). ⊎_elim (λ (d : e ≡ store.DiskFault). broke.1 (inr (ap (λ f. of_a_store (Err f)) d)))
-          (λ (m : e ≡ store.Memory). absurd (other m)) rest) cause.answers) either,
-    );
+    breaks = (λ is. inr refl, λ either. broke.1 why);
     caused = record {
       ok = tt;
-      failed = λ is. ⊎_elim (λ (b : e ≡ store.Broken). inl (unsound (ap (λ f. of_a_store (Err f)) b)))
-          (λ (rest : (e ≡ store.DiskFault) ⊎ (e ≡ store.Memory)). ⊎_elim (λ (d : e ≡ store.DiskFault). inr (cause.failed (ap (λ f. of_a_store (Err f)) d)))
-          (λ (m : e ≡ store.Memory). absurd (other m)) rest) cause.answers;
+      failed = λ is. ⊎_elim (λ (b : was ≡ true). inl b)
+          (λ (d : of_a_store (Err e) ≡ of_a_store (Err store.DiskFault)). inr (cause.failed d)) why;
       others = λ differs. absurd (differs refl);
     };
     apart = apart;
     lasts = λ s backs. record { moments = moments (Err e) s (comes s backs); backs = λ differs. absurd (differs refl) };
   }
 
-  -- in the words of this crate
-  record Facts (e : StoreFault) : Type 0 where
-    cause : IsCaused {A = Unit {0}} (Err e) old new
-    broke : Breaks {A = Unit {0}} (Err e) was broken
-    unsound : of_a_store (Err e) ≡ of_a_store (Err store.Broken) → was ≡ true
-    comes : Words (Err e)
-
   pub read_refused : (e : StoreFault) → IsCaused {A = Unit {0}} (Err e) old new → Breaks {A = Unit {0}} (Err e) was broken
       → (of_a_store (Err e) ≡ of_a_store (Err store.Broken) → was ≡ true) → Words (Err e)
       → FromSource {A = Unit {0}} (Err (of_store e)) old new head later was broken
-  read_refused e cause broke unsound comes =
-      let P : CopyFault → Type 0 = λ f. FromSource {A = Unit {0}} (Err f) old new head later was broken in
-      let failed : (e ≢ store.Memory) → of_store e ≡ fault.SourceFault → P (of_store e) = λ other is.
-      subst P (sym is) (read_failed e other cause broke unsound comes) in
-      ⊎_elim (λ (b : e ≡ store.Broken). failed (λ m. absurd cc) (ap of_store b))
-      (λ (rest : (e ≡ store.DiskFault) ⊎ (e ≡ store.Memory)). ⊎_elim (λ (d : e ≡ store.DiskFault). failed (λ m. absurd cc) (ap of_store d))
-      (λ (m : e ≡ store.Memory).
-      let facts = subst Facts m (record { cause = cause; broke = broke; unsound = unsound; comes = comes }) in
-      subst P (sym (ap of_store m)) (read_wanted facts.cause facts.broke facts.comes)) rest) cause.answers
+  read_refused store.Broken cause broke unsound comes = read_failed store.Broken (inl (unsound refl)) cause broke comes
+  read_refused store.DiskFault cause broke unsound comes = read_failed store.DiskFault (inr refl) cause broke comes
+  read_refused store.Memory cause broke unsound comes = read_wanted cause broke comes

@@ -56,8 +56,9 @@ fault_of error.Memory = fault.Memory
 
 -- and one of the source, which is no fault where memory was wanting
 abbrev pub of_store : StoreFault → CopyFault
+of_store store.Broken = fault.SourceFault
+of_store store.DiskFault = fault.SourceFault
 of_store store.Memory = fault.Memory
-of_store other = fault.SourceFault
 
 -- and one to write the text of a history
 abbrev pub of_history : HistoryFault → CopyFault

@@ -50,7 +50,7 @@ pub(crate) fn of_store(fault: StoreFault) -> CopyFault
 {
     match fault {
         StoreFault::Memory => CopyFault::Memory,
-        _ => CopyFault::SourceFault,
+        StoreFault::Broken | StoreFault::DiskFault => CopyFault::SourceFault,
     }
 }
 

@@ -1,5 +1,6 @@
 -- What a copy leaves of its source.
 use Rattle.std.proofs.Common.{◌≡◌, true, false, List, Result, IfErr, ◌⊎◌, inl, inr, ⊎_elim, refl, sym, ap, ◌∙◌}
+use Rattle.repl_clone.specs.declared.fault.CopyFault.TheVariants as copy
 use Rattle.repl_disk.specs.Moments.{weakened}
 use Rattle.repl_disk.specs.State.{DiskState}
 use Rattle.repl_slots.specs.Slot.{SlotList}
@@ -10,8 +11,8 @@ use Rattle.repl_store.specs.Durable.{Durable, StandsFor}
 use Rattle.repl_wal.specs.Cloning.{LeavesSource}
 use Rattle.repl_wal.specs.State.{LogState, breaking}
 use Rattle.repl_wal.specs.Steps.{Old}
-use Rattle.repl_wal.specs.declared.fault.NodeFault.{NodeFault}
-use Rattle.repl_wal.specs.declared.fault.NodeFault.TheVariants as fault
+use Rattle.repl_wal.specs.declared.fault.CloneFault.{CloneFault}
+use Rattle.repl_wal.specs.declared.fault.CloneFault.TheVariants as fault
 use Rattle.repl_node.specs.Cloning.{LeavesNode}
 use Rattle.repl_node.specs.Holding.{HeldNode, Holds}
 use Rattle.repl_node.specs.State.{NodeState, with_log}
@@ -24,12 +25,12 @@ log_of : (n : NodeState) (log : LogState) (P : Type 0) → (log ≡ n.log) ⊎ (
 log_of n log P (inl is) = (ap (λ (l : LogState). l.told) is, λ sound. sym (ap (λ (l : LogState). l.broken) is) ∙ sound)
 log_of n log P (inr (is, was, because)) = (ap (λ (l : LogState). l.told) is, λ sound. was)
 
-pub source_left : {A B D E : Type 0} (first : Result A (NodeFault × D)) (result : Result B (NodeFault × D)) (old new : DiskState)
+pub source_left : {A B D E : Type 0} (first : Result A (CloneFault × D)) (result : Result B (CloneFault × D)) (old new : DiskState)
     (before after : HeldNode E) (n : NodeState)
-    → (IfErr first (λ e. e.0 ≡ fault.SourceFault) → IfErr result (λ e. e.0 ≡ fault.SourceFault)) → Holds old before n → StaysApart old new
+    → (IfErr first (λ e. e.0 ≡ fault.Copy copy.SourceFault) → IfErr result (λ e. e.0 ≡ fault.Copy copy.SourceFault)) → Holds old before n → StaysApart old new
     → after.slots ≡ before.slots → LeavesSource first old new after.wal.log n.log → LeavesNode result old new after n
 source_left first result old new before after n because holds apart same source =
-    let keeps = log_of n source.next (IfErr first (λ e. e.0 ≡ fault.SourceFault)) source.is in
+    let keeps = log_of n source.next (IfErr first (λ e. e.0 ≡ fault.Copy copy.SourceFault)) source.is in
     record {
       next = with_log n source.next;
       is = ⊎_elim (λ is. inl (ap (with_log n) is)) (λ is. inr (ap (with_log n) is.0, is.1, because is.2)) source.is;

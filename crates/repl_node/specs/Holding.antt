@@ -88,12 +88,12 @@ IsIdle result old new = result ≡ Err fault.Broken → SameDisk old new
 -- ---- calls that make a node of a disk, or give the disk back
 
 -- what they answer
-abbrev pub answer_of : {A D : Type 0} → Result A (NodeFault × D) → Result A NodeFault
+abbrev pub answer_of : {A E D : Type 0} → Result A (E × D) → Result A E
 answer_of (Ok node) = Ok node
 answer_of (Err e) = Err e.0
 
 -- and the disk then
-abbrev pub disk_after : {D : Type 0} → Result (HeldNode D) (NodeFault × D) → D
+abbrev pub disk_after : {E D : Type 0} → Result (HeldNode D) (E × D) → D
 disk_after (Ok node) = disk_of node
 disk_after (Err e) = e.1
 

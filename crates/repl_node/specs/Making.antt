@@ -13,12 +13,11 @@ use Rattle.repl_page.specs.declared.ident.Ident.{Ident}
 use Rattle.repl_store.specs.Creating.{fresh}
 use Rattle.repl_store.specs.Durable.{Durable, StandsFor, control_aside, control_name}
 use Rattle.repl_store.specs.Refusal.{HasControl, IsRefusal}
-use Rattle.repl_store.specs.declared.fault.StoreFault.{StoreFault}
-use Rattle.repl_store.specs.declared.fault.StoreFault.TheVariants as store
-use Rattle.repl_wal.specs.Faults.{of_store}
-use Rattle.repl_wal.specs.Making.{IsMountRefusal, IsOfMount, mounted_log}
-use Rattle.repl_wal.specs.declared.fault.NodeFault.{NodeFault}
-use Rattle.repl_wal.specs.declared.fault.NodeFault.TheVariants as fault
+use Rattle.repl_store.specs.declared.fault.MountFault.{MountFault}
+use Rattle.repl_store.specs.declared.fault.MountFault.TheVariants as mount
+use Rattle.repl_wal.specs.Making.{IsMountRefusal, disk_fault, mounted_log}
+use Rattle.repl_wal.specs.declared.fault.OpenFault.{OpenFault}
+use Rattle.repl_wal.specs.declared.fault.OpenFault.TheVariants as fault
 use Rattle.repl_node.specs.Holding.{LeavesSome}
 use Rattle.repl_node.specs.State.{Left, NodeState}
 
@@ -27,47 +26,39 @@ abbrev pub mounted_node : ℕ → Durable → List Slot → NodeState
 mounted_node size d slots = record { log = mounted_log size d; slots = slots; saved = entries_of slots }
 
 -- a store is refused so before its slots are looked at
-abbrev pub IsBeforeSlots : StoreFault → Type 0
-IsBeforeSlots (store.Missing name) = name ≡ control_name
-IsBeforeSlots (store.BadControl place) = Unit {0}
-IsBeforeSlots store.DiskFault = Unit {0}
-IsBeforeSlots store.Memory = Unit {0}
+abbrev pub IsBeforeSlots : MountFault → Type 0
+IsBeforeSlots (mount.Missing name) = name ≡ control_name
+IsBeforeSlots (mount.BadControl place) = Unit {0}
+IsBeforeSlots mount.DiskFault = Unit {0}
+IsBeforeSlots mount.Memory = Unit {0}
 IsBeforeSlots e = ⊥
 
 -- the slots are wrong at this place, and the control is right
-abbrev pub AreBadSlots : ℕ → Folder → NodeFault → Type 0
-AreBadSlots size folder e = (place : ℕ) × (e ≡ fault.BadSlots place) × ((control : Control) × HasControl size folder control)
+abbrev pub AreBadSlots : ℕ → Folder → OpenFault → Type 0
+AreBadSlots size folder e = (place : ℕ) × (e ≡ fault.Slots place) × ((control : Control) × HasControl size folder control)
     × ((file : List ℕ) × (folder slots_name ≡ Some file) × FileStops file place)
 
 -- the control is wrong, or it is right and the slots are not; that a call of the disk failed, or memory was wanting, may come over
 -- any files
-abbrev pub IsFirstRefusal : ℕ → Folder → NodeFault → Type 0
-IsFirstRefusal size folder e = ((f : StoreFault) × (e ≡ of_store f) × IsBeforeSlots f × IsRefusal size folder f) ⊎ AreBadSlots size folder e
+abbrev pub IsFirstRefusal : ℕ → Folder → OpenFault → Type 0
+IsFirstRefusal size folder e = ((f : MountFault) × (e ≡ fault.Store f) × IsBeforeSlots f × IsRefusal size folder f) ⊎ AreBadSlots size folder e
 
 -- That; or both are right, and what follows is not: the history, the segments, or what is flushed past the whole end.
-abbrev pub IsNodeRefusal : ℕ → Folder → (Folder → Type 0) → NodeFault → Type 0
+abbrev pub IsNodeRefusal : ℕ → Folder → (Folder → Type 0) → OpenFault → Type 0
 IsNodeRefusal size folder leaves e = IsFirstRefusal size folder e
     ⊎ ((saved : List Entry) × Stores saved folder × IsMountRefusal size folder leaves e)
 
 -- a mount may answer so before it opens the log, over any files
-abbrev pub IsOfSlots : NodeFault → Type 0
-IsOfSlots (fault.Missing name) = Unit {0}
-IsOfSlots (fault.BadControl place) = Unit {0}
-IsOfSlots (fault.BadSlots place) = Unit {0}
-IsOfSlots fault.DiskFault = Unit {0}
-IsOfSlots fault.Memory = Unit {0}
-IsOfSlots e = ⊥
-
--- and so when it does
-abbrev pub IsOfNodeMount : NodeFault → Type 0
-IsOfNodeMount (fault.BadSlots place) = Unit {0}
-IsOfNodeMount e = IsOfMount e
+abbrev pub IsOfSlots : OpenFault → Type 0
+IsOfSlots (fault.Store f) = IsBeforeSlots f
+IsOfSlots (fault.Slots place) = Unit {0}
+IsOfSlots (fault.Log name at why) = ⊥
 
 -- Each failure of the disk is told, and none is told without one, or, where the disk does not tell its files, without a lack.
-pub record IsJudged {A : Type 0} (result : Result A NodeFault) (old new : DiskState) : Type 0 where
+pub record IsJudged {A : Type 0} (result : Result A OpenFault) (old new : DiskState) : Type 0 where
   pub ok : OnOk result (Stood old.faults new.faults × Stood old.wants new.wants)
-  pub failed : result ≡ Err fault.DiskFault → Rose old.faults new.faults ⊎ ((old.files ≡ None) × Rose old.lacks new.lacks)
-  pub others : IfErr result (λ e. (e ≡ fault.DiskFault) ⊎ Stood old.faults new.faults)
+  pub failed : result ≡ Err disk_fault → Rose old.faults new.faults ⊎ ((old.files ≡ None) × Rose old.lacks new.lacks)
+  pub others : IfErr result (λ e. (e ≡ disk_fault) ⊎ Stood old.faults new.faults)
 
 -- this log and these slots
 abbrev pub OnlyThese : Durable → List Entry → Left
@@ -75,10 +66,10 @@ OnlyThese log slots d saved = (d ≡ log) × (saved ≡ slots)
 
 -- Where a crash leaves nothing but what the files stand for, it only reads: a crash in it leaves that, and after it too, and a
 -- failure was counted as one.
-pub record OnlyOpensNode {A : Type 0} (result : Result A NodeFault) (old new : DiskState) (size : ℕ) (d : Durable) (saved : List Entry) : Type 0 where
+pub record OnlyOpensNode {A : Type 0} (result : Result A OpenFault) (old new : DiskState) (size : ℕ) (d : Durable) (saved : List Entry) : Type 0 where
   pub moments : LeavesSome old new size (OnlyThese d saved)
   pub now : (image : Folder) → new.may_leave image → StandsFor size image d × Stores saved image
-  pub failed : result ≡ Err fault.DiskFault → Rose old.faults new.faults
+  pub failed : result ≡ Err disk_fault → Rose old.faults new.faults
 
 -- ---- making
 

@@ -6,21 +6,21 @@ ghost use Rattle.repl_slots.specs.SlotFile.{IsMounted as IsMountedSlot, FileStop
 ghost use Rattle.repl_slots.specs.Stored.{Stores, slots_name};
 ghost use Rattle.repl_slots.specs.declared.fault.SlotFault.TheVariants as SlotFault;
 ghost use Rattle.repl_store.specs.Backing.{OnlyReads};
-ghost use Rattle.repl_wal.specs.Faults.{of_store};
-ghost use Rattle.repl_wal.specs.declared.fault.NodeFault.TheVariants as NodeFault;
+ghost use Rattle.repl_store.specs.declared.fault.MountFault.TheVariants as MountFault;
+ghost use Rattle.repl_wal.specs.declared.fault.OpenFault.TheVariants as OpenFault;
 ghost use Rattle.repl_node.specs.Holding.{disk_beside};
 ghost use Rattle.repl_node.specs.Making.{IsBeforeSlots, IsFirstRefusal, IsJudged, IsOfSlots};
 
 use repl_disk::Disk;
 use repl_slots::{SlotFault, Slots};
-use repl_store::{Store, StoreFault};
-use repl_wal::{NodeFault, of_store};
+use repl_store::{MountFault, Store};
+use repl_wal::OpenFault;
 use std::alloc::Global;
 
 /// The slots of a disk, once they are judged. Where they are wrong, the control is judged before them, and the first of both that
 /// is wrong is refused; where they are right, whoever mounts the log refuses a wrong control. Only reads. Takes memory for the
 /// slots.
-pub fn mount_slots<D: Disk>(alloc: Global, disk: D) -> Result<(Slots, D), (NodeFault, D)>
+pub fn mount_slots<D: Disk>(alloc: Global, disk: D) -> Result<(Slots, D), (OpenFault, D)>
     ensures slots { IfOk result (λ r. (r.0.broken ≡ false) × IfTold (D.state disk).files (λ folder.
         All IsMountedSlot r.0.slots × Stores (entries_of r.0.slots) folder)) }
     ensures refused { IfErr result (λ e. IfTold (D.state disk).files (λ folder. IsFirstRefusal VERSION_1_SIZE folder e.0)) }
@@ -38,18 +38,19 @@ pub fn mount_slots<D: Disk>(alloc: Global, disk: D) -> Result<(Slots, D), (NodeF
 }
 
 /// What it is to whoever mounts slots that they were not read: the disk failed, or memory was wanting.
-fn failure_of(fault: SlotFault) -> NodeFault
-    ensures { ((fault ≡ SlotFault.DiskFault) × (result ≡ NodeFault.DiskFault)) ⊎ ((fault ≢ SlotFault.DiskFault) × (result ≡ NodeFault.Memory)) }
+fn failure_of(fault: SlotFault) -> OpenFault
+    ensures { ((fault ≡ SlotFault.DiskFault) × (result ≡ OpenFault.Store MountFault.DiskFault))
+        ⊎ ((fault ≢ SlotFault.DiskFault) × (result ≡ OpenFault.Store MountFault.Memory)) }
 {
     if fault == SlotFault::DiskFault {
-        NodeFault::DiskFault
+        OpenFault::Store(MountFault::DiskFault)
     } else {
-        NodeFault::Memory
+        OpenFault::Store(MountFault::Memory)
     }
 }
 
 /// What a mount answers where the slots are wrong at this place: what is wrong before them, or that.
-fn refuse_slots<D: Disk>(alloc: Global, disk: D, place: u64) -> (NodeFault, D)
+fn refuse_slots<D: Disk>(alloc: Global, disk: D, place: u64) -> (OpenFault, D)
     ensures refused { IfTold (D.state disk).files (λ folder. (file : List ℕ) → folder slots_name ≡ Some file → FileStops file place
         → IsFirstRefusal VERSION_1_SIZE folder result.0) }
     ensures answers { IsOfSlots result.0 }
@@ -58,31 +59,31 @@ fn refuse_slots<D: Disk>(alloc: Global, disk: D, place: u64) -> (NodeFault, D)
     ensures keeps { D.keeps disk result.1 }
 {
     match Store::mount(alloc, disk) {
-        Ok(store) => (NodeFault::BadSlots(place), store.into_disk()),
+        Ok(store) => (OpenFault::Slots(place), store.into_disk()),
         Err((fault, disk)) => (first_of(fault, place), disk),
     }
 }
 
 /// Why a mount is refused where the store is refused so and the slots are wrong at this place.
-fn first_of(fault: StoreFault, place: u64) -> NodeFault
-    ensures before { IsBeforeSlots fault → result ≡ of_store fault }
-    ensures slots { (IsBeforeSlots fault → ⊥) → result ≡ NodeFault.BadSlots place }
+fn first_of(fault: MountFault, place: u64) -> OpenFault
+    ensures before { IsBeforeSlots fault → result ≡ OpenFault.Store fault }
+    ensures slots { (IsBeforeSlots fault → ⊥) → result ≡ OpenFault.Slots place }
     ensures either { IsBeforeSlots fault ⊎ (IsBeforeSlots fault → ⊥) }
 {
     if is_before_slots(&fault) {
-        of_store(fault)
+        OpenFault::Store(fault)
     } else {
-        NodeFault::BadSlots(place)
+        OpenFault::Slots(place)
     }
 }
 
 /// Whether a store is refused so before its slots are looked at.
-fn is_before_slots(fault: &StoreFault) -> bool
+fn is_before_slots(fault: &MountFault) -> bool
     ensures { IsTrue result ↔ IsBeforeSlots fault.now }
 {
     match fault {
-        StoreFault::Missing(name) => name.as_slice() == b"control".as_slice(),
-        StoreFault::BadControl(_) | StoreFault::DiskFault | StoreFault::Memory => true,
+        MountFault::Missing(name) => name.as_slice() == b"control".as_slice(),
+        MountFault::BadControl(_) | MountFault::DiskFault | MountFault::Memory => true,
         _ => false,
     }
 }

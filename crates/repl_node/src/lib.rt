@@ -30,5 +30,7 @@ mod slots;
 pub use judge::mount_slots;
 pub use laws::{others_keep, save_keeps, trim_keeps};
 pub use node::Node;
+pub use repl_clone::CopyFault;
 pub use repl_slots::{Slot, SlotFault};
-pub use repl_wal::{Identity, NodeFault, ReadOut};
+pub use repl_store::{CreateFault, MountFault};
+pub use repl_wal::{CloneFault, Identity, NodeFault, OpenFault, ReadOut};

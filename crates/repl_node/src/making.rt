@@ -1,13 +1,13 @@
 //! Making a node.
-ghost use Rattle.std.specs.Prelude.{◌≡◌, ◌⊎◌, ℕ, [], None, Some, IsSome, IfOk, IfErr, OnOk};
+ghost use Rattle.std.specs.Prelude.{◌≡◌, ◌⊎◌, ℕ, [], None, IsSome, IfOk, IfErr, OnOk};
 ghost use Rattle.repl_control.specs.declared.control.TheConstants.{VERSION_1_SIZE};
 ghost use Rattle.repl_effects.specs.Counts.{Stood};
 ghost use Rattle.repl_disk.specs.Crash.{Elapses, LeavesOnly};
 ghost use Rattle.repl_disk.specs.Folder.{Folder, IfTold};
-ghost use Rattle.repl_store.specs.Creating.{fresh};
+ghost use Rattle.repl_store.specs.Creating.{IsMadeOf, IsUnmade, fresh};
 ghost use Rattle.repl_store.specs.Durable.{IsKnown, StandsFor, control_name};
-ghost use Rattle.repl_wal.specs.Making.{IsMadeOf, IsUnmade, untold_log};
-ghost use Rattle.repl_wal.specs.declared.fault.NodeFault.TheVariants as NodeFault;
+ghost use Rattle.repl_store.specs.declared.fault.CreateFault.TheVariants as CreateFault;
+ghost use Rattle.repl_wal.specs.Making.{untold_log};
 ghost use Rattle.repl_node.specs.Holding.{Holds, Remembers, answer_of, disk_after, disk_of};
 ghost use Rattle.repl_node.specs.Making.{HasNoSlots, IsBegun, IsCleared, IsClearing, SlotsAgree, mounted_node};
 
@@ -16,7 +16,8 @@ use repl_control::Role;
 use repl_disk::{Disk, DiskError};
 use repl_page::Ident;
 use repl_slots::Slots;
-use repl_wal::{NodeFault, Wal};
+use repl_store::CreateFault;
+use repl_wal::Wal;
 use std::alloc::Global;
 
 /// The file that tells a store.
@@ -28,7 +29,12 @@ const SLOTS: &str = "slots";
 impl<D: Disk> Node<D> {
     /// Makes a node on a disk that has none: on timeline 1, without a record, and without slots. A file of slots that is there
     /// is removed first. Where a control is there it is refused (`Exists`), and nothing changes.
-    pub fn init(alloc: Global, disk: D, ident: Ident, role: Role) -> Result<Node<D>, (NodeFault, D)>
+    pub fn init(
+        alloc: Global,
+        disk: D,
+        ident: Ident,
+        role: Role,
+    ) -> Result<Node<D>, (CreateFault, D)>
         requires { ident.size ≡ VERSION_1_SIZE }
         ensures made { IfOk result (λ node. Remembers node (record { log = untold_log VERSION_1_SIZE (fresh role ident 1); slots = []; saved = [] })) }
         // There was no control, and from here on every image is the new node's.
@@ -61,35 +67,35 @@ impl<D: Disk> Node<D> {
 }
 
 /// Removes the slots from a disk that has no control.
-pub(crate) fn clear<D: Disk>(disk: &mut D) -> Result<(), NodeFault>
+pub(crate) fn clear<D: Disk>(disk: &mut D) -> Result<(), CreateFault>
     ensures cleared { OnOk result (IfTold (D.state disk.old).files (λ folder. IsCleared (D.state disk.old) (D.state disk.new) folder)) }
     ensures refused { IfErr result (λ e. IsUnmade (D.state disk.old).files e) }
     ensures moments { IfTold (D.state disk.old).files (λ folder. LeavesOnly (D.state disk.old) (D.state disk.new) (IsClearing (D.state disk.old).may_leave)) }
     ensures caused { IsMadeOf result (D.state disk.old) (D.state disk.new) }
-    ensures others { IfErr result (λ e. (e ≡ NodeFault.DiskFault) ⊎ Stood (D.state disk.old).faults (D.state disk.new).faults) }
+    ensures others { IfErr result (λ e. (e ≡ CreateFault.DiskFault) ⊎ Stood (D.state disk.old).faults (D.state disk.new).faults) }
     ensures keeps { D.keeps disk.old disk.new }
 {
     match disk.size(CONTROL) {
-        Ok(_) => Err(NodeFault::Exists),
+        Ok(_) => Err(CreateFault::Exists),
         Err(DiskError::Missing) => remove_slots(disk),
-        Err(DiskError::Failed) => Err(NodeFault::DiskFault),
-        Err(DiskError::Memory) => Err(NodeFault::Memory),
+        Err(DiskError::Failed) => Err(CreateFault::DiskFault),
+        Err(DiskError::Memory) => Err(CreateFault::Memory),
     }
 }
 
 /// Removes the file of the slots, if it is there.
-fn remove_slots<D: Disk>(disk: &mut D) -> Result<(), NodeFault>
+fn remove_slots<D: Disk>(disk: &mut D) -> Result<(), CreateFault>
     ensures cleared { OnOk result (IfTold (D.state disk.old).files (λ folder. HasNoSlots (D.state disk.old) (D.state disk.new) folder)) }
-    ensures refused { IfErr result (λ e. (e ≡ NodeFault.DiskFault) ⊎ (e ≡ NodeFault.Memory)) }
+    ensures refused { IfErr result (λ e. (e ≡ CreateFault.DiskFault) ⊎ (e ≡ CreateFault.Memory)) }
     ensures left { IfTold (D.state disk.old).files (λ folder. (image : Folder) → (D.state disk.new).may_leave image → IsClearing (D.state disk.old).may_leave image) }
     ensures time { Elapses (D.state disk.old) (D.state disk.new) }
     ensures caused { IsMadeOf result (D.state disk.old) (D.state disk.new) }
-    ensures others { IfErr result (λ e. (e ≡ NodeFault.DiskFault) ⊎ Stood (D.state disk.old).faults (D.state disk.new).faults) }
+    ensures others { IfErr result (λ e. (e ≡ CreateFault.DiskFault) ⊎ Stood (D.state disk.old).faults (D.state disk.new).faults) }
     ensures keeps { D.keeps disk.old disk.new }
 {
     match disk.remove(SLOTS) {
         Ok(()) | Err(DiskError::Missing) => Ok(()),
-        Err(DiskError::Failed) => Err(NodeFault::DiskFault),
-        Err(DiskError::Memory) => Err(NodeFault::Memory),
+        Err(DiskError::Failed) => Err(CreateFault::DiskFault),
+        Err(DiskError::Memory) => Err(CreateFault::Memory),
     }
 }

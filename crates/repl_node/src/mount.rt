@@ -8,23 +8,23 @@ ghost use Rattle.repl_slots.specs.Stored.{Stores};
 ghost use Rattle.repl_store.specs.Backing.{OnlyReads};
 ghost use Rattle.repl_store.specs.Durable.{Durable, StandsFor};
 ghost use Rattle.repl_store.specs.Head.{IsMounted};
-ghost use Rattle.repl_wal.specs.Making.{IsOpened};
-ghost use Rattle.repl_wal.specs.declared.fault.NodeFault.TheVariants as NodeFault;
+ghost use Rattle.repl_wal.specs.Making.{IsOpened, disk_fault};
 ghost use Rattle.repl_node.specs.Holding.{Holds, Remembers, answer_of, disk_after, disk_of};
-ghost use Rattle.repl_node.specs.Making.{IsNodeRefusal, IsOfNodeMount, OnlyOpensNode, mounted_node};
+ghost use Rattle.repl_node.specs.Making.{IsNodeRefusal, OnlyOpensNode, mounted_node};
 ghost use Rattle.repl_node.specs.State.{NodeState};
 
 use crate::judge::mount_slots;
 use crate::node::Node;
 use repl_disk::Disk;
-use repl_wal::{NodeFault, Wal};
+use repl_wal::{OpenFault, Wal};
 use std::alloc::Global;
 
 impl<D: Disk> Node<D> {
     /// Opens the node that stands on the disk. It judges the control, the slots, the history and the segments, in this order, and
-    /// then walks what is flushed past the whole end: what is no record there is `Damaged`, and where a further record ends,
-    /// the control is wrong (`BadControl` at its whole end). Takes memory for a piece of the log, and for the slots.
-    pub fn mount(alloc: Global, disk: D) -> Result<Node<D>, (NodeFault, D)>
+    /// then walks what is flushed past the whole end: what is no record there is refused with the name of its file
+    /// (`Log`), and where a further record ends, the control is wrong (`BadControl` at its whole end). Takes memory for a piece of
+    /// the log, for the name, and for the slots.
+    pub fn mount(alloc: Global, disk: D) -> Result<Node<D>, (OpenFault, D)>
         // What is mounted is what the files stand for, and nothing is written after it.
         ensures mounted { IfOk result (λ node. (node.wal.log.stopped ≡ None) × IfTold (D.state disk).files (λ folder.
             (d : Durable) × StandsFor VERSION_1_SIZE folder d × IsMounted node.wal.log.head VERSION_1_SIZE d)) }
@@ -38,10 +38,9 @@ impl<D: Disk> Node<D> {
             → ((image : Folder) → (D.state disk).may_leave image → StandsFor VERSION_1_SIZE image d × Stores (entries_of node.slots.slots) image)
             → Holds (D.state (disk_of node)) node (mounted_node VERSION_1_SIZE d node.slots.slots)) }
         ensures refused { IfErr result (λ e. IfTold (D.state disk).files (λ folder. IsNodeRefusal VERSION_1_SIZE folder (D.state disk).may_leave e.0)) }
-        ensures answers { IfErr result (λ e. IsOfNodeMount e.0) }
         ensures caused { IsOpened (answer_of result) (D.state disk) (D.state (disk_after result)) }
         // A lack is told only where the files stand for a store and for slots, or are not told.
-        ensures lost { IfErr result (λ e. e.0 ≡ NodeFault.DiskFault → Rose (D.state disk).faults (D.state e.1).faults
+        ensures lost { IfErr result (λ e. e.0 ≡ disk_fault → Rose (D.state disk).faults (D.state e.1).faults
             ⊎ IfTold (D.state disk).files (λ folder. (d : Durable) × (saved : List Entry) × StandsFor VERSION_1_SIZE folder d × Stores saved folder)) }
         // No file changes, and a crash leaves nothing new.
         ensures reads { OnlyReads (D.state disk) (D.state (disk_after result)) }

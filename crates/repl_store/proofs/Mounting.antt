@@ -22,8 +22,8 @@ use Rattle.repl_store.specs.Backing.{Backs}
 use Rattle.repl_store.specs.Head.{Head, IsMounted}
 use Rattle.repl_store.specs.Durable.{Carries, Durable, HasPath, IsKnown, StandsFor, file_at}
 use Rattle.repl_store.specs.Refusal.{HasControl, IsEnough, IsHeld, IsLackOf, IsRefusal, bad_history}
-use Rattle.repl_store.specs.declared.fault.StoreFault.{StoreFault}
-use Rattle.repl_store.specs.declared.fault.StoreFault.TheVariants as fault
+use Rattle.repl_store.specs.declared.fault.MountFault.{MountFault}
+use Rattle.repl_store.specs.declared.fault.MountFault.TheVariants as fault
 use Rattle.repl_lsn.specs.declared.history.Part.{Part}
 use Rattle.repl_store.proofs.Hearing.{known_exists, one_known}
 
@@ -171,10 +171,8 @@ told_always (Some folder) P h = h folder
 -- ---- a refusal
 
 -- what the first segment lacks is why the store is refused
-pub lack_refuses : (size : ℕ) (folder : Folder) (c : Control) (path : Path) (e : StoreFault) → HasControl size folder c
+pub lack_refuses : (size : ℕ) (folder : Folder) (c : Control) (path : Path) (e : MountFault) → HasControl size folder c
     → HasPath size folder c path → IsLackOf size folder c path e → IsRefusal size folder e
-lack_refuses size folder c path fault.Broken has path_is lack = lack.2
-lack_refuses size folder c path fault.Exists has path_is lack = lack.2
 lack_refuses size folder c path (fault.Missing name) has path_is lack =
     (lack.2.1, inr (inr (c, path, lack.0, has, path_is, lack.1, lack.2.0)))
 lack_refuses size folder c path (fault.BadControl place) has path_is lack = absurd lack.2

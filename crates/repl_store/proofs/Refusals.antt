@@ -16,8 +16,8 @@ use Rattle.repl_store.proofs.Histories.{between_one, within_only}
 use Rattle.repl_store.proofs.Mounting.{has_control_of, one_control_in, path_one}
 use Rattle.repl_store.specs.Durable.{Durable, HasPath, StandsFor, control_name, file_at, segment_file}
 use Rattle.repl_store.specs.Refusal.{HasControl, IsEnough, IsFirstShort, IsHeld, IsLackOf, IsMissing, IsOfDisk, IsRefusal, IsSegmentLack, needed}
-use Rattle.repl_store.specs.declared.fault.StoreFault.{StoreFault}
-use Rattle.repl_store.specs.declared.fault.StoreFault.TheVariants as fault
+use Rattle.repl_store.specs.declared.fault.MountFault.{MountFault}
+use Rattle.repl_store.specs.declared.fault.MountFault.TheVariants as fault
 
 -- a file is not missing and there at once
 not_both : (file : Option (List ℕ)) (bytes : List ℕ) → file ≡ None → file ≡ Some bytes → ⊥
@@ -27,17 +27,17 @@ module _ (size : ℕ) (folder : Folder) where
   -- ---- the control is the cause
 
   -- it is not there, or its bytes are wrong
-  abbrev OfControl : StoreFault → Type 0
+  abbrev OfControl : MountFault → Type 0
   OfControl e = ((folder control_name ≡ None) × (e ≡ fault.Missing control_name))
       ⊎ ((bytes : List ℕ) × (place : ℕ) × (folder control_name ≡ Some bytes) × IsControlFault size bytes place × (e ≡ fault.BadControl place))
 
-  control_refuted : (e : StoreFault) (control : Control) → HasControl size folder control → OfControl e → ⊥
+  control_refuted : (e : MountFault) (control : Control) → HasControl size folder control → OfControl e → ⊥
   control_refuted e control has (inl none) = not_both (folder control_name) has.0 none.0 has.1
   control_refuted e control has (inr wrong) =
       let P : List ℕ → Type 0 = λ bytes. IsControlFault size bytes wrong.1 in
       spelled_right size has.0 control wrong.1 has.2 (subst P (ap content (sym wrong.2 ∙ has.1)) wrong.3)
 
-  control_once : (e f : StoreFault) → OfControl e → OfControl f → e ≡ f
+  control_once : (e f : MountFault) → OfControl e → OfControl f → e ≡ f
   control_once e f (inl a) (inl b) = a.1 ∙ sym b.1
   control_once e f (inl a) (inr b) = absurd (not_both (folder control_name) b.0 a.0 b.2)
   control_once e f (inr a) (inl b) = absurd (not_both (folder control_name) a.0 b.0 a.2)
@@ -49,12 +49,12 @@ module _ (size : ℕ) (folder : Folder) where
   module _ (control : Control) where
     -- ---- the history is the cause
 
-    abbrev IsWrongHistory : StoreFault → Type 0
+    abbrev IsWrongHistory : MountFault → Type 0
     IsWrongHistory e = (text : List ℕ) × (wrong : HistoryFault) × (folder (history_name control.tli) ≡ Some text) × (wrong ≢ history.Memory)
         × IsFaultBetween control.tli text size control.whole wrong × (e ≡ fault.BadHistory control.tli wrong)
 
     -- there is to be one, and it is not there, or its text is wrong
-    abbrev OfHistory : StoreFault → Type 0
+    abbrev OfHistory : MountFault → Type 0
     OfHistory e = (control.tli ≢ 1)
         × (((folder (history_name control.tli) ≡ None) × (e ≡ fault.Missing (history_name control.tli))) ⊎ IsWrongHistory e)
 
@@ -66,7 +66,7 @@ module _ (size : ℕ) (folder : Folder) where
         (λ (h : (control.tli ≢ 1) × ((text : List ℕ) × (folder (history_name control.tli) ≡ Some text) × SaysHistory text path)). h.1)
         has.history
 
-    history_refuted : (e : StoreFault) (path : Path) → HasPath size folder control path → OfHistory e → ⊥
+    history_refuted : (e : MountFault) (path : Path) → HasPath size folder control path → OfHistory e → ⊥
     history_refuted e path has cause = ⊎_elim
         (λ (none : (folder (history_name control.tli) ≡ None) × (e ≡ fault.Missing (history_name control.tli))).
         not_both (folder (history_name control.tli)) found.0 none.0 found.1)
@@ -79,7 +79,7 @@ module _ (size : ℕ) (folder : Folder) where
         found : (text : List ℕ) × (folder (history_name control.tli) ≡ Some text) × SaysHistory text path
         found = history_there path cause.0 has
 
-    history_once : (e f : StoreFault) → OfHistory e → OfHistory f → e ≡ f
+    history_once : (e f : MountFault) → OfHistory e → OfHistory f → e ≡ f
     history_once e f a b = once a.1 b.1
       where
         once : ((folder (history_name control.tli) ≡ None) × (e ≡ fault.Missing (history_name control.tli))) ⊎ IsWrongHistory e
@@ -97,17 +97,15 @@ module _ (size : ℕ) (folder : Folder) where
 
     module _ (path : Path) (segment : ℕ) where
       -- its file is not there, or has fewer bytes than are flushed of it
-      abbrev IsNotThere : StoreFault → Type 0
+      abbrev IsNotThere : MountFault → Type 0
       IsNotThere e = (folder (segment_file size path segment) ≡ None) × (e ≡ fault.Missing (segment_file size path segment))
 
-      abbrev IsTooShort : StoreFault → Type 0
+      abbrev IsTooShort : MountFault → Type 0
       IsTooShort e = (bytes : List ℕ) × (folder (segment_file size path segment) ≡ Some bytes)
           × (length bytes < needed size control.flushed segment)
           × (e ≡ fault.ShortFile (segment_file size path segment) (length bytes) (needed size control.flushed segment))
 
-      lack_is : (e : StoreFault) → IsSegmentLack size folder control path segment e → IsOfDisk e ⊎ IsNotThere e ⊎ IsTooShort e
-      lack_is fault.Broken lack = absurd lack
-      lack_is fault.Exists lack = absurd lack
+      lack_is : (e : MountFault) → IsSegmentLack size folder control path segment e → IsOfDisk e ⊎ IsNotThere e ⊎ IsTooShort e
       lack_is (fault.Missing name) lack = inr (inl (ap folder (sym lack.0) ∙ lack.1, ap (λ n. fault.Missing n) lack.0))
       lack_is (fault.BadControl place) lack = absurd lack
       lack_is (fault.BadHistory tli wrong) lack = absurd lack
@@ -121,7 +119,7 @@ module _ (size : ℕ) (folder : Folder) where
       lack_is fault.DiskFault lack = inl tt
       lack_is fault.Memory lack = inl tt
 
-      enough_refutes : (e : StoreFault) → IsEnough size folder control path segment → IsSegmentLack size folder control path segment e
+      enough_refutes : (e : MountFault) → IsEnough size folder control path segment → IsSegmentLack size folder control path segment e
           → IsOfDisk e
       enough_refutes e enough lack = ⊎_elim
           (λ (disk : IsOfDisk e). disk)
@@ -133,7 +131,7 @@ module _ (size : ℕ) (folder : Folder) where
           files))
           (lack_is e lack)
 
-      lack_once : (e f : StoreFault) → IsSegmentLack size folder control path segment e → IsSegmentLack size folder control path segment f
+      lack_once : (e f : MountFault) → IsSegmentLack size folder control path segment e → IsSegmentLack size folder control path segment f
           → IsOfDisk e ⊎ IsOfDisk f ⊎ (e ≡ f)
       lack_once e f a b = once (lack_is e a) (lack_is f b)
         where
@@ -150,7 +148,7 @@ module _ (size : ℕ) (folder : Folder) where
               ∙ sym q.3))
 
     -- one segment is the first that lacks something
-    lacks_once : (path : Path) (e f : StoreFault) → IsLackOf size folder control path e → IsLackOf size folder control path f
+    lacks_once : (path : Path) (e f : MountFault) → IsLackOf size folder control path e → IsLackOf size folder control path f
         → IsOfDisk e ⊎ IsOfDisk f ⊎ (e ≡ f)
     lacks_once path e f a b = ⊎_elim
         (λ (before : a.0 < b.0). inl (enough_refutes path a.0 e (b.1.before a.0 a.1.held.0 before) a.2))
@@ -163,11 +161,11 @@ module _ (size : ℕ) (folder : Folder) where
         (cases_lt b.0 a.0))
         (cases_lt a.0 b.0)
 
-    abbrev OfSegment : StoreFault → Type 0
+    abbrev OfSegment : MountFault → Type 0
     OfSegment e = (path : Path) × HasPath size folder control path × IsLackOf size folder control path e
 
     -- after the control
-    past_once : (e f : StoreFault) → OfHistory e ⊎ OfSegment e → OfHistory f ⊎ OfSegment f → IsOfDisk e ⊎ IsOfDisk f ⊎ (e ≡ f)
+    past_once : (e f : MountFault) → OfHistory e ⊎ OfSegment e → OfHistory f ⊎ OfSegment f → IsOfDisk e ⊎ IsOfDisk f ⊎ (e ≡ f)
     past_once e f (inl a) (inl b) = inr (inr (history_once e f a b))
     past_once e f (inl a) (inr b) = absurd (history_refuted e b.0 b.1 a)
     past_once e f (inr a) (inl b) = absurd (history_refuted f a.0 a.1 b)
@@ -177,7 +175,7 @@ module _ (size : ℕ) (folder : Folder) where
 
   -- ---- a cause
 
-  abbrev HasCause : StoreFault → Type 0
+  abbrev HasCause : MountFault → Type 0
   HasCause e = OfControl e ⊎ ((control : Control) × HasControl size folder control × (OfHistory control e ⊎ OfSegment control e))
 
   missing_cause : (name : List ℕ) → IsMissing size folder name → HasCause (fault.Missing name)
@@ -197,9 +195,7 @@ module _ (size : ℕ) (folder : Folder) where
           × IsFirstShort size folder control path segment × (name ≡ segment_file size path segment) → HasCause (fault.Missing name)
       of_segment h = inr (h.0, h.3, inr (h.1, h.4, (h.2, h.5, (h.6, missing.0))))
 
-  cause_of : (e : StoreFault) → IsRefusal size folder e → IsOfDisk e ⊎ HasCause e
-  cause_of fault.Broken refusal = absurd refusal
-  cause_of fault.Exists refusal = absurd refusal
+  cause_of : (e : MountFault) → IsRefusal size folder e → IsOfDisk e ⊎ HasCause e
   cause_of (fault.Missing name) refusal = inr (missing_cause name refusal)
   cause_of (fault.BadControl place) refusal = inr (inl (inr (refusal.0, place, refusal.1, refusal.2, refl)))
   cause_of (fault.BadHistory tli wrong) refusal =
@@ -237,7 +233,7 @@ module _ (size : ℕ) (folder : Folder) where
 
   -- ---- one refusal
 
-  cause_once : (e f : StoreFault) → HasCause e → HasCause f → IsOfDisk e ⊎ IsOfDisk f ⊎ (e ≡ f)
+  cause_once : (e f : MountFault) → HasCause e → HasCause f → IsOfDisk e ⊎ IsOfDisk f ⊎ (e ≡ f)
   cause_once e f (inl a) (inl b) = inr (inr (control_once e f a b))
   cause_once e f (inl a) (inr b) = absurd (control_refuted e b.0 b.1 a)
   cause_once e f (inr a) (inl b) = absurd (control_refuted f a.0 a.1 b)
@@ -245,7 +241,7 @@ module _ (size : ℕ) (folder : Folder) where
       let P : Control → Type 0 = λ control. OfHistory control e ⊎ OfSegment control e in
       past_once b.0 e f (subst P (one_control_in size folder a.0 b.0 a.1 b.1) a.2) b.2
 
-  pub refused_once : (e f : StoreFault) → IsRefusal size folder e → IsRefusal size folder f → IsOfDisk e ⊎ IsOfDisk f ⊎ (e ≡ f)
+  pub refused_once : (e f : MountFault) → IsRefusal size folder e → IsRefusal size folder f → IsOfDisk e ⊎ IsOfDisk f ⊎ (e ≡ f)
   refused_once e f a b = ⊎_elim
       (λ (disk : IsOfDisk e). inl disk)
       (λ (cause : HasCause e). ⊎_elim
@@ -287,21 +283,21 @@ module _ (size : ℕ) (folder : Folder) (d : Durable) (some : 0 < size) (is : St
       let full = subst Q (mod-mul-add segment size (n - 1) inside) (subst P (div-mul-add segment size (n - 1) inside) there) in
       enough_in (folder (segment_file size d.path segment)) n any (omega (arith, full, any))
 
-  past_refuted : (e : StoreFault) → OfHistory size folder d.control e ⊎ OfSegment size folder d.control e → IsOfDisk e
+  past_refuted : (e : MountFault) → OfHistory size folder d.control e ⊎ OfSegment size folder d.control e → IsOfDisk e
   past_refuted e (inl cause) = absurd (history_refuted size folder d.control e d.path is.path cause)
   past_refuted e (inr cause) =
       let P : Path → Type 0 = λ path. IsLackOf size folder d.control path e in
       let lack = subst P (path_one size folder d.control cause.0 d.path cause.1 is.path) cause.2 in
       enough_refutes size folder d.control d.path lack.0 e (enough_there lack.0 lack.1.held) lack.2
 
-  cause_refuted : (e : StoreFault) → HasCause size folder e → IsOfDisk e
+  cause_refuted : (e : MountFault) → HasCause size folder e → IsOfDisk e
   cause_refuted e (inl cause) = absurd (control_refuted size folder e d.control (has_control_of size folder d is) cause)
   cause_refuted e (inr cause) =
       let P : Control → Type 0 = λ control. OfHistory size folder control e ⊎ OfSegment size folder control e in
       let own = one_control_in size folder cause.0 d.control cause.1 (has_control_of size folder d is) in
       past_refuted e (subst P own cause.2)
 
-  pub unrefused : (e : StoreFault) → IsRefusal size folder e → IsOfDisk e
+  pub unrefused : (e : MountFault) → IsRefusal size folder e → IsOfDisk e
   unrefused e refusal = ⊎_elim
       (λ (disk : IsOfDisk e). disk)
       (λ (cause : HasCause size folder e). cause_refuted e cause)

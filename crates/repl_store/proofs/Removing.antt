@@ -35,19 +35,16 @@ caused_refused error.Missing f old new is ends = record {
   ok = tt;
   failed = λ same. inr ends.lacks;
   no_memory = λ same. absurd cc;
-  answers = inr (inl is);
 }
 caused_refused error.Failed f old new is ends = record {
   ok = tt;
   failed = λ same. inl ends.faults;
   no_memory = λ same. absurd cc;
-  answers = inr (inl is);
 }
 caused_refused error.Memory f old new is ends = record {
   ok = tt;
   failed = λ same. absurd cc;
   no_memory = λ same. ends.faults;
-  answers = inr (inr is);
 }
 
 pub not_broken : (e : DiskError) (f : StoreFault) → f ≡ fault_of e → f ≢ fault.Broken

@@ -30,7 +30,6 @@ caused_after result old mid new faults wants lacks caused = record {
       (λ both. (both.0 ∙ faults, both.1 ∙ wants)) caused.ok;
   failed = λ is. rose (caused.failed is);
   no_memory = λ is. caused.no_memory is ∙ faults;
-  answers = caused.answers;
 }
   where
     rose : Rose mid.faults new.faults ⊎ Rose mid.lacks new.lacks → Rose old.faults new.faults ⊎ Rose old.lacks new.lacks

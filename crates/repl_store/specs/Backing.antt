@@ -59,16 +59,11 @@ pub record Comes {A : Type 0} (result : Result A StoreFault) (old new : DiskStat
   pub no_memory : result ≡ Err fault.Memory → (s : State) × some s × Backs new head s
   pub failed : result ≡ Err fault.DiskFault → Rose old.faults new.faults
 
--- what a store answers that does not do what it is asked for
-abbrev pub IsAnswer : StoreFault → Type 0
-IsAnswer f = (f ≡ fault.Broken) ⊎ (f ≡ fault.DiskFault) ⊎ (f ≡ fault.Memory)
-
 -- Each failure of the disk is told, and none is told without one: over a disk that lost a file it may be a lack.
 pub record IsCaused {A : Type 0} (result : Result A StoreFault) (old new : DiskState) : Type 0 where
   pub ok : OnOk result (Stood old.faults new.faults × Stood old.wants new.wants)
   pub failed : result ≡ Err fault.DiskFault → Rose old.faults new.faults ⊎ Rose old.lacks new.lacks
   pub no_memory : result ≡ Err fault.Memory → Stood old.faults new.faults
-  pub answers : IfErr result IsAnswer
 
 -- calls of the disk that only read: the files are as they were, and a crash leaves nothing new
 pub record OnlyReads (old new : DiskState) : Type 0 where
@@ -76,12 +71,13 @@ pub record OnlyReads (old new : DiskState) : Type 0 where
   pub none_new : NoneNew old.may_leave new.may_leave
   pub moments : LeavesOnly old new old.may_leave
 
--- a call that only reads, and fails only where the disk counted a fault, or, where it does not tell its files, a lack
-pub record Asks {A : Type 0} (result : Result A StoreFault) (old new : DiskState) : Type 0 where
+-- A call that only reads, and has this failure only where the disk counted a fault, or, where it does not tell its files, a
+-- lack.
+pub record Asks {A E : Type 0} (failure : E) (result : Result A E) (old new : DiskState) : Type 0 where
   pub only : OnlyReads old new
   pub ok : OnOk result (Stood old.faults new.faults × Stood old.wants new.wants)
-  pub failed : result ≡ Err fault.DiskFault → Rose old.faults new.faults ⊎ ((old.files ≡ None) × Rose old.lacks new.lacks)
-  pub others : IfErr result (λ e. (e ≡ fault.DiskFault) ⊎ Stood old.faults new.faults)
+  pub failed : result ≡ Err failure → Rose old.faults new.faults ⊎ ((old.files ≡ None) × Rose old.lacks new.lacks)
+  pub others : IfErr result (λ e. (e ≡ failure) ⊎ Stood old.faults new.faults)
   pub lacks : DidNotFall old.lacks new.lacks
 
 -- a read of the log into a room, which leaves the store and its files as they were

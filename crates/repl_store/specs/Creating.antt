@@ -7,10 +7,12 @@ use Rattle.repl_control.specs.declared.control.TheConstants.{VERSION_1_SIZE}
 use Rattle.repl_disk.specs.Folder.{Folder, IfTold, ToldFiles}
 use Rattle.repl_disk.specs.Replacing.{IsAfter, replaced}
 use Rattle.repl_disk.specs.State.{DiskState}
+use Rattle.repl_disk.specs.declared.disk.DiskError.{DiskError}
+use Rattle.repl_disk.specs.declared.disk.DiskError.TheVariants as error
 use Rattle.repl_page.specs.declared.ident.Ident.{Ident}
 use Rattle.repl_store.specs.Durable.{Durable, StandsFor, control_aside, control_name}
-use Rattle.repl_store.specs.declared.fault.StoreFault.{StoreFault}
-use Rattle.repl_store.specs.declared.fault.StoreFault.TheVariants as fault
+use Rattle.repl_store.specs.declared.fault.CreateFault.{CreateFault}
+use Rattle.repl_store.specs.declared.fault.CreateFault.TheVariants as fault
 
 -- a new store, which has heard of timelines up to this number
 abbrev pub fresh : Role → Ident → ℕ → Durable
@@ -34,19 +36,20 @@ pub record IsMade (old new : DiskState) (folder : Folder) (bytes : List ℕ) : T
   pub reads : new.files ≡ Some (replaced folder control_name control_aside bytes)
   pub images : (image : Folder) → new.may_leave image → IsAfter old.may_leave control_name control_aside bytes image
 
+-- what an error of the disk is to a making
+abbrev pub create_fault_of : DiskError → CreateFault
+create_fault_of error.Missing = fault.DiskFault
+create_fault_of error.Failed = fault.DiskFault
+create_fault_of error.Memory = fault.Memory
+
 -- no store is made: one is there, or the disk failed
-abbrev pub IsUnmade : ToldFiles → StoreFault → Type 0
-IsUnmade told fault.Broken = ⊥
+abbrev pub IsUnmade : ToldFiles → CreateFault → Type 0
 IsUnmade told fault.Exists = IfTold told (λ folder. IsSome (folder control_name))
-IsUnmade told (fault.Missing name) = ⊥
-IsUnmade told (fault.BadControl place) = ⊥
-IsUnmade told (fault.BadHistory tli wrong) = ⊥
-IsUnmade told (fault.ShortFile name have wanted) = ⊥
 IsUnmade told fault.DiskFault = Unit {0}
 IsUnmade told fault.Memory = Unit {0}
 
 -- Each failure of the disk is told, and none is told without one, or, where the disk does not tell its files, without a lack.
-pub record IsMadeOf {A : Type 0} (result : Result A StoreFault) (old new : DiskState) : Type 0 where
+pub record IsMadeOf {A : Type 0} (result : Result A CreateFault) (old new : DiskState) : Type 0 where
   pub ok : OnOk result (Stood old.faults new.faults × Stood old.wants new.wants)
   pub failed : result ≡ Err fault.DiskFault → Rose old.faults new.faults ⊎ ((old.files ≡ None) × Rose old.lacks new.lacks)
   pub others : IfErr result (λ e. (e ≡ fault.DiskFault) ⊎ Stood old.faults new.faults)

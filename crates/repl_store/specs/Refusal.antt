@@ -3,14 +3,16 @@ use Rattle.std.specs.Prelude.{◌≡◌, ◌≢◌, ℕ, ◌-◌, ◌*◌, ◌/�
 use Rattle.repl_control.specs.Control.{IsControlFault, SpellsControl}
 use Rattle.repl_control.specs.declared.control.Control.{Control}
 use Rattle.repl_disk.specs.Folder.{Folder}
+use Rattle.repl_disk.specs.declared.disk.DiskError.{DiskError}
+use Rattle.repl_disk.specs.declared.disk.DiskError.TheVariants as error
 use Rattle.repl_lsn.specs.Between.{IsFaultBetween}
 use Rattle.repl_lsn.specs.History.{IsHistoryFault, Path}
 use Rattle.repl_lsn.specs.declared.fault.HistoryFault.{HistoryFault}
 use Rattle.repl_lsn.specs.declared.fault.HistoryFault.TheVariants as history
 use Rattle.repl_lsn.specs.Segment.{history_name}
 use Rattle.repl_store.specs.Durable.{HasPath, control_name, segment_file}
-use Rattle.repl_store.specs.declared.fault.StoreFault.{StoreFault}
-use Rattle.repl_store.specs.declared.fault.StoreFault.TheVariants as fault
+use Rattle.repl_store.specs.declared.fault.MountFault.{MountFault}
+use Rattle.repl_store.specs.declared.fault.MountFault.TheVariants as fault
 
 -- the folder has this control
 abbrev pub HasControl : ℕ → Folder → Control → Type 0
@@ -59,9 +61,7 @@ pub record IsShort (size : ℕ) (folder : Folder) (name : List ℕ) (have wanted
   pub short : have < wanted
 
 -- the store is refused so; that a call of the disk failed, or memory was wanting, is no matter of the files
-abbrev pub IsRefusal : ℕ → Folder → StoreFault → Type 0
-IsRefusal size folder fault.Broken = ⊥
-IsRefusal size folder fault.Exists = ⊥
+abbrev pub IsRefusal : ℕ → Folder → MountFault → Type 0
 IsRefusal size folder (fault.Missing name) = IsMissing size folder name
 IsRefusal size folder (fault.BadControl place) = (bytes : List ℕ) × (folder control_name ≡ Some bytes) × IsControlFault size bytes place
 IsRefusal size folder (fault.BadHistory tli wrong) = (control : Control) × (text : List ℕ) × HasControl size folder control
@@ -70,19 +70,14 @@ IsRefusal size folder (fault.ShortFile name have wanted) = IsShort size folder n
 IsRefusal size folder fault.DiskFault = Unit {0}
 IsRefusal size folder fault.Memory = Unit {0}
 
--- a mount may answer so, over any files
-abbrev pub IsOfMount : StoreFault → Type 0
-IsOfMount fault.Broken = ⊥
-IsOfMount fault.Exists = ⊥
-IsOfMount (fault.Missing name) = Unit {0}
-IsOfMount (fault.BadControl place) = Unit {0}
-IsOfMount (fault.BadHistory tli wrong) = Unit {0}
-IsOfMount (fault.ShortFile name have wanted) = Unit {0}
-IsOfMount fault.DiskFault = Unit {0}
-IsOfMount fault.Memory = Unit {0}
+-- what an error of the disk is to a mount that found the file
+abbrev pub mount_fault_of : DiskError → MountFault
+mount_fault_of error.Missing = fault.DiskFault
+mount_fault_of error.Failed = fault.DiskFault
+mount_fault_of error.Memory = fault.Memory
 
 -- how it is refused that the history of this timeline is wrong so
-abbrev pub bad_history : ℕ → HistoryFault → StoreFault
+abbrev pub bad_history : ℕ → HistoryFault → MountFault
 bad_history tli history.Memory = fault.Memory
 bad_history tli (history.TooLong have) = fault.BadHistory tli (history.TooLong have)
 bad_history tli (history.NotNumber line) = fault.BadHistory tli (history.NotNumber line)
@@ -92,9 +87,7 @@ bad_history tli (history.NotBelowOwn line) = fault.BadHistory tli (history.NotBe
 bad_history tli (history.SwitchFalls line) = fault.BadHistory tli (history.SwitchFalls line)
 
 -- the file is not there, or the files have no part in it
-abbrev pub IsMissingOr : Folder → List ℕ → StoreFault → Type 0
-IsMissingOr folder file fault.Broken = ⊥
-IsMissingOr folder file fault.Exists = ⊥
+abbrev pub IsMissingOr : Folder → List ℕ → MountFault → Type 0
 IsMissingOr folder file (fault.Missing name) = (folder file ≡ None) × (name ≡ file)
 IsMissingOr folder file (fault.BadControl place) = ⊥
 IsMissingOr folder file (fault.BadHistory tli wrong) = ⊥
@@ -103,9 +96,7 @@ IsMissingOr folder file fault.DiskFault = Unit {0}
 IsMissingOr folder file fault.Memory = Unit {0}
 
 -- the text of a history is not read
-abbrev pub IsUnread : Folder → List ℕ → ℕ → StoreFault → Type 0
-IsUnread folder file own fault.Broken = ⊥
-IsUnread folder file own fault.Exists = ⊥
+abbrev pub IsUnread : Folder → List ℕ → ℕ → MountFault → Type 0
 IsUnread folder file own (fault.Missing name) = (folder file ≡ None) × (name ≡ file)
 IsUnread folder file own (fault.BadControl place) = ⊥
 IsUnread folder file own (fault.BadHistory tli wrong) = (tli ≡ own) × (wrong ≢ history.Memory) × ((text : List ℕ) × (folder file ≡ Some text) × IsHistoryFault own text wrong)
@@ -114,9 +105,7 @@ IsUnread folder file own fault.DiskFault = Unit {0}
 IsUnread folder file own fault.Memory = Unit {0}
 
 -- what the segment lacks
-abbrev pub IsSegmentLack : ℕ → Folder → Control → Path → ℕ → StoreFault → Type 0
-IsSegmentLack size folder control path segment fault.Broken = ⊥
-IsSegmentLack size folder control path segment fault.Exists = ⊥
+abbrev pub IsSegmentLack : ℕ → Folder → Control → Path → ℕ → MountFault → Type 0
 IsSegmentLack size folder control path segment (fault.Missing name) = (name ≡ segment_file size path segment) × (folder name ≡ None)
 IsSegmentLack size folder control path segment (fault.BadControl place) = ⊥
 IsSegmentLack size folder control path segment (fault.BadHistory tli wrong) = ⊥
@@ -126,14 +115,12 @@ IsSegmentLack size folder control path segment fault.DiskFault = Unit {0}
 IsSegmentLack size folder control path segment fault.Memory = Unit {0}
 
 -- the first that lacks something lacks that
-abbrev pub IsLackOf : ℕ → Folder → Control → Path → StoreFault → Type 0
+abbrev pub IsLackOf : ℕ → Folder → Control → Path → MountFault → Type 0
 IsLackOf size folder control path wrong = (segment : ℕ) × IsFirstShort size folder control path segment
     × IsSegmentLack size folder control path segment wrong
 
 -- a call of the disk failed, or memory was wanting
-abbrev pub IsOfDisk : StoreFault → Type 0
-IsOfDisk fault.Broken = ⊥
-IsOfDisk fault.Exists = ⊥
+abbrev pub IsOfDisk : MountFault → Type 0
 IsOfDisk (fault.Missing name) = ⊥
 IsOfDisk (fault.BadControl place) = ⊥
 IsOfDisk (fault.BadHistory tli wrong) = ⊥

@@ -10,10 +10,10 @@ ghost use Rattle.repl_store.specs.Backing.{Backs};
 ghost use Rattle.repl_store.specs.Creating.{IsMade, IsMadeOf, IsMaking, IsUnmade, fresh};
 ghost use Rattle.repl_store.specs.Durable.{IsKnown, StandsFor, control_aside, control_name};
 ghost use Rattle.repl_store.specs.Head.{IsMounted};
-ghost use Rattle.repl_store.specs.declared.fault.StoreFault.TheVariants as StoreFault;
+ghost use Rattle.repl_store.specs.declared.fault.CreateFault.TheVariants as CreateFault;
 
 use crate::control::{CONTROL, put_control};
-use crate::fault::{StoreFault, fault_of};
+use crate::fault::{CreateFault, create_fault_of};
 use crate::head::Head;
 use crate::store::Store;
 use repl_control::{Control, Role};
@@ -31,7 +31,7 @@ impl<D: Disk> Store<D> {
         disk: D,
         ident: Ident,
         role: Role,
-    ) -> Result<Store<D>, (StoreFault, D)>
+    ) -> Result<Store<D>, (CreateFault, D)>
         requires { ident.size ≡ VERSION_1_SIZE }
         ensures fresh { IfOk result (λ store. (store.broken ≡ false) × IsMounted store.head VERSION_1_SIZE (fresh role ident 1)) }
         // There was no control, and from here on every image is the new store.
@@ -72,7 +72,7 @@ impl<D: Disk> Store<D> {
 }
 
 /// Puts the first control onto a disk that has none.
-fn make<D: Disk>(disk: &mut D, control: &Control) -> Result<(), StoreFault>
+fn make<D: Disk>(disk: &mut D, control: &Control) -> Result<(), CreateFault>
     ensures made { OnOk result (IfTold (D.state disk.old).files (λ folder. IsMade (D.state disk.old) (D.state disk.new) folder (control_bytes control.now))) }
     ensures refused { IfErr result (λ e. IsUnmade (D.state disk.old).files e) }
     ensures moments { IfTold (D.state disk.old).files (λ folder. LeavesOnly (D.state disk.old) (D.state disk.new)
@@ -82,11 +82,11 @@ fn make<D: Disk>(disk: &mut D, control: &Control) -> Result<(), StoreFault>
     ensures keeps { D.keeps disk.old disk.new }
 {
     match disk.size(CONTROL) {
-        Ok(_) => Err(StoreFault::Exists),
+        Ok(_) => Err(CreateFault::Exists),
         Err(DiskError::Missing) => match put_control(disk, control) {
             Ok(()) => Ok(()),
-            Err(error) => Err(fault_of(error)),
+            Err(error) => Err(create_fault_of(error)),
         },
-        Err(error) => Err(fault_of(error)),
+        Err(error) => Err(create_fault_of(error)),
     }
 }

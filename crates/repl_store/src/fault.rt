@@ -1,6 +1,8 @@
-//! Why a store refuses a call.
+//! Why a store refuses a call, and why none is made or mounted.
 ghost use Rattle.std.specs.Prelude.{◌≡◌};
 ghost use Rattle.repl_store.specs.Backing.{Breaks, fault_of};
+ghost use Rattle.repl_store.specs.Creating.{create_fault_of};
+ghost use Rattle.repl_store.specs.Refusal.{mount_fault_of};
 
 use crate::store::Store;
 use repl_disk::{Disk, DiskError};
@@ -8,12 +10,30 @@ use repl_lsn::{HistoryFault, Text, Tli};
 use std::alloc::AllocError;
 
 /// Why a store refuses a call.
-#[derive(Debug, Drop)]
+#[derive(Clone, Copy, Debug, PartialEq, Eq)]
 pub enum StoreFault {
     /// A call of the disk failed since the store was mounted.
     Broken,
+    /// A call of the disk failed, or a file was not there that the store had made.
+    DiskFault,
+    /// There was no memory.
+    Memory,
+}
+
+/// Why no store is made.
+#[derive(Clone, Copy, Debug, PartialEq, Eq)]
+pub enum CreateFault {
     /// There is a store already.
     Exists,
+    /// A call of the disk failed.
+    DiskFault,
+    /// There was no memory.
+    Memory,
+}
+
+/// Why no store is mounted.
+#[derive(Debug, Drop)]
+pub enum MountFault {
     /// No file has this name.
     Missing(Text),
     /// The control is wrong at this byte.
@@ -22,7 +42,7 @@ pub enum StoreFault {
     BadHistory { tli: Tli, fault: HistoryFault },
     /// The file of a segment has fewer bytes than are flushed of it.
     ShortFile { name: Text, have: u64, needed: u64 },
-    /// A call of the disk failed, or a file was not there that the store had made.
+    /// A call of the disk failed, or a file was gone that had been there.
     DiskFault,
     /// There was no memory.
     Memory,
@@ -39,6 +59,28 @@ impl From<AllocError> for StoreFault {
     }
 }
 
+impl From<AllocError> for CreateFault {
+    ghost use Rattle.std.specs.Prelude.{◌≡◌};
+    ghost use Rattle.repl_store.specs.declared.fault.CreateFault.TheVariants.{Memory};
+
+    ghost from_gives = { λ _ e. e ≡ Memory };
+
+    fn from(_error: AllocError) -> CreateFault {
+        CreateFault::Memory
+    }
+}
+
+impl From<AllocError> for MountFault {
+    ghost use Rattle.std.specs.Prelude.{◌≡◌};
+    ghost use Rattle.repl_store.specs.declared.fault.MountFault.TheVariants.{Memory};
+
+    ghost from_gives = { λ _ e. e ≡ Memory };
+
+    fn from(_error: AllocError) -> MountFault {
+        MountFault::Memory
+    }
+}
+
 /// What a failure of the disk is to a store that made the file: also a lack is one.
 pub(crate) fn fault_of(error: DiskError) -> StoreFault
     ensures { result ≡ fault_of error }
@@ -46,6 +88,26 @@ pub(crate) fn fault_of(error: DiskError) -> StoreFault
     match error {
         DiskError::Memory => StoreFault::Memory,
         DiskError::Missing | DiskError::Failed => StoreFault::DiskFault,
+    }
+}
+
+/// What a failure of the disk is to a making: also a lack is one, of the file that is being put there.
+pub(crate) fn create_fault_of(error: DiskError) -> CreateFault
+    ensures { result ≡ create_fault_of error }
+{
+    match error {
+        DiskError::Memory => CreateFault::Memory,
+        DiskError::Missing | DiskError::Failed => CreateFault::DiskFault,
+    }
+}
+
+/// What a failure of the disk is to a mount that found the file: also a lack is one.
+pub(crate) fn mount_fault_of(error: DiskError) -> MountFault
+    ensures { result ≡ mount_fault_of error }
+{
+    match error {
+        DiskError::Memory => MountFault::Memory,
+        DiskError::Missing | DiskError::Failed => MountFault::DiskFault,
     }
 }
 

@@ -1,10 +1,9 @@
 //! Which timelines a store has heard of.
-ghost use Rattle.std.specs.Prelude.{◌≡◌, ◌↔◌, ◌∷◌, [], map, string_bytes, true, Err, IfOk, IfErr};
+ghost use Rattle.std.specs.Prelude.{◌≡◌, ◌≢◌, ◌↔◌, ◌∷◌, [], map, string_bytes, true, Err, IfOk};
 ghost use Rattle.repl_disk.specs.Folder.{IfTold};
 ghost use Rattle.repl_store.specs.Apart.{StaysApart};
 ghost use Rattle.repl_store.specs.Backing.{Asks, Backs, Before, Breaks, Comes, IsCaused, State};
 ghost use Rattle.repl_store.specs.Durable.{IsKnown};
-ghost use Rattle.repl_store.specs.Refusal.{IsOfDisk};
 ghost use Rattle.repl_store.specs.Numbers.{IsGreatest};
 ghost use Rattle.repl_store.specs.declared.fault.StoreFault.TheVariants as StoreFault;
 
@@ -40,8 +39,8 @@ impl<D: Disk> Store<D> {
 /// The greatest number of this timeline and of those whose history is on the disk.
 fn listed<D: Disk>(disk: &mut D, own: Tli) -> Result<Tli, StoreFault>
     ensures known { IfOk result (λ known. IfTold (D.state disk.old).files (λ folder. IsKnown folder own known)) }
-    ensures refused { IfErr result IsOfDisk }
-    ensures asks { Asks result (D.state disk.old) (D.state disk.new) }
+    ensures unbroken { result ≢ Err StoreFault.Broken }
+    ensures asks { Asks StoreFault.DiskFault result (D.state disk.old) (D.state disk.new) }
     ensures keeps { D.keeps disk.old disk.new }
 {
     match disk.names() {

@@ -6,7 +6,7 @@ ghost use Rattle.repl_store.specs.Backing.{Backs, Before, LeavesOne, State};
 ghost use Rattle.repl_store.specs.Durable.{Durable, IsKnown, StandsFor};
 ghost use Rattle.repl_store.specs.Head.{Head};
 ghost use Rattle.repl_store.specs.Refusal.{IsOfDisk, IsRefusal};
-ghost use Rattle.repl_store.specs.declared.fault.StoreFault.{StoreFault};
+ghost use Rattle.repl_store.specs.declared.fault.MountFault.{MountFault};
 
 use repl_disk::Disk;
 
@@ -18,14 +18,14 @@ pub fn one_durable()
 /// Files that stand for a store are refused for nothing that is wrong with them: a mount fails over them for want of memory
 /// or a failure of the disk alone.
 pub fn stands_unrefused()
-    ensures { (size : ℕ) (folder : Folder) (d : Durable) (fault : StoreFault) → 0 < size → StandsFor size folder d
+    ensures { (size : ℕ) (folder : Folder) (d : Durable) (fault : MountFault) → 0 < size → StandsFor size folder d
         → IsRefusal size folder fault → IsOfDisk fault }
 {}
 
 /// The files of a folder are refused for one thing at most: two refusals are one, but for want of memory and failures of the
 /// disk, which may come over any files.
 pub fn one_refusal_of_files()
-    ensures { (size : ℕ) (folder : Folder) (a b : StoreFault) → IsRefusal size folder a → IsRefusal size folder b
+    ensures { (size : ℕ) (folder : Folder) (a b : MountFault) → IsRefusal size folder a → IsRefusal size folder b
         → IsOfDisk a ⊎ IsOfDisk b ⊎ (a ≡ b) }
 {}
 

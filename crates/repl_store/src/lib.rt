@@ -31,7 +31,7 @@ mod store;
 mod switch;
 mod write;
 
-pub use fault::StoreFault;
+pub use fault::{CreateFault, MountFault, StoreFault};
 pub use laws::{one_durable, one_known, one_refusal_of_files, others_apart, stands_unrefused};
 pub use repl_control::{Control, Role};
 pub use segments::{history_file, segment_file};

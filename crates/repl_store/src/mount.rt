@@ -8,12 +8,12 @@ ghost use Rattle.repl_store.specs.Apart.{StaysApart};
 ghost use Rattle.repl_store.specs.Backing.{Asks, Backs, OnlyReads};
 ghost use Rattle.repl_store.specs.Durable.{Durable, HasPath, StandsFor, control_name};
 ghost use Rattle.repl_store.specs.Head.{IsMounted};
-ghost use Rattle.repl_store.specs.Refusal.{HasControl, IsEnough, IsHeld, IsLackOf, IsOfMount, IsRefusal, IsSegmentLack, IsUnread, bad_history};
+ghost use Rattle.repl_store.specs.Refusal.{HasControl, IsEnough, IsHeld, IsLackOf, IsRefusal, IsSegmentLack, IsUnread, bad_history};
 ghost use Rattle.repl_text.specs.Text.{IsText};
-ghost use Rattle.repl_store.specs.declared.fault.StoreFault.TheVariants as StoreFault;
+ghost use Rattle.repl_store.specs.declared.fault.MountFault.TheVariants as MountFault;
 
 use crate::control::CONTROL;
-use crate::fault::StoreFault;
+use crate::fault::MountFault;
 use crate::files::{length_of, read_front};
 use crate::head::Head;
 use crate::segments::{history_file, segment_file};
@@ -30,7 +30,7 @@ impl<D: Disk> Store<D> {
     /// Opens the store that stands on the disk: reads its control and the history of its timeline, and looks how long the
     /// files of its segments are. What the files say is refused at the first that is wrong, in this order. Bytes after the
     /// flushed end, and files of other timelines, are passed over.
-    pub fn mount(alloc: Global, disk: D) -> Result<Store<D>, (StoreFault, D)>
+    pub fn mount(alloc: Global, disk: D) -> Result<Store<D>, (MountFault, D)>
         // What is mounted is what the files stand for.
         ensures mounted { IfOk result (λ store. (store.broken ≡ false) × IfTold (D.state disk).files (λ folder.
             (d : Durable) × StandsFor VERSION_1_SIZE folder d × IsMounted store.head VERSION_1_SIZE d)) }
@@ -41,8 +41,7 @@ impl<D: Disk> Store<D> {
             → ((image : Folder) → (D.state disk).may_leave image → StandsFor VERSION_1_SIZE image d)
             → Backs (D.state store.disk) store.head (record { durable = d; unflushed = [] })) }
         ensures refused { IfErr result (λ e. IfTold (D.state disk).files (λ folder. IsRefusal VERSION_1_SIZE folder e.0)) }
-        ensures answers { IfErr result (λ e. IsOfMount e.0) }
-        ensures asks { MatchResult result (λ store. Asks (Ok store) (D.state disk) (D.state store.disk)) (λ e. Asks {A = Store D} (Err e.0) (D.state disk) (D.state e.1)) }
+        ensures asks { MatchResult result (λ store. Asks MountFault.DiskFault (Ok store) (D.state disk) (D.state store.disk)) (λ e. Asks {A = Store D} MountFault.DiskFault (Err e.0) (D.state disk) (D.state e.1)) }
         ensures apart { MatchResult result (λ store. StaysApart (D.state disk) (D.state store.disk)) (λ e. StaysApart (D.state disk) (D.state e.1)) }
         ensures keeps { MatchResult result (λ store. D.keeps disk store.disk) (λ e. D.keeps disk e.1) }
     {
@@ -59,12 +58,11 @@ impl<D: Disk> Store<D> {
 }
 
 /// What the files of the disk say that a store is.
-fn read_head<D: Disk>(alloc: Global, disk: &mut D) -> Result<Head, StoreFault>
+fn read_head<D: Disk>(alloc: Global, disk: &mut D) -> Result<Head, MountFault>
     ensures read { IfOk result (λ head. IfTold (D.state disk.old).files (λ folder. (d : Durable) × StandsFor VERSION_1_SIZE folder d × IsMounted head VERSION_1_SIZE d)) }
     ensures no_more { IfOk result (λ head. head.written ≡ head.control.flushed) }
     ensures refused { IfErr result (λ e. IfTold (D.state disk.old).files (λ folder. IsRefusal VERSION_1_SIZE folder e)) }
-    ensures answers { IfErr result IsOfMount }
-    ensures asks { Asks result (D.state disk.old) (D.state disk.new) }
+    ensures asks { Asks MountFault.DiskFault result (D.state disk.old) (D.state disk.new) }
     ensures keeps { D.keeps disk.old disk.new }
 {
     let size = version_1_size();
@@ -86,18 +84,17 @@ fn read_control_file<D: Disk>(
     alloc: Global,
     disk: &mut D,
     size: SegSize,
-) -> Result<Control, StoreFault>
+) -> Result<Control, MountFault>
     ensures right { IfOk result (λ control. FitsFields control × IsControl size control) }
     ensures read { IfOk result (λ control. IfTold (D.state disk.old).files (λ folder. HasControl size folder control)) }
     ensures refused { IfErr result (λ e. IfTold (D.state disk.old).files (λ folder. IsRefusal size folder e)) }
-    ensures answers { IfErr result IsOfMount }
-    ensures asks { Asks result (D.state disk.old) (D.state disk.new) }
+    ensures asks { Asks MountFault.DiskFault result (D.state disk.old) (D.state disk.new) }
     ensures keeps { D.keeps disk.old disk.new }
 {
     let bytes = read_control_bytes(alloc, disk)?;
     match read_control(&bytes, size) {
         Ok(control) => Ok(control),
-        Err(fault) => Err(StoreFault::BadControl(fault.place)),
+        Err(fault) => Err(MountFault::BadControl(fault.place)),
     }
 }
 
@@ -105,16 +102,15 @@ fn read_control_file<D: Disk>(
 fn read_control_bytes<D: Disk>(
     alloc: Global,
     disk: &mut D,
-) -> Result<[u8; CONTROL_SIZE], StoreFault>
+) -> Result<[u8; CONTROL_SIZE], MountFault>
     ensures read { IfOk result (λ bytes. IfTold (D.state disk.old).files (λ folder. folder control_name ≡ Some bytes)) }
     ensures refused { IfErr result (λ e. IfTold (D.state disk.old).files (λ folder. (size : ℕ) → IsRefusal size folder e)) }
-    ensures answers { IfErr result IsOfMount }
-    ensures asks { Asks result (D.state disk.old) (D.state disk.new) }
+    ensures asks { Asks MountFault.DiskFault result (D.state disk.old) (D.state disk.new) }
     ensures keeps { D.keeps disk.old disk.new }
 {
     let length = length_of(alloc, disk, CONTROL)?;
     if length != CONTROL_SIZE as u64 {
-        return Err(StoreFault::BadControl(length.min(CONTROL_SIZE as u64)));
+        return Err(MountFault::BadControl(length.min(CONTROL_SIZE as u64)));
     }
     let mut bytes = [0; CONTROL_SIZE];
     read_front(disk, CONTROL, &mut bytes)?;
@@ -127,12 +123,11 @@ fn read_own_history<D: Disk>(
     disk: &mut D,
     control: &Control,
     size: SegSize,
-) -> Result<History, StoreFault>
+) -> Result<History, MountFault>
     ensures right { IfOk result (λ history. (history.own ≡ control.now.tli) × AreBetween size control.now.whole history.parents) }
     ensures read { IfOk result (λ history. IfTold (D.state disk.old).files (λ folder. HasPath size folder control.now history)) }
     ensures refused { IfErr result (λ e. IfTold (D.state disk.old).files (λ folder. HasControl size folder control.now → IsRefusal size folder e)) }
-    ensures answers { IfErr result IsOfMount }
-    ensures asks { Asks result (D.state disk.old) (D.state disk.new) }
+    ensures asks { Asks MountFault.DiskFault result (D.state disk.old) (D.state disk.new) }
     ensures keeps { D.keeps disk.old disk.new }
 {
     let tli = control.tli;
@@ -149,13 +144,12 @@ fn read_own_history<D: Disk>(
 }
 
 /// How it is refused that the history of this timeline is wrong so.
-fn bad_history(tli: Tli, fault: HistoryFault) -> StoreFault
+fn bad_history(tli: Tli, fault: HistoryFault) -> MountFault
     ensures made { result ≡ bad_history tli fault }
-    ensures answers { IsOfMount result }
 {
     match fault {
-        HistoryFault::Memory => StoreFault::Memory,
-        fault => StoreFault::BadHistory { tli, fault },
+        HistoryFault::Memory => MountFault::Memory,
+        fault => MountFault::BadHistory { tli, fault },
     }
 }
 
@@ -165,18 +159,17 @@ fn read_text<D: Disk>(
     disk: &mut D,
     name: &str,
     tli: Tli,
-) -> Result<Vec<u8>, StoreFault>
+) -> Result<Vec<u8>, MountFault>
     requires { IsText name.now }
     ensures read { IfOk result (λ text. IfTold (D.state disk.old).files (λ folder. folder name.now ≡ Some text.items)) }
     ensures refused { IfErr result (λ e. IfTold (D.state disk.old).files (λ folder. IsUnread folder name.now tli e)) }
-    ensures answers { IfErr result IsOfMount }
-    ensures asks { Asks result (D.state disk.old) (D.state disk.new) }
+    ensures asks { Asks MountFault.DiskFault result (D.state disk.old) (D.state disk.new) }
     ensures keeps { D.keeps disk.old disk.new }
 {
     let length = length_of(alloc, disk, name)?;
     if length > HISTORY_LIMIT {
         let fault = HistoryFault::TooLong { have: length };
-        return Err(StoreFault::BadHistory { tli, fault });
+        return Err(MountFault::BadHistory { tli, fault });
     }
     let mut text = vec![in alloc; 0; length as usize]?;
     read_front(disk, name, &mut text)?;
@@ -190,13 +183,12 @@ fn check_segments<D: Disk>(
     control: &Control,
     history: &History,
     size: SegSize,
-) -> Result<(), StoreFault>
+) -> Result<(), MountFault>
     requires order { control.now.floor ≤ control.now.flushed }
     requires limit { control.now.flushed ≤ 2 ^ 63 }
     ensures enough { OnOk result (IfTold (D.state disk.old).files (λ folder. (segment : ℕ) → IsHeld size control.now segment → IsEnough size folder control.now history.now segment)) }
     ensures refused { IfErr result (λ e. IfTold (D.state disk.old).files (λ folder. IsLackOf size folder control.now history.now e)) }
-    ensures answers { IfErr result IsOfMount }
-    ensures asks { Asks result (D.state disk.old) (D.state disk.new) }
+    ensures asks { Asks MountFault.DiskFault result (D.state disk.old) (D.state disk.new) }
     ensures keeps { D.keeps disk.old disk.new }
 {
     let mut number = number_of(control.floor, size);
@@ -230,13 +222,12 @@ fn check_segment<D: Disk>(
     history: &History,
     segment: SegNo,
     size: SegSize,
-) -> Result<(), StoreFault>
+) -> Result<(), MountFault>
     requires held { segment * size < control.now.flushed }
     requires limit { control.now.flushed ≤ 2 ^ 63 }
     ensures enough { OnOk result (IfTold (D.state disk.old).files (λ folder. IsEnough size folder control.now history.now segment)) }
     ensures refused { IfErr result (λ e. IfTold (D.state disk.old).files (λ folder. IsSegmentLack size folder control.now history.now segment e)) }
-    ensures answers { IfErr result IsOfMount }
-    ensures asks { Asks result (D.state disk.old) (D.state disk.new) }
+    ensures asks { Asks MountFault.DiskFault result (D.state disk.old) (D.state disk.new) }
     ensures keeps { D.keeps disk.old disk.new }
 {
     let name = segment_file(alloc, history, segment, size)?;
@@ -250,13 +241,12 @@ fn check_segment<D: Disk>(
 }
 
 /// What is said of a file that is too short.
-fn short(alloc: Global, name: &str, have: u64, needed: u64) -> StoreFault
+fn short(alloc: Global, name: &str, have: u64, needed: u64) -> MountFault
     requires { IsText name.now }
-    ensures made { (result ≡ StoreFault.ShortFile name.now have needed) ⊎ (result ≡ StoreFault.Memory) }
-    ensures answers { IsOfMount result }
+    ensures made { (result ≡ MountFault.ShortFile name.now have needed) ⊎ (result ≡ MountFault.Memory) }
 {
     match Text::copied(alloc, name.as_bytes()) {
-        Ok(name) => StoreFault::ShortFile { name, have, needed },
-        Err(error) => StoreFault::from(error),
+        Ok(name) => MountFault::ShortFile { name, have, needed },
+        Err(error) => MountFault::from(error),
     }
 }

@@ -20,7 +20,7 @@ use Rattle.repl_wal.specs.State.{LogState, breaking, path_of, status_of_log}
 use Rattle.repl_wal.specs.Steps.{Old, Step}
 use Rattle.repl_wal.specs.declared.fault.NodeFault.{NodeFault}
 use Rattle.repl_wal.specs.declared.fault.NodeFault.TheVariants as fault
-use Rattle.repl_wal.proofs.Ending.{running, still_sound}
+use Rattle.repl_wal.proofs.Ending.{each_fault, running, still_sound}
 use Rattle.repl_wal.proofs.Running.{still_runs}
 
 -- On its way from a log a call has come to another: a crash since leaves one of a column's, and no failure was counted.
@@ -130,7 +130,7 @@ module _ {B D : Type 0} (old mid new : DiskState) (held : HeldLog D) (now : Held
         let At : NodeFault → Option StoreStatus → Type 0 = λ e. λ s. Comes {A = A} (Err e) old new (memory_of now held.log.walker s) n
         (Step Refuses Passes Done Partly n (Err e)) column in
         let Of : StoreFault → Type 0 = λ f. At (of_store f) (stopped_by f held.log.stopped before) in
-        let here : Of f = elim caused.answers [
+        let here : Of f = elim (each_fault f) [
           | inl broken ↦ absurd (whole broken)
           | inr (inl disk_fault) ↦ subst Of (sym disk_fault) (failure disk_fault)
           | inr (inr no_memory) ↦ let x = wants no_memory in subst Of (sym no_memory) (memory x.0 x.1 x.2)

@@ -1,5 +1,5 @@
 -- What is left of a source and of the disk of its copy, and who is told of failures.
-use Rattle.std.proofs.Common.{◌≡◌, ◌≢◌, ℕ, ◌⊎◌, Bool, true, false, Option, Some, None, IsSome, is_some, Result, Ok, Err, IfOk, IfErr, refl, sym, ap, ◌∙◌, subst, inl, inr}
+use Rattle.std.proofs.Common.{◌≡◌, ◌≢◌, ℕ, ◌⊎◌, Bool, true, false, Option, Some, None, IsSome, is_some, Result, Ok, Err, refl, sym, ap, ◌∙◌, subst, inl, inr}
 use Rattle.std.proofs.lemmas.Bool.{cases_Bool}
 use Rattle.repl_clone.specs.Causes.{BreaksSource, IsOfDisk, IsOfSource, Lasts}
 use Rattle.repl_clone.specs.Copied.{IsCopying, copied}
@@ -17,14 +17,15 @@ use Rattle.repl_store.specs.Backing.{Backs, LeavesOne, Only, State}
 use Rattle.repl_store.specs.Durable.{Durable, IsKnown, StandsFor}
 use Rattle.repl_store.specs.Head.{Head, Held, status_of}
 use Rattle.repl_store.specs.declared.store.StoreStatus.{StoreStatus}
-use Rattle.repl_wal.specs.Cloning.{IsKnownSource, LeavesSource, of_copy, source_stopped}
-use Rattle.repl_wal.specs.Holding.{HeldLog, Holds, Runs, answer_after, disk_after, memory_of}
-use Rattle.repl_wal.specs.Making.{IsOpened, OnlyOpens}
+use Rattle.repl_wal.specs.Cloning.{IsDiskFault, IsKnownSource, LeavesSource, source_stopped}
+use Rattle.repl_wal.specs.Holding.{HeldLog, Holds, Runs, memory_of}
+use Rattle.repl_wal.specs.Making.{OnlyOpens}
 use Rattle.repl_wal.specs.State.{LogState, breaking, own_timeline}
 use Rattle.repl_wal.specs.Steps.{Old}
-use Rattle.repl_wal.specs.declared.fault.NodeFault.{NodeFault}
-use Rattle.repl_wal.specs.declared.fault.NodeFault.TheVariants as fault
-use Rattle.repl_wal.proofs.Ending.{failure, running, same_status, untouched}
+use Rattle.repl_wal.specs.declared.fault.CloneFault.{CloneFault}
+use Rattle.repl_wal.specs.declared.fault.CloneFault.TheVariants as fault
+use Rattle.repl_wal.specs.declared.fault.OpenFault.{OpenFault}
+use Rattle.repl_wal.proofs.Ending.{running, same_status, untouched}
 
 -- ---- the source
 
@@ -48,7 +49,7 @@ left_moments disk new old n result holds none lasts told sound =
     subst (λ (k : ℕ). LeavesOne disk new k (Old n)) runs.2.size (lasts n.kept (holds.backs told sound)).moments
 
 module _ {A D E : Type 0} (disk new : DiskState) (old : HeldLog E) (now : Held E) (n : LogState) where
-  pub left_as_it_was : (answer : Result A (NodeFault × D)) (result : Result (Unit {0}) CopyFault) → result ≢ Err copy.SourceFault
+  pub left_as_it_was : (answer : Result A (CloneFault × D)) (result : Result (Unit {0}) CopyFault) → result ≢ Err copy.SourceFault
       → Holds disk old.log n → old.log.stopped ≡ None → now.head ≡ old.log.head → BreaksSource result old.log.failed now.broken
       → ((s : State) → Backs disk old.log.head s → Lasts result disk new old.log.head s)
       → LeavesSource answer disk new (memory_of now old.log.walker old.log.stopped) n
@@ -72,7 +73,7 @@ module _ {A D E : Type 0} (disk new : DiskState) (old : HeldLog E) (now : Held E
   left_broken : (d : D) (before : StoreStatus) → Holds disk old.log n → old.log.stopped ≡ None → before ≡ status_of old.log.head
       → now.head ≡ old.log.head
       → ((s : State) → Backs disk old.log.head s → Lasts {A = Unit {0}} (Err copy.SourceFault) disk new old.log.head s)
-      → LeavesSource {A = A} (Err (fault.SourceFault, d)) disk new (memory_of now old.log.walker (Some before)) n
+      → LeavesSource {A = A} (Err (fault.Copy copy.SourceFault, d)) disk new (memory_of now old.log.walker (Some before)) n
   left_broken d before holds none told same lasts =
       let runs = running old n none holds.remembers in
       record {
@@ -92,32 +93,29 @@ module _ {A D E : Type 0} (disk new : DiskState) (old : HeldLog E) (now : Held E
   left_past : (f : CopyFault) (d : D) (before : StoreStatus) → Holds disk old.log n → old.log.stopped ≡ None → before ≡ status_of old.log.head
       → now.head ≡ old.log.head → BreaksSource {A = Unit {0}} (Err f) old.log.failed now.broken
       → ((s : State) → Backs disk old.log.head s → Lasts {A = Unit {0}} (Err f) disk new old.log.head s)
-      → LeavesSource {A = A} (Err (of_copy f, d)) disk new (memory_of now old.log.walker (source_stopped f old.log.stopped before)) n
+      → LeavesSource {A = A} (Err (fault.Copy f, d)) disk new (memory_of now old.log.walker (source_stopped f old.log.stopped before)) n
   left_past copy.SourceFault d before holds none told same breaks lasts = left_broken d before holds none told same lasts
   left_past copy.Exists d before holds none told same breaks lasts =
-      left_as_it_was (Err (fault.Exists, d)) (Err copy.Exists) (λ e. cc) holds none same breaks lasts
+      left_as_it_was (Err (fault.Copy copy.Exists, d)) (Err copy.Exists) (λ e. cc) holds none same breaks lasts
   left_past copy.DiskFault d before holds none told same breaks lasts =
-      left_as_it_was (Err (fault.DiskFault, d)) (Err copy.DiskFault) (λ e. cc) holds none same breaks lasts
+      left_as_it_was (Err (fault.Copy copy.DiskFault, d)) (Err copy.DiskFault) (λ e. cc) holds none same breaks lasts
   left_past (copy.HistoryTooLong have) d before holds none told same breaks lasts =
-      left_as_it_was (Err (fault.HistoryFull have, d)) (Err (copy.HistoryTooLong have)) (λ e. cc) holds none same breaks lasts
+      left_as_it_was (Err (fault.Copy (copy.HistoryTooLong have), d)) (Err (copy.HistoryTooLong have)) (λ e. cc) holds none same breaks lasts
   left_past copy.Memory d before holds none told same breaks lasts =
-      left_as_it_was (Err (fault.Memory, d)) (Err copy.Memory) (λ e. cc) holds none same breaks lasts
+      left_as_it_was (Err (fault.Copy copy.Memory, d)) (Err copy.Memory) (λ e. cc) holds none same breaks lasts
 
   -- after a copy that was refused
-  pub left_refused : (f : CopyFault) (d : D) (before : StoreStatus) (e : NodeFault) (stopped : Option StoreStatus) → Holds disk old.log n
-      → old.log.stopped ≡ None → before ≡ status_of old.log.head → now.head ≡ old.log.head
-      → BreaksSource {A = Unit {0}} (Err f) old.log.failed now.broken
-      → ((s : State) → Backs disk old.log.head s → Lasts {A = Unit {0}} (Err f) disk new old.log.head s) → e ≡ of_copy f
+  pub left_refused : (f : CopyFault) (d : D) (before : StoreStatus) (stopped : Option StoreStatus) → Holds disk old.log n → old.log.stopped ≡ None
+      → before ≡ status_of old.log.head → now.head ≡ old.log.head → BreaksSource {A = Unit {0}} (Err f) old.log.failed now.broken
+      → ((s : State) → Backs disk old.log.head s → Lasts {A = Unit {0}} (Err f) disk new old.log.head s)
       → stopped ≡ source_stopped f old.log.stopped before
-      → LeavesSource {A = A} (Err (e, d)) disk new (memory_of now old.log.walker stopped) n
-  left_refused f d before e stopped holds none told same breaks lasts answer is =
-      let Left : NodeFault → Option StoreStatus → Type 0 = λ e. λ s. LeavesSource {A = A} {D = D} (Err (e, d)) disk new
-      (memory_of now old.log.walker s) n in
-      subst (λ (e : NodeFault). Left e stopped) (sym answer)
-      (subst (Left (of_copy f)) (sym is) (left_past f d before holds none told same breaks lasts))
+      → LeavesSource {A = A} (Err (fault.Copy f, d)) disk new (memory_of now old.log.walker stopped) n
+  left_refused f d before stopped holds none told same breaks lasts is =
+      let Left : Option StoreStatus → Type 0 = λ s. LeavesSource {A = A} {D = D} (Err (fault.Copy f, d)) disk new (memory_of now old.log.walker s) n in
+      subst Left (sym is) (left_past f d before holds none told same breaks lasts)
 
 -- a source that was not called
-pub left_untouched : {A D E : Type 0} (answer : Result A (NodeFault × D)) (disk : DiskState) (old : HeldLog E) (n : LogState)
+pub left_untouched : {A D E : Type 0} (answer : Result A (CloneFault × D)) (disk : DiskState) (old : HeldLog E) (n : LogState)
     → ((image : Folder) → disk.left_since disk.moment image → disk.may_leave image) → Holds disk old.log n → LeavesSource answer disk disk old.log n
 left_untouched {A} {D} answer disk old n only holds =
     let comes = untouched {A = Unit {0}} (Ok tt) disk old n (λ m. m ≡ n) (Old n) only holds refl (λ d was. was) (λ e. absurd cc) in
@@ -125,26 +123,8 @@ left_untouched {A} {D} answer disk old n only holds =
 
 -- ---- which refusals there are
 
-pub of_source : (f : CopyFault) (e : NodeFault) → e ≡ of_copy f → e ≡ fault.SourceFault → f ≡ copy.SourceFault
-of_source copy.SourceFault e answer is = refl
-of_source copy.Exists e answer is = absurd cc
-of_source copy.DiskFault e answer is = absurd cc
-of_source (copy.HistoryTooLong have) e answer is = absurd cc
-of_source copy.Memory e answer is = absurd cc
-
-pub of_existing : (f : CopyFault) (e : NodeFault) → e ≡ of_copy f → e ≡ fault.Exists → f ≡ copy.Exists
-of_existing copy.Exists e answer is = refl
-of_existing copy.SourceFault e answer is = absurd cc
-of_existing copy.DiskFault e answer is = absurd cc
-of_existing (copy.HistoryTooLong have) e answer is = absurd cc
-of_existing copy.Memory e answer is = absurd cc
-
-pub of_long : (f : CopyFault) (e : NodeFault) (have : ℕ) → e ≡ of_copy f → e ≡ fault.HistoryFull have → f ≡ copy.HistoryTooLong have
-of_long (copy.HistoryTooLong size) e have answer is = let same : fault.HistoryFull size ≡ fault.HistoryFull have = sym answer ∙ is in cc
-of_long copy.Exists e have answer is = absurd cc
-of_long copy.SourceFault e have answer is = absurd cc
-of_long copy.DiskFault e have answer is = absurd cc
-of_long copy.Memory e have answer is = absurd cc
+pub copy_fault : (f g : CopyFault) → fault.Copy f ≡ fault.Copy g → f ≡ g
+copy_fault f g is = cc
 
 -- the folder that is told after some calls
 pub told_on : (old new : ToldFiles) → is_some new ≡ is_some old → IsSome old → (folder : Folder) × (new ≡ Some folder)
@@ -157,24 +137,6 @@ abbrev pub AllStand : ℕ → Durable → DiskState → Folder → Type 0
 AllStand size d disk folder = StandsFor size folder d × ((image : Folder) → disk.may_leave image → StandsFor size image d)
 
 -- ---- after a copy that was made
-
-pub if_ok : {A E : Type 0} (result : Result A E) (P Q : A → Type 0) → ((x : A) → P x → Q x) → IfOk result P → IfOk result Q
-if_ok (Ok x) P Q leads h = leads x h
-if_ok (Err e) P Q leads h = tt
-
-pub ok_any : {A E : Type 0} (result : Result A E) (P : Type 0) → P → IfOk result (λ x. P)
-ok_any (Ok x) P h = h
-ok_any (Err e) P h = tt
-
-pub if_err : {A E : Type 0} (result : Result A E) (P Q : E → Type 0) → ((e : E) → P e → Q e) → IfErr result P → IfErr result Q
-if_err (Ok x) P Q leads h = tt
-if_err (Err e) P Q leads h = leads e h
-
--- what is known of an answer and the disk after it, of an answer that hands the disk back
-pub err_of : {D E : Type 0} (result : Result (HeldLog D) (E × D)) (P : Result (HeldLog D) E → D → Type 0) (S : E × D → Type 0)
-    → ((e : E × D) → P (Err e.0) e.1 → S e) → P (answer_after result) (disk_after result) → IfErr result S
-err_of (Ok x) P S fails h = tt
-err_of (Err e) P S fails h = fails e h
 
 -- all of the disk stands for the copy of the log
 pub all_stand : {E : Type 0} (source : DiskState) (old : HeldLog E) (before mid : DiskState) (n : LogState) (known : ℕ) → Holds source old.log n
@@ -228,7 +190,7 @@ known_moments source old before mid n known is none moments =
     copy_moments source old before mid there.0 n is.holds none is.told there.1 moments
 
 -- and while it is mounted
-pub mounted_moments : {A : Type 0} (result : Result A NodeFault) (before mid new : DiskState) (n : LogState) (known : ℕ) → n.size ≡ VERSION_1_SIZE
+pub mounted_moments : {A : Type 0} (result : Result A OpenFault) (before mid new : DiskState) (n : LogState) (known : ℕ) → n.size ≡ VERSION_1_SIZE
     → LeavesOnly before mid (IsCopying before.may_leave n.size n.kept.durable)
     → OnlyOpens result mid new VERSION_1_SIZE (copied n.kept.durable known) → LeavesOnly before new (IsCopying before.may_leave n.size n.kept.durable)
 mounted_moments result before mid new n known size first opens =
@@ -245,61 +207,33 @@ uncopied_moments old size d only = started old (IsCopying old.may_leave size d) 
 
 -- ---- faults of the copy's disk
 
-disk_fault : (f : CopyFault) (e : NodeFault) → e ≡ of_copy f → e ≡ fault.DiskFault → f ≡ copy.DiskFault
-disk_fault copy.DiskFault e answer is = refl
-disk_fault copy.SourceFault e answer is = absurd cc
-disk_fault copy.Exists e answer is = absurd cc
-disk_fault (copy.HistoryTooLong have) e answer is = absurd cc
-disk_fault copy.Memory e answer is = absurd cc
-
-other_fault : (f : CopyFault) (e : NodeFault) (old new : DiskState) → e ≡ of_copy f → IsOfDisk {A = Unit {0}} (Err f) old new
-    → (e ≡ fault.DiskFault) ⊎ Stood old.faults new.faults
-other_fault copy.DiskFault e old new answer of = inl answer
-other_fault copy.SourceFault e old new answer of = inr (of.others (λ is. cc))
-other_fault copy.Exists e old new answer of = inr (of.others (λ is. cc))
-other_fault (copy.HistoryTooLong have) e old new answer of = inr (of.others (λ is. cc))
-other_fault copy.Memory e old new answer of = inr (of.others (λ is. cc))
-
--- it is told where the copy is refused
-pub uncopied_caused : {A : Type 0} (f : CopyFault) (e : NodeFault) (old new : DiskState) → e ≡ of_copy f → IsOfDisk {A = Unit {0}} (Err f) old new
-    → IsOpened {A = A} (Err e) old new
-uncopied_caused {A} f e old new answer of =
-    let Fails : CopyFault → Result (Unit {0}) CopyFault = λ x. Err x in
-    record {
-      ok = tt;
-      failed = λ is. elim (of.failed (ap Fails (disk_fault f e answer (failure {A = A} e is)))) [
-        | inl rose ↦ inl rose
-        | inr lack ↦ inr lack.1
-      ];
-      others = other_fault f e old new answer of;
-    }
-
 -- where the disk tells its files
-pub uncopied_rose : (f : CopyFault) (e : NodeFault) (old new : DiskState) → e ≡ of_copy f → IsSome old.files
-    → IsOfDisk {A = Unit {0}} (Err f) old new → e ≡ fault.DiskFault → Rose old.faults new.faults
-uncopied_rose f e old new answer files of is =
+pub uncopied_rose : (f : CopyFault) (old new : DiskState) → IsSome old.files → IsOfDisk {A = Unit {0}} (Err f) old new → IsDiskFault (fault.Copy f)
+    → Rose old.faults new.faults
+uncopied_rose f old new files of (inr is) = absurd cc
+uncopied_rose f old new files of (inl is) =
     let Fails : CopyFault → Result (Unit {0}) CopyFault = λ x. Err x in
     let There : ToldFiles → Type 0 = λ t. IsSome t in
-    elim (of.failed (ap Fails (disk_fault f e answer is))) [
+    elim (of.failed (ap Fails (copy_fault f copy.DiskFault is))) [
       | inl rose ↦ rose
       | inr lack ↦ let none : There None = subst There lack.0 files in absurd cc
     ]
 
 -- ---- faults of the source's disk
 
-pub counted : (f : CopyFault) (e : NodeFault) (old new : DiskState) (broken : Bool) → e ≡ of_copy f
-    → IsOfSource {A = Unit {0}} (Err f) old new broken → (e ≡ fault.SourceFault) ⊎ Stood old.faults new.faults
-counted copy.SourceFault e old new broken answer of = inl answer
-counted copy.Exists e old new broken answer of = inr (of.others (λ is. cc))
-counted copy.DiskFault e old new broken answer of = inr (of.others (λ is. cc))
-counted (copy.HistoryTooLong have) e old new broken answer of = inr (of.others (λ is. cc))
-counted copy.Memory e old new broken answer of = inr (of.others (λ is. cc))
+pub counted : (f : CopyFault) (old new : DiskState) (broken : Bool) → IsOfSource {A = Unit {0}} (Err f) old new broken
+    → (fault.Copy f ≡ fault.Copy copy.SourceFault) ⊎ Stood old.faults new.faults
+counted copy.SourceFault old new broken of = inl refl
+counted copy.Exists old new broken of = inr (of.others (λ is. cc))
+counted copy.DiskFault old new broken of = inr (of.others (λ is. cc))
+counted (copy.HistoryTooLong have) old new broken of = inr (of.others (λ is. cc))
+counted copy.Memory old new broken of = inr (of.others (λ is. cc))
 
-pub source_failed : (f : CopyFault) (e : NodeFault) (old new : DiskState) (broken : Bool) → e ≡ of_copy f → e ≡ fault.SourceFault → broken ≡ false
+pub source_failed : (f : CopyFault) (old new : DiskState) (broken : Bool) → fault.Copy f ≡ fault.Copy copy.SourceFault → broken ≡ false
     → IsOfSource {A = Unit {0}} (Err f) old new broken → Rose old.faults new.faults ⊎ Rose old.lacks new.lacks
-source_failed f e old new broken answer is sound of =
+source_failed f old new broken is sound of =
     let Fails : CopyFault → Result (Unit {0}) CopyFault = λ x. Err x in
-    elim (of.failed (ap Fails (of_source f e answer is))) [
+    elim (of.failed (ap Fails (copy_fault f copy.SourceFault is))) [
       | inl broke ↦ absurd cc
       | inr rose ↦ rose
     ]

@@ -9,7 +9,7 @@ use Rattle.repl_disk.specs.Folder.{Folder}
 use Rattle.repl_disk.specs.State.{DiskState}
 use Rattle.repl_record.specs.Walker.{last_end, last_start}
 use Rattle.repl_record.specs.declared.walker.Walker.{Walker}
-use Rattle.repl_store.specs.Backing.{Backs, Breaks, Either, IsAnswer, IsCaused, LeavesOne, State, flushed, flushed_control, Comes as StoreComes}
+use Rattle.repl_store.specs.Backing.{Backs, Breaks, Either, IsCaused, LeavesOne, State, flushed, flushed_control, Comes as StoreComes}
 use Rattle.repl_store.specs.Durable.{Durable}
 use Rattle.repl_store.specs.Head.{Head, Held, IsAt, IsHead, Stands, status_of}
 use Rattle.repl_store.specs.declared.fault.StoreFault.{StoreFault}
@@ -62,6 +62,12 @@ same_status head w n runs =
 
 -- ---- a refusal of the store
 
+-- which there are
+pub each_fault : (f : StoreFault) → (f ≡ store.Broken) ⊎ (f ≡ store.DiskFault) ⊎ (f ≡ store.Memory)
+each_fault store.Broken = inl refl
+each_fault store.DiskFault = inr (inl refl)
+each_fault store.Memory = inr (inr refl)
+
 -- what is known of the files then
 pub record Refused (column : Durable → Type 0) (f : StoreFault) (old new : DiskState) (head : Head) (n : LogState) : Type 0 where
   pub moments : LeavesOne old new n.size column
@@ -95,13 +101,13 @@ still_sound {A} f was now memory sound breaks =
 pub refused : {A D : Type 0} (Refuses : NodeFault → Type 0) (Passes : Type 0) (Done : A → LogState → Type 0) (Partly : LogState → Type 0)
     (column : Durable → Type 0) (disk new : DiskState) (old : HeldLog D) (now : Held D) (f : StoreFault) (before : StoreStatus) (n : LogState)
     → Holds disk old.log n → old.log.stopped ≡ None → Passes → Partly n → before ≡ status_of old.log.head
-    → IsAt old.log.head now.head old.log.head.written → IsAnswer f → (f ≡ store.Broken → ⊥)
+    → IsAt old.log.head now.head old.log.head.written → (f ≡ store.Broken → ⊥)
     → Breaks {A = Unit {0}} (Err f) old.log.failed now.broken
     → (f ≡ store.DiskFault → Rose disk.faults new.faults ⊎ Rose disk.lacks new.lacks)
     → (n.told ≡ true → n.broken ≡ false → Refused column f disk new now.head n)
     → Comes {A = A} (Err (of_store f)) disk new (memory_of now old.log.walker (stopped_by f old.log.stopped before)) n
     (Step Refuses Passes Done Partly n (Err (of_store f))) column
-refused {A} {D} Refuses Passes Done Partly column disk new old now f before n holds none passes partly told same answer sound breaks cause files =
+refused {A} {D} Refuses Passes Done Partly column disk new old now f before n holds none passes partly told same sound breaks cause files =
     let runs = running old n none holds.remembers in
     let At : StoreFault → Type 0 = λ e. Comes {A = A} (Err (of_store e)) disk new (memory_of now old.log.walker (stopped_by e old.log.stopped before))
     n (Step Refuses Passes Done Partly n (Err (of_store e))) column in
@@ -142,7 +148,7 @@ refused {A} {D} Refuses Passes Done Partly column disk new old now f before n ho
         ]
       ];
     } in
-    elim answer [
+    elim (each_fault f) [
       | inl broken ↦ absurd (sound broken)
       | inr (inl disk_fault) ↦ subst At (sym disk_fault) (failure disk_fault)
       | inr (inr no_memory) ↦ subst At (sym no_memory) (memory no_memory)
@@ -243,7 +249,7 @@ module _ {A D : Type 0} (Refuses : NodeFault → Type 0) (Passes : Type 0) (Done
       let At : NodeFault → Option StoreStatus → Type 0 = λ e. λ s. Comes {A = A} (Err e) disk new (memory_of now old.log.walker s) n
       (Step Refuses Passes Done Partly n (Err e)) column in
       subst (λ (e : NodeFault). At e stopped) (sym answer) (subst (At (of_store f)) (sym left) (refused Refuses Passes Done Partly column disk new old
-      now f before n holds none passes partly told same caused.answers (not_broken f old.log.failed runs.1 broken) breaks (λ is. caused.failed
+      now f before n holds none passes partly told same (not_broken f old.log.failed runs.1 broken) breaks (λ is. caused.failed
       (ap Fails is)) files))
 
   pub certain_at : (a : A) (role : Role) (end last : ℕ) → end ≡ last_end old.log.walker → last ≡ last_start old.log.walker → Holds disk old.log n

@@ -25,7 +25,7 @@ use Rattle.repl_wal.specs.declared.fault.NodeFault.{NodeFault}
 use Rattle.repl_wal.specs.declared.fault.NodeFault.TheVariants as fault
 use Rattle.repl_wal.proofs.Beginning.{begun_runs}
 use Rattle.repl_wal.proofs.Children.{left_between}
-use Rattle.repl_wal.proofs.Ending.{not_broken, ok_sound, running, same_status, still_sound}
+use Rattle.repl_wal.proofs.Ending.{each_fault, not_broken, ok_sound, running, same_status, still_sound}
 use Rattle.repl_wal.proofs.Running.{marks, still_runs}
 
 -- ---- before the store's call
@@ -252,7 +252,7 @@ unfollowed_at {D} disk new old now n child f status holds none told can same cau
           ])
       | inr untold ↦ as_it_was (λ t b. absurd cc)
     ] in
-    elim caused.answers [
+    elim (each_fault f) [
       | inl broken ↦ absurd (sound broken)
       | inr (inl disk_fault) ↦ subst At (sym disk_fault) (failure disk_fault)
       | inr (inr no_memory) ↦ subst At (sym no_memory) (memory no_memory)

@@ -10,6 +10,8 @@ pub mod Writing
 pub mod Reading
 -- where a log begins
 pub mod Beginning
+-- the files of segments
+pub mod Files
 -- going through what is flushed
 pub mod Mounting
 -- who is told of failures in a mount

@@ -1,5 +1,5 @@
 -- Going through what is flushed past the whole end.
-use Rattle.std.proofs.Common.{◌≡◌, ℕ, ◌+◌, ◌-◌, ◌%◌, ◌≤◌, List, [], ◌++◌, length, take, drop, replicate, false, refl, sym, ap, ◌∙◌, subst, inl, inr, arith, append-nil, length-append, length-drop}
+use Rattle.std.proofs.Common.{◌≡◌, ℕ, ◌+◌, ◌-◌, ◌%◌, ◌≤◌, List, [], ◌++◌, length, take, drop, replicate, false, refl, sym, ap, ◌∙◌, subst, arith, append-nil, length-append, length-drop}
 use Rattle.std.proofs.Math.Nat.{div-mul-le_self}
 use Rattle.std.proofs.Math.Seq.{drop-append_seam, take-add}
 use Rattle.std.proofs.lemmas.List.{drop-append-le, drop-drop, length-replicate, take-append-drop, take-append-le, take_all}
@@ -15,37 +15,41 @@ use Rattle.repl_record.proofs.LogEnds.{kept_by_more}
 use Rattle.repl_record.specs.Log.{RecordEnd, origin}
 use Rattle.repl_record.specs.Walker.{AreOn, Stands, identity, last_end, position}
 use Rattle.repl_record.specs.declared.walker.Walker.{Walker}
-use Rattle.repl_store.specs.Backing.{Backs, IsAnswer, State, log}
+use Rattle.repl_store.specs.Backing.{Backs, State, log}
 use Rattle.repl_store.specs.Durable.{Durable}
 use Rattle.repl_store.specs.Head.{Head, IsHead, status_of}
-use Rattle.repl_store.specs.Refusal.{IsOfDisk}
+use Rattle.repl_store.specs.declared.fault.MountFault.TheVariants as mount
 use Rattle.repl_store.specs.declared.fault.StoreFault.{StoreFault}
 use Rattle.repl_store.specs.declared.fault.StoreFault.TheVariants as store
 use Rattle.repl_store.specs.declared.store.StoreStatus.{StoreStatus}
 use Rattle.repl_wal.specs.Holding.{Runs}
-use Rattle.repl_wal.specs.Making.{BeginsAs, HasTaken, IsWrongPast, IsWrongTail, TakenOf, mounted_log}
+use Rattle.repl_wal.specs.Making.{BeginsAs, HasTaken, IsFailure, IsWrongPast, IsWrongTail, TakenOf, mounted_log, unread}
 use Rattle.repl_wal.specs.State.{LogState, ident_of, tail_of}
-use Rattle.repl_wal.specs.declared.fault.NodeFault.{NodeFault}
-use Rattle.repl_wal.specs.declared.fault.NodeFault.TheVariants as fault
+use Rattle.repl_wal.specs.declared.fault.OpenFault.{OpenFault}
+use Rattle.repl_wal.specs.declared.fault.OpenFault.TheVariants as fault
 use Rattle.repl_wal.proofs.Beginning.{fresh_runs}
 use Rattle.repl_wal.proofs.Writing.{own_from}
 
 -- ---- refusals
 
-pub of_disk : (f : StoreFault) → IsAnswer f → (f ≡ store.Broken → ⊥) → IsOfDisk f
-of_disk f (inl broken) sound = absurd (sound broken)
-of_disk f (inr (inl failed)) sound = subst IsOfDisk (sym failed) tt
-of_disk f (inr (inr memory)) sound = subst IsOfDisk (sym memory) tt
+-- a read that failed
+pub unread_fails : (f : StoreFault) → IsFailure (unread f)
+unread_fails store.Broken = (mount.DiskFault, refl, tt)
+unread_fails store.DiskFault = (mount.DiskFault, refl, tt)
+unread_fails store.Memory = (mount.Memory, refl, tt)
 
 -- what is wrong stays wrong where more bytes follow
-wrong_more : (ident : Ident) (timeline : ℕ → ℕ) (whole prev : ℕ) (log more : List ℕ) (e : NodeFault) → IsWrongPast ident timeline whole prev log e
-    → IsWrongPast ident timeline whole prev (log ++ more) e
-wrong_more ident timeline whole prev log more (fault.BadControl place) is = (
+wrong_more : (ident : Ident) (path : Path) (whole prev : ℕ) (log more : List ℕ) (e : OpenFault) → IsWrongPast ident path whole prev log e
+    → IsWrongPast ident path whole prev (log ++ more) e
+wrong_more ident path whole prev log more (fault.Store (mount.BadControl place)) is = (
   is.0,
-  (is.1.0, is.1.1, is.1.2, kept_by_more ident timeline whole prev log more is.1.0 is.1.1 is.1.3),
+  (is.1.0, is.1.1, is.1.2, kept_by_more ident (timeline_at path) whole prev log more is.1.0 is.1.1 is.1.3),
 )
-wrong_more ident timeline whole prev log more (fault.Damaged at why) is = fault_more ident timeline whole prev log more whole prev at why is
-wrong_more ident timeline whole prev log more e is = absurd is
+wrong_more ident path whole prev log more (fault.Log name at why) is = (
+  is.0,
+  fault_more ident (timeline_at path) whole prev log more whole prev at why is.1,
+)
+wrong_more ident path whole prev log more e is = absurd is
 
 -- ---- a piece
 
@@ -110,10 +114,10 @@ taken_of_on head status w next s piece has is told goes on read taken =
     (subst (HasWalked next tl head.control.whole head.control.prev) (piece_next head s (position w) piece low past read) walked)
 
 -- what is wrong in the log is wrong in what is flushed
-pub wrong_on : (disk : DiskState) (head : Head) (status : StoreStatus) (w : Walker) (s : State) (piece : List ℕ) (e : NodeFault) → HasTaken head w
+pub wrong_on : (disk : DiskState) (head : Head) (status : StoreStatus) (w : Walker) (s : State) (piece : List ℕ) (e : OpenFault) → HasTaken head w
     → IsHead head → status ≡ status_of head → Backs disk head s → position w + length piece ≤ head.control.flushed
-    → ((timeline : ℕ → ℕ) (prev : ℕ) (log : List ℕ) → HasWalked w timeline status.whole prev log
-    → AreOn timeline status.tli (position w) (length piece) → IsWrongPast (identity w) timeline status.whole prev (log ++ piece) e)
+    → ((prev : ℕ) (log : List ℕ) → HasWalked w (timeline_at head.path) status.whole prev log
+    → AreOn (timeline_at head.path) status.tli (position w) (length piece) → IsWrongPast (identity w) head.path status.whole prev (log ++ piece) e)
     → piece ≡ take (length piece) (drop (position w - head.control.floor) (log s)) → TakenOf s head w → IsWrongTail head.size s.durable e
 wrong_on disk head status w s piece e has is told backs within wrong read taken =
     let whole = head.control.whole in
@@ -125,11 +129,11 @@ wrong_on disk head status w s piece e has is told backs within wrong read taken 
     let tail = drop (whole - floor) (log s) in
     let flushed = drop (whole - floor) s.durable.bytes in
     let same : status.whole ≡ whole = ap (λ (t : StoreStatus). t.whole) told in
-    let first : IsWrongPast (identity w) tl status.whole head.control.prev (take (position w - whole) tail ++ piece) e = wrong tl head.control.prev
+    let first : IsWrongPast (identity w) head.path status.whole head.control.prev (take (position w - whole) tail ++ piece) e = wrong head.control.prev
     (take (position w - whole) tail) (subst (λ (a : ℕ). HasWalked w tl a head.control.prev (take (position w - whole) tail)) (sym same) taken)
     (on_path head status (position w) (length piece) is told past) in
-    let here : IsWrongPast (identity w) tl whole head.control.prev (take (position w - whole) tail ++ piece) e = subst (λ (a : ℕ).
-    IsWrongPast (identity w) tl a head.control.prev (take (position w - whole) tail ++ piece) e) same first in
+    let here : IsWrongPast (identity w) head.path whole head.control.prev (take (position w - whole) tail ++ piece) e = subst (λ (a : ℕ).
+    IsWrongPast (identity w) head.path a head.control.prev (take (position w - whole) tail ++ piece) e) same first in
     let k = position w + length piece - whole in
     let front : take (position w - whole) tail ++ piece ≡ take k tail = piece_next head s (position w) piece low past read in
     let parts : tail ≡ flushed ++ s.unflushed = drop-append-le (whole - floor) s.durable.bytes s.unflushed (omega (
@@ -140,10 +144,10 @@ wrong_on disk head status w s piece e has is told backs within wrong read taken 
     )) in
     let enough : k ≤ length flushed = omega (arith, length-drop (whole - floor) s.durable.bytes, backs.counted, within, low, past) in
     let cut : take k tail ≡ take k flushed = ap (take k) parts ∙ take-append-le k flushed s.unflushed enough in
-    let At : List ℕ → Type 0 = λ l. IsWrongPast (identity w) tl whole head.control.prev l e in
-    let full : At flushed = subst At (take-append-drop k flushed) (wrong_more (identity w) tl whole head.control.prev (take k flushed)
+    let At : List ℕ → Type 0 = λ l. IsWrongPast (identity w) head.path whole head.control.prev l e in
+    let full : At flushed = subst At (take-append-drop k flushed) (wrong_more (identity w) head.path whole head.control.prev (take k flushed)
     (drop k flushed) e (subst At (front ∙ cut) here)) in
-    let Of : Ident → Path → Control → Type 0 = λ i. λ p. λ c. IsWrongPast i (timeline_at p) c.whole c.prev (drop (c.whole - c.floor)
+    let Of : Ident → Path → Control → Type 0 = λ i. λ p. λ c. IsWrongPast i p c.whole c.prev (drop (c.whole - c.floor)
     s.durable.bytes) e in
     subst (λ (c : Control). Of (record { sysid = c.sysid; magic = c.magic; size = head.size }) s.durable.path c) (sym backs.control)
     (subst (λ (p : Path). Of (record { sysid = head.control.sysid; magic = head.control.magic; size = head.size }) p head.control) (sym backs.path)

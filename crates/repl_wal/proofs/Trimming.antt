@@ -16,7 +16,7 @@ use Rattle.repl_wal.specs.Faults.{of_store, stopped_by}
 use Rattle.repl_wal.specs.Holding.{Comes, HeldLog, Holds, Runs, memory_of}
 use Rattle.repl_wal.specs.Keeping.{TrimLeaves, Trims, trimmed_floor}
 use Rattle.repl_wal.specs.State.{LogState, breaking, floor_of, raised_log, whole_end}
-use Rattle.repl_wal.proofs.Ending.{ok_sound, running, same_status, still_sound}
+use Rattle.repl_wal.proofs.Ending.{each_fault, ok_sound, running, same_status, still_sound}
 use Rattle.repl_wal.proofs.Keeping.{raised_right, raised_runs}
 use Rattle.repl_wal.proofs.Reading.{at_same}
 use Rattle.repl_wal.proofs.Running.{still_runs}
@@ -158,7 +158,7 @@ untrimmed_comes {D} disk new old now n restart keep floor f before holds none is
         failed = λ is. absurd cc;
       }
     ] in
-    elim caused.answers [
+    elim (each_fault f) [
       | inl broken ↦ absurd (sound broken)
       | inr (inl disk_fault) ↦ subst At (sym disk_fault) (failure disk_fault)
       | inr (inr no_memory) ↦ subst At (sym no_memory) (memory no_memory)

@@ -8,11 +8,6 @@ use Rattle.repl_wal.specs.declared.fault.NodeFault.TheVariants as fault
 
 abbrev pub of_store : StoreFault → NodeFault
 of_store store.Broken = fault.Broken
-of_store store.Exists = fault.Exists
-of_store (store.Missing name) = fault.Missing name
-of_store (store.BadControl place) = fault.BadControl place
-of_store (store.BadHistory tli wrong) = fault.BadHistory tli wrong
-of_store (store.ShortFile name have needed) = fault.ShortFile name have needed
 of_store store.DiskFault = fault.DiskFault
 of_store store.Memory = fault.Memory
 

@@ -1,10 +1,11 @@
-//! Why a call on a node's log is refused.
+//! Why a call on a node's log is refused, and why no log is opened.
 ghost use Rattle.std.specs.Prelude.{◌≡◌};
 ghost use Rattle.repl_wal.specs.Faults.{of_store, stopped_by};
 
-use repl_lsn::{HistoryFault, Lsn, Part, Text, Tli};
+use repl_clone::CopyFault;
+use repl_lsn::{Lsn, Part, Text, Tli};
 use repl_record::WalkReason;
-use repl_store::{StoreFault, StoreStatus};
+use repl_store::{MountFault, StoreFault, StoreStatus};
 use std::alloc::AllocError;
 
 /// Why a call on a node, or on its log, is refused.
@@ -12,22 +13,6 @@ use std::alloc::AllocError;
 pub enum NodeFault {
     /// A call of the disk failed since the mount.
     Broken,
-    /// There is a store already.
-    Exists,
-    /// The other node's disk failed, or it is broken.
-    SourceFault,
-    /// No file has this name.
-    Missing(Text),
-    /// The control is wrong at this byte.
-    BadControl(u64),
-    /// The file of the slots is wrong at this byte.
-    BadSlots(u64),
-    /// The history of this timeline is wrong.
-    BadHistory { tli: Tli, fault: HistoryFault },
-    /// The file of a segment has fewer bytes than are flushed of it.
-    ShortFile { name: Text, have: u64, needed: u64 },
-    /// Past the whole end stands what is no record.
-    Damaged { at: Lsn, why: WalkReason },
     /// The node is a standby.
     NotPrimary,
     /// The node is a primary.
@@ -70,6 +55,30 @@ pub enum NodeFault {
     Memory,
 }
 
+/// Why no node, or no log, is opened: which file is wrong, where and why; or that the disk failed, or memory was wanting.
+#[derive(Debug, Drop)]
+pub enum OpenFault {
+    /// The store is not mounted, or its control is wrong.
+    Store(MountFault),
+    /// The file of the slots is wrong at this byte. A node answers it, and no log.
+    Slots(u64),
+    /// Past the whole end, in the file of this name, stands at this position what is no record.
+    Log {
+        name: Text,
+        at: Lsn,
+        why: WalkReason,
+    },
+}
+
+/// Why no standby, or no log of one, is begun with what another node keeps.
+#[derive(Debug, Drop)]
+pub enum CloneFault {
+    /// The store is not copied.
+    Copy(CopyFault),
+    /// The copy is not opened.
+    Open(OpenFault),
+}
+
 impl From<AllocError> for NodeFault {
     ghost use Rattle.std.specs.Prelude.{◌≡◌};
     ghost use Rattle.repl_wal.specs.declared.fault.NodeFault.TheVariants.{Memory};
@@ -81,17 +90,24 @@ impl From<AllocError> for NodeFault {
     }
 }
 
-/// What a store's fault is to a log.
+impl From<AllocError> for OpenFault {
+    ghost use Rattle.std.specs.Prelude.{◌≡◌};
+    ghost use Rattle.repl_store.specs.declared.fault.MountFault.TheVariants.{Memory};
+    ghost use Rattle.repl_wal.specs.declared.fault.OpenFault.TheVariants.{Store};
+
+    ghost from_gives = { λ _ e. e ≡ Store Memory };
+
+    fn from(_error: AllocError) -> OpenFault {
+        OpenFault::Store(MountFault::Memory)
+    }
+}
+
+/// What a store's fault is to a running log.
 pub fn of_store(fault: StoreFault) -> NodeFault
     ensures { result ≡ of_store fault }
 {
     match fault {
         StoreFault::Broken => NodeFault::Broken,
-        StoreFault::Exists => NodeFault::Exists,
-        StoreFault::Missing(name) => NodeFault::Missing(name),
-        StoreFault::BadControl(place) => NodeFault::BadControl(place),
-        StoreFault::BadHistory { tli, fault } => NodeFault::BadHistory { tli, fault },
-        StoreFault::ShortFile { name, have, needed } => NodeFault::ShortFile { name, have, needed },
         StoreFault::DiskFault => NodeFault::DiskFault,
         StoreFault::Memory => NodeFault::Memory,
     }

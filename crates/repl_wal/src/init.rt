@@ -3,26 +3,30 @@ ghost use Rattle.std.specs.Prelude.{◌≡◌, ℕ, false, None, IsSome, IfOk, I
 ghost use Rattle.repl_control.specs.declared.control.TheConstants.{VERSION_1_SIZE};
 ghost use Rattle.repl_disk.specs.Crash.{LeavesOnly};
 ghost use Rattle.repl_disk.specs.Folder.{Folder, IfTold};
-ghost use Rattle.repl_store.specs.Creating.{IsMaking, fresh};
+ghost use Rattle.repl_store.specs.Creating.{IsMadeOf, IsMaking, IsUnmade, fresh};
 ghost use Rattle.repl_store.specs.Durable.{IsKnown, StandsFor, control_name};
 ghost use Rattle.repl_store.specs.Head.{IsMounted};
 ghost use Rattle.repl_store.specs.Apart.{StaysApart};
 ghost use Rattle.repl_wal.specs.Holding.{Holds, Remembers, answer_after, disk_after, store_of};
 ghost use Rattle.repl_wal.specs.State.{LogState};
-ghost use Rattle.repl_wal.specs.Making.{BeginsAs, IsMadeOf, IsUnmade, mounted_log, untold_log};
+ghost use Rattle.repl_wal.specs.Making.{BeginsAs, mounted_log, untold_log};
 
-use crate::fault::{NodeFault, of_store};
 use crate::wal::Wal;
 use repl_control::Role;
 use repl_disk::Disk;
 use repl_record::{Ident, Walker};
-use repl_store::Store;
+use repl_store::{CreateFault, Store};
 use std::alloc::Global;
 
 impl<D: Disk> Wal<D> {
     /// Makes the log of a new node on a disk that has no store: on timeline 1, and without a record. Other files that are
     /// there stay, and are passed over but for histories. Where a control is there it is refused, and nothing changes.
-    pub fn init(alloc: Global, disk: D, ident: Ident, role: Role) -> Result<Wal<D>, (NodeFault, D)>
+    pub fn init(
+        alloc: Global,
+        disk: D,
+        ident: Ident,
+        role: Role,
+    ) -> Result<Wal<D>, (CreateFault, D)>
         requires { ident.size ≡ VERSION_1_SIZE }
         ensures made { IfOk result (λ wal. Remembers wal.log (untold_log VERSION_1_SIZE (fresh role ident 1))) }
         // There was no control, and from here on every image is the new store.
@@ -41,7 +45,7 @@ impl<D: Disk> Wal<D> {
     {
         match Store::create(alloc, disk, ident, role) {
             Ok(store) => Ok(begin(store)),
-            Err((fault, disk)) => Err((of_store(fault), disk)),
+            Err(refused) => Err(refused),
         }
     }
 }

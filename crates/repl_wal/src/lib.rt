@@ -7,7 +7,8 @@
 //! each call refuses, makes of the state, and leaves to a crash. How a state, the memory and the disk's files hang together
 //! stands in `specs/Holding.antt`, and what every call says of them (`Calls`). After a failure of the disk every call but
 //! `identify`, `path` and `into_disk` answers `Broken`, until the log is mounted again. Every call leaves the files of the
-//! slots as they were. Stands on `repl_store` and `repl_walk`.
+//! slots as they were. `NodeFault` says why a call on a running log is refused, `OpenFault` why none is opened, and
+//! `CloneFault` why none is begun with what another one keeps. Stands on `repl_store`, `repl_clone` and `repl_walk`.
 //!
 //! ```text
 //! let mut wal = Wal::init(alloc, disk, ident, Role::Primary)?;
@@ -30,6 +31,6 @@ mod receive;
 mod trim;
 mod wal;
 
-pub use fault::{NodeFault, of_store};
+pub use fault::{CloneFault, NodeFault, OpenFault, of_store};
 pub use read::ReadOut;
 pub use wal::{Identity, LOG_LIMIT, Wal};

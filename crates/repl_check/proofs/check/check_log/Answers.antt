@@ -44,7 +44,7 @@ pub returns-in-Err-clause-exact : goal.returns-in-Err-clause-exact
 returns-in-Err-clause-exact g c =
     let P : Result (Unit {0}) StoreFault → Type 0 = λ r. OnOk r ((s : State) → Backs (g.D.Disk.state c.args.store.now.disk) c.args.store.now.head s
     → (false ≡ true) ↔ LogFits c.args.store.now.head s) in
-    subst P (sym (c.fault_of_store.ensures c.in-Err.ensures.caused.answers)) tt
+    subst P (sym c.fault_of_store.ensures) tt
 
 pub returns-in-Err-fits-clause-flaw : goal.returns-in-Err-fits-clause-flaw
 returns-in-Err-fits-clause-flaw g c flaw same s backs =
@@ -69,5 +69,5 @@ returns-in-Err-clause-comes g c s backs =
     let new = g.D.Disk.state c.read_log.new.store.disk in
     let e = c.in-Err.fault in
     let P : Result (Unit {0}) StoreFault → Type 0 = λ r. Comes r old new c.read_log.new.store.head (Before s) s (λ t. t ≡ s) in
-    subst P (sym (c.fault_of_store.ensures c.in-Err.ensures.caused.answers)) (err_comes LogCheck (Unit {0}) e old new
+    subst P (sym c.fault_of_store.ensures) (err_comes LogCheck (Unit {0}) e old new
     c.read_log.new.store.head s (c.in-Err.ensures.comes s backs))

@@ -7,7 +7,7 @@ use Rattle.repl_store.specs.declared.store.StoreStatus.{StoreStatus}
 use Rattle.repl_check.specs.declared.log_check.LogCheck.{LogCheck}
 use Rattle.repl_check.specs.Found.{HasRead}
 use Rattle.repl_check.specs.Machine.{HasJudged}
-use Rattle.repl_check.proofs.Pieces.{err_breaks, err_caused, err_comes, floor_below, floor_on_page, ok_breaks, ok_comes, read_all, read_none, residual_is}
+use Rattle.repl_check.proofs.Pieces.{err_breaks, err_caused, err_comes, floor_below, floor_on_page, ok_breaks, ok_caused, ok_comes, read_all, read_none, residual_is}
 use Rattle.repl_check.proofs.reading.read_pieces.Goals as goal
 
 pub new-check-requires : goal.new-check-requires
@@ -71,6 +71,11 @@ returns-clause-judged g c =
     let done = c.in_ok-read_up_to.ensures.read in
     let read = subst (HasRead disk head check) end done.0 in
     (read.ident, λ s backs. read_all disk head check s read (omega (arith, done.1, end)) backs)
+
+pub returns-clause-caused : goal.returns-clause-caused
+returns-clause-caused g c =
+    ok_caused (Unit {0}) LogCheck tt c.read_up_to.new.check (g.D.Disk.state c.args.store.now.disk)
+    (g.D.Disk.state c.read_up_to.new.store.disk) c.in_ok-read_up_to.ensures.caused
 
 pub returns-clause-breaks : goal.returns-clause-breaks
 returns-clause-breaks g c = ok_breaks (Unit {0}) LogCheck tt c.read_up_to.new.check c.args.store.now.broken c.read_up_to.new.store.broken

@@ -9,9 +9,9 @@ use Rattle.repl_slots.specs.SlotFile.{FileStops}
 use Rattle.repl_slots.specs.Stored.{IsCaused, Mounted, slots_name}
 use Rattle.repl_slots.specs.declared.fault.SlotFault.{SlotFault}
 use Rattle.repl_slots.specs.declared.fault.SlotFault.TheVariants as slots
-use Rattle.repl_store.specs.declared.fault.StoreFault.TheVariants as store
-use Rattle.repl_wal.specs.declared.fault.NodeFault.{NodeFault}
-use Rattle.repl_wal.specs.declared.fault.NodeFault.TheVariants as fault
+use Rattle.repl_store.specs.declared.fault.MountFault.TheVariants as mount
+use Rattle.repl_wal.specs.declared.fault.OpenFault.{OpenFault}
+use Rattle.repl_wal.specs.declared.fault.OpenFault.TheVariants as fault
 use Rattle.repl_node.specs.Making.{IsFirstRefusal, IsJudged}
 use Rattle.repl_node.proofs.judge.mount_slots.Goals as goal
 
@@ -29,10 +29,10 @@ returns-in-Err-BadSlots-clause-refused g c =
     first found.0 found.1 found.2)
 
 -- they were not read
-unread : (folder : Folder) (f : SlotFault) (e : NodeFault)
-    → ((f ≡ slots.DiskFault) × (e ≡ fault.DiskFault)) ⊎ ((f ≢ slots.DiskFault) × (e ≡ fault.Memory)) → IsFirstRefusal VERSION_1_SIZE folder e
-unread folder f e (inl is) = inl (store.DiskFault, is.1, tt, tt)
-unread folder f e (inr is) = inl (store.Memory, is.1, tt, tt)
+unread : (folder : Folder) (f : SlotFault) (e : OpenFault)
+    → ((f ≡ slots.DiskFault) × (e ≡ fault.Store mount.DiskFault)) ⊎ ((f ≢ slots.DiskFault) × (e ≡ fault.Store mount.Memory)) → IsFirstRefusal VERSION_1_SIZE folder e
+unread folder f e (inl is) = inl (mount.DiskFault, is.1, tt, tt)
+unread folder f e (inr is) = inl (mount.Memory, is.1, tt, tt)
 
 pub returns-in-Err-clause-refused : goal.returns-in-Err-clause-refused
 returns-in-Err-clause-refused g c =
@@ -40,8 +40,8 @@ returns-in-Err-clause-refused g c =
     where_told (g.D.Disk.state c.args.disk).files (λ folder. IsFirstRefusal VERSION_1_SIZE folder e) (λ folder told.
     unread folder c.in-Err.fault e c.failure_of.ensures)
 
-caused : (f : SlotFault) (e : NodeFault) (old new : DiskState)
-    → ((f ≡ slots.DiskFault) × (e ≡ fault.DiskFault)) ⊎ ((f ≢ slots.DiskFault) × (e ≡ fault.Memory)) → IsCaused {A = SlotList} (Err f) old new
+caused : (f : SlotFault) (e : OpenFault) (old new : DiskState)
+    → ((f ≡ slots.DiskFault) × (e ≡ fault.Store mount.DiskFault)) ⊎ ((f ≢ slots.DiskFault) × (e ≡ fault.Store mount.Memory)) → IsCaused {A = SlotList} (Err f) old new
     → IsJudged {A = Unit {0}} (Err e) old new
 caused f e old new (inl is) of =
     let Fails : SlotFault → Result SlotList SlotFault = λ x. Err x in

@@ -1,27 +1,20 @@
 -- Without a control the slots go.
-use Rattle.std.proofs.Common.{◌≡◌, ◌⊎◌, Result, Ok, Err, IfErr, inl, inr, refl}
+use Rattle.std.proofs.Common.{◌≡◌, ◌⊎◌, Result, Ok, Err, IfErr, inl, inr, sym, subst}
 use Rattle.repl_disk.specs.Folder.{ToldFiles}
-use Rattle.repl_store.specs.declared.fault.StoreFault.TheVariants as store
-use Rattle.repl_wal.specs.Making.{IsUnmade}
-use Rattle.repl_wal.specs.declared.fault.NodeFault.{NodeFault}
-use Rattle.repl_wal.specs.declared.fault.NodeFault.TheVariants as fault
+use Rattle.repl_store.specs.Creating.{IsUnmade}
+use Rattle.repl_store.specs.declared.fault.CreateFault.{CreateFault}
+use Rattle.repl_store.specs.declared.fault.CreateFault.TheVariants as fault
 use Rattle.repl_node.proofs.Clearing.{cleared_moments}
 use Rattle.repl_node.proofs.making.clear.Goals as goal
 
 pub returns-in-Ok-clause-refused : goal.returns-in-Ok-clause-refused
-returns-in-Ok-clause-refused g c = (store.Exists, refl, c.in-Ok.ensures.there)
+returns-in-Ok-clause-refused g c = c.in-Ok.ensures.there
 
-pub returns-in-Err-Failed-clause-refused : goal.returns-in-Err-Failed-clause-refused
-returns-in-Err-Failed-clause-refused g c = (store.DiskFault, refl, tt)
-
-pub returns-in-Err-Memory-clause-refused : goal.returns-in-Err-Memory-clause-refused
-returns-in-Err-Memory-clause-refused g c = (store.Memory, refl, tt)
-
-of_disk : (told : ToldFiles) (result : Result (Unit {0}) NodeFault) → IfErr result (λ e. (e ≡ fault.DiskFault) ⊎ (e ≡ fault.Memory))
+of_disk : (told : ToldFiles) (result : Result (Unit {0}) CreateFault) → IfErr result (λ e. (e ≡ fault.DiskFault) ⊎ (e ≡ fault.Memory))
     → IfErr result (λ e. IsUnmade told e)
 of_disk told (Ok x) is = tt
-of_disk told (Err e) (inl is) = (store.DiskFault, is, tt)
-of_disk told (Err e) (inr is) = (store.Memory, is, tt)
+of_disk told (Err e) (inl is) = subst (IsUnmade told) (sym is) tt
+of_disk told (Err e) (inr is) = subst (IsUnmade told) (sym is) tt
 
 pub returns-in-Err-Missing-clause-refused : goal.returns-in-Err-Missing-clause-refused
 returns-in-Err-Missing-clause-refused g c = of_disk (g.D.Disk.state c.args.disk.now).files c.remove_slots.result c.remove_slots.ensures.refused

@@ -3,6 +3,7 @@ use Rattle.std.proofs.Common.{◌≡◌, ℕ, ◌+◌, ◌*◌, ◌<◌, ◌≤�
 use Rattle.std.proofs.Math.Nat.{mod-add-div'}
 use Rattle.std.proofs.lemmas.Bool.{cases_lt}
 use Rattle.repl_store.specs.Refusal.{IsEnough}
+use Rattle.repl_store.specs.declared.fault.MountFault.TheVariants as MountFault
 use Rattle.repl_store.proofs.Asking.{asks_none, asks_then}
 use Rattle.repl_store.proofs.Mounting.{told_along, told_always, told_both}
 use Rattle.repl_store.proofs.mount.check_segments.Goals as goal
@@ -14,7 +15,7 @@ loop-alloc-init g c =
     let start = subst P (sym c.number_of-number.ensures) (omega (arith, mod-add-div' c.args.control.now.floor c.args.size)) in (
       omega (arith, c.number_of-number.ensures),
       omega (arith, c.requires.order, start),
-      asks_none (state c.args.disk.now) (g.met.D.Disk.only_now c.args.disk.now),
+      asks_none MountFault.DiskFault (state c.args.disk.now) (g.met.D.Disk.only_now c.args.disk.now),
       g.met.D.Disk.keeps_itself c.args.disk.now,
       told_always (state c.args.disk.now).files _ (λ folder earlier from below. absurd (omega (
         arith,
@@ -36,7 +37,7 @@ loop-alloc-preserved g c =
     let here = told_along files (state c.loop-alloc.disk).files _ so_far.2.only.stayed more.enough in (
       omega (arith, so_far.0),
       omega (arith, next, test),
-      asks_then tt (state c.args.disk.now) (state c.loop-alloc.disk) (state c.check_segment.new.disk) so_far.2 (Ok tt) more.asks,
+      asks_then MountFault.DiskFault tt (state c.args.disk.now) (state c.loop-alloc.disk) (state c.check_segment.new.disk) so_far.2 (Ok tt) more.asks,
       g.met.D.Disk.keeps_on c.args.disk.now c.loop-alloc.disk c.check_segment.new.disk so_far.3 more.keeps,
       told_both files _ _ _ (λ folder before enough earlier from below. ⊎_elim (λ (lt : earlier < number). before earlier from lt)
           (λ (le : number ≤ earlier). let same : number ≡ earlier = omega (arith, below, le) in

@@ -2,7 +2,7 @@
 use Rattle.std.proofs.Common.{◌≡◌, ℕ, Err, IfErr, Result, rules, sym, subst}
 use Rattle.repl_disk.specs.Folder.{IfTold}
 use Rattle.repl_store.specs.Refusal.{HasControl, IsRefusal}
-use Rattle.repl_store.specs.declared.fault.StoreFault.{StoreFault}
+use Rattle.repl_store.specs.declared.fault.MountFault.{MountFault}
 use Rattle.repl_store.proofs.Mounting.{told_map}
 use Rattle.repl_store.proofs.mount.read_control_file.Goals as goal
 
@@ -11,7 +11,7 @@ returns-in_err-bytes-clause-refused g c =
     let files = (g.D.Disk.state c.args.disk.now).files in
     let e = c.in_err-bytes.field-0.0 in
     let is : c.from_residual.result ≡ Err e = search rules in
-    let P : Result _ StoreFault → Type 0 = λ r. IfErr r (λ e. IfTold files (λ folder. IsRefusal c.args.size folder e)) in
+    let P : Result _ MountFault → Type 0 = λ r. IfErr r (λ e. IfTold files (λ folder. IsRefusal c.args.size folder e)) in
     subst P (sym is) (told_map files (λ folder. (size : ℕ) → IsRefusal size folder e) (λ folder. IsRefusal c.args.size folder e)
     (λ folder h. h c.args.size) c.in_err-bytes.ensures.refused)
 
@@ -24,5 +24,5 @@ returns-in-Ok-clause-read g c =
 pub returns-in-Err-clause-refused : goal.returns-in-Err-clause-refused
 returns-in-Err-clause-refused g c =
     let files = (g.D.Disk.state c.args.disk.now).files in
-    told_map files _ (λ folder. IsRefusal c.args.size folder (StoreFault.BadControl c.in-Err.fault.place)) (λ folder is. (c.in_ok-bytes.bytes, is, c.in-Err.ensures.refused))
+    told_map files _ (λ folder. IsRefusal c.args.size folder (MountFault.BadControl c.in-Err.fault.place)) (λ folder is. (c.in_ok-bytes.bytes, is, c.in-Err.ensures.refused))
     c.in_ok-bytes.ensures.read

@@ -7,7 +7,7 @@ use Rattle.repl_lsn.specs.History.{IsPath, Path}
 use Rattle.repl_store.specs.Durable.{Durable, HasPath, StandsFor}
 use Rattle.repl_store.specs.Head.{Head, IsMounted}
 use Rattle.repl_store.specs.Refusal.{HasControl, IsEnough, IsHeld, IsLackOf, IsRefusal}
-use Rattle.repl_store.specs.declared.fault.StoreFault.{StoreFault}
+use Rattle.repl_store.specs.declared.fault.MountFault.{MountFault}
 use Rattle.repl_store.proofs.Mounting.{lack_refuses, stands_of, told_along, told_three}
 use Rattle.repl_store.proofs.mount.read_head.Goals as goal
 
@@ -33,7 +33,7 @@ returns-in_err-check_segments-clause-refused g c =
     (λ folder. IsRefusal size folder e) (λ folder has path_is lack_is. lack_refuses size folder control path e has path_is lack_is)
     c.in_ok-control.ensures.read has_path lack in
     let is : c.from_residual-in_err-check_segments.result ≡ Err e = search rules in
-    let P : Result Head StoreFault → Type 0 = λ r. IfErr r (λ e. IfTold files (λ folder. IsRefusal VERSION_1_SIZE folder e)) in
+    let P : Result Head MountFault → Type 0 = λ r. IfErr r (λ e. IfTold files (λ folder. IsRefusal VERSION_1_SIZE folder e)) in
     let Q : ℕ → Type 0 = λ n. IfTold files (λ folder. IsRefusal n folder e) in
     subst P (sym is) (subst Q c.version_1_size-size.ensures.value both)
 

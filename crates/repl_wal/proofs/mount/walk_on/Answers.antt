@@ -7,7 +7,7 @@ use Rattle.repl_store.specs.Head.{Head}
 use Rattle.repl_wal.specs.Holding.{Runs}
 use Rattle.repl_wal.specs.Making.{IsFailure, IsWalkRefusal, IsWrongTail, TakenOf, mounted_log}
 use Rattle.repl_disk.specs.State.{DiskState}
-use Rattle.repl_wal.specs.declared.fault.NodeFault.{NodeFault}
+use Rattle.repl_wal.specs.declared.fault.OpenFault.{OpenFault}
 use Rattle.repl_wal.proofs.Mounting.{stood_at, taken_none, taken_of_none, walked_log, walked_state}
 use Rattle.repl_wal.proofs.Opening.{backs_reads}
 use Rattle.repl_wal.proofs.mount.walk_on.Goals as goal
@@ -57,7 +57,7 @@ returns-in-Ok-clause-holds g c d backs =
           (backs_reads (state c.args.store.disk) (state c.walk_flushed.new.store.disk) head s is.reads backs);
     }
 
-refuses : (disk : DiskState) (head : Head) (w : Walker) (e : NodeFault) → ((s : State) → TakenOf s head w) → IsWalkRefusal disk head w e
+refuses : (disk : DiskState) (head : Head) (w : Walker) (e : OpenFault) → ((s : State) → TakenOf s head w) → IsWalkRefusal disk head w e
     → IsFailure e ⊎ ((s : State) → Backs disk head s → IsWrongTail head.size s.durable e)
 refuses disk head w e first (inl failed) = inl failed
 refuses disk head w e first (inr wrong) = inr (λ s backs. wrong s backs (first s))

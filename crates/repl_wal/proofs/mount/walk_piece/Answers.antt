@@ -2,31 +2,40 @@
 use Rattle.std.proofs.Common.{◌≡◌, ℕ, ◌+◌, ◌-◌, ◌<◌, ◌≤◌, ◌++◌, length, take, drop, min, List, Result, Err, sym, ap, ◌∙◌, subst, inl, inr, arith, length-append, length-drop, length-take}
 use Rattle.std.proofs.Math.Nat.{div-mul-le_self}
 use Rattle.repl_disk.specs.State.{DiskState}
-use Rattle.repl_record.specs.Walker.{position}
+use Rattle.repl_lsn.specs.History.{Path}
+use Rattle.repl_lsn.specs.Path.{timeline_at}
+use Rattle.repl_record.specs.Walker.{AreOn, identity, position}
+use Rattle.repl_walk.specs.Walks.{HasWalked}
 use Rattle.repl_store.specs.Backing.{Backs, State, log}
 use Rattle.repl_store.specs.Head.{Head, IsHead}
 use Rattle.repl_store.specs.declared.fault.StoreFault.{StoreFault}
 use Rattle.repl_store.specs.declared.store.StoreStatus.{StoreStatus}
-use Rattle.repl_wal.specs.Making.{IsWrongTail, TakenOf}
+use Rattle.repl_wal.specs.Making.{IsFailure, IsOpened, IsWrongPast, IsWrongTail, TakenOf}
+use Rattle.repl_wal.specs.declared.fault.OpenFault.{OpenFault}
 use Rattle.repl_wal.proofs.Ending.{not_broken}
-use Rattle.repl_wal.proofs.Mounting.{of_disk, taken_of_on, taken_on, wrong_on}
-use Rattle.repl_wal.proofs.Opening.{failed_of}
+use Rattle.repl_wal.proofs.Mounting.{taken_of_on, taken_on, unread_fails, wrong_on}
+use Rattle.repl_wal.proofs.Opening.{failed_of, unread_opened}
 use Rattle.repl_wal.proofs.Reading.{read_front}
 use Rattle.repl_wal.proofs.mount.walk_piece.Goals as goal
 
 pub returns-in-Err-clause-refused : goal.returns-in-Err-clause-refused
 returns-in-Err-clause-refused g c =
-    inl (
-      c.in-Err.fault,
-      c.of_store.ensures,
-      of_disk c.in-Err.fault c.in-Err.ensures.caused.answers (not_broken c.in-Err.fault
-          c.args.store.now.broken c.requires.unbroken c.in-Err.ensures.broken),
-    )
+    inl (subst IsFailure (sym c.unread.ensures) (unread_fails c.in-Err.fault))
+
+pub returns-in-Err-clause-caused : goal.returns-in-Err-clause-caused
+returns-in-Err-clause-caused g c =
+    let state = g.D.Disk.state in
+    let old = state c.args.store.now.disk in
+    let new = state c.read_into.new.self.disk in
+    let sound = not_broken c.in-Err.fault c.args.store.now.broken c.requires.unbroken c.in-Err.ensures.broken in
+    subst (λ (e : OpenFault). IsOpened {A = Unit {0}} (Err e) old new) (sym c.unread.ensures)
+    (unread_opened c.in-Err.fault old new sound c.in-Err.ensures.caused)
 
 pub returns-in-Err-clause-failed : goal.returns-in-Err-clause-failed
 returns-in-Err-clause-failed g c is s backs =
     let Fails : StoreFault → Result (Unit {0}) StoreFault = λ x. Err x in
-    (c.in-Err.ensures.comes s backs).failed (ap Fails (failed_of c.in-Err.fault c.of_store.result c.of_store.ensures is))
+    let sound = not_broken c.in-Err.fault c.args.store.now.broken c.requires.unbroken c.in-Err.ensures.broken in
+    (c.in-Err.ensures.comes s backs).failed (ap Fails (failed_of c.in-Err.fault c.unread.result sound c.unread.ensures is))
 
 pub returns-in-Ok-judge-clause-taken : goal.returns-in-Ok-judge-clause-taken
 returns-in-Ok-judge-clause-taken g c =
@@ -97,16 +106,24 @@ returns-in-Err-judge-clause-refused g c =
     (c.at.view_is ∙ at) end c.min-count.ensures c.requires.before in
     let piece = take count (c.read_into.new.room ++ drop count room) in
     let disk = g.D.Disk.state c.args.store.now.disk in
-    let wrong : (s : State) → Backs disk head s → TakenOf s head w → IsWrongTail head.size s.durable c.in-Err-judge.fault = λ s backs taken.
+    let e = c.in-Err-judge.fault in
+    let status = c.args.status.now in
+    let Judged : Path → Type 0 = λ p. (prev : ℕ) (log : List ℕ) → HasWalked w (timeline_at p) status.whole prev log
+    → AreOn (timeline_at p) status.tli (position w) (length piece) → IsWrongPast (identity w) p status.whole prev (log ++ piece) e in
+    let wrong : Judged head.path → (s : State) → Backs disk head s → TakenOf s head w → IsWrongTail head.size s.durable e = λ judged s backs taken.
     let from = drop (position w - head.control.floor) (log s) in
     let got : c.read_into.new.room ≡ take (length (take count room)) from = subst (λ (p : ℕ). c.read_into.new.room ≡ take (length (take count room))
     (drop (p - head.control.floor) (log s))) at (c.in-Ok.ensures.read s backs) in
     let fits = enough disk head s (position w) count backs low bound.0 in
     let read = piece_read from c.read_into.new.room (drop count room) room count got bound.1 fits in
     let long : length piece ≤ count = omega (arith, length-take count (c.read_into.new.room ++ drop count room)) in
-    wrong_on disk head c.args.status.now w s piece c.in-Err-judge.fault c.requires.taken c.requires.right c.requires.status backs (omega (
+    wrong_on disk head status w s piece e c.requires.taken c.requires.right c.requires.status backs (omega (
       arith,
       long,
       bound.0,
-    )) c.in-Err-judge.ensures.refused read taken in
-    inr wrong
+    )) judged read taken in
+    let same : c.path.result.now ≡ head.path = c.path.ensures ∙ ap (λ (h : Head). h.path) c.in-Ok.ensures.head in
+    elim c.in-Err-judge.ensures.refused [
+      | inl failed ↦ inl failed
+      | inr judged ↦ inr (wrong (subst Judged same judged))
+    ]

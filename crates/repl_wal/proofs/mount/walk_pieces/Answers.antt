@@ -7,8 +7,8 @@ use Rattle.repl_record.specs.declared.walker.Walker.{Walker}
 use Rattle.repl_store.proofs.Asking.{asks_none, asks_then, reads_then}
 use Rattle.repl_store.specs.Backing.{Asks, Backs, OnlyReads, State}
 use Rattle.repl_store.specs.Head.{Head}
-use Rattle.repl_wal.specs.Making.{HasTaken, IsWalkRefusal, IsWrongTail, TakenOf}
-use Rattle.repl_wal.specs.declared.fault.NodeFault.{NodeFault}
+use Rattle.repl_wal.specs.Making.{HasTaken, IsWalkRefusal, IsWrongTail, TakenOf, disk_fault}
+use Rattle.repl_wal.specs.declared.fault.OpenFault.{OpenFault}
 use Rattle.repl_wal.proofs.Opening.{backs_reads, opened_reads}
 use Rattle.repl_wal.proofs.mount.walk_pieces.Goals as goal
 
@@ -18,7 +18,7 @@ module _ (old mid : DiskState) (head now : Head) (same : now ≡ head) (only : O
   backs_mid s backs = subst (λ (h : Head). Backs mid h s) (sym same) (backs_reads old mid head s only backs)
 
   -- a refusal of a later piece is one of all
-  refused_on : (w before : Walker) (e : NodeFault) → ((s : State) → Backs old head s → TakenOf s head w → TakenOf s head before)
+  refused_on : (w before : Walker) (e : OpenFault) → ((s : State) → Backs old head s → TakenOf s head w → TakenOf s head before)
       → IsWalkRefusal mid now before e → IsWalkRefusal old head w e
   refused_on w before e far (inl failed) = inl failed
   refused_on w before e far (inr wrong) =
@@ -73,7 +73,7 @@ pieces-init g c =
       c.requires.within,
       c.requires.taken,
       g.met.D.Disk.keeps_itself old.disk,
-      asks_none (g.D.Disk.state old.disk) (g.met.D.Disk.only_now old.disk),
+      asks_none disk_fault (g.D.Disk.state old.disk) (g.met.D.Disk.only_now old.disk),
       λ s backs first. first,
     )
 
@@ -91,7 +91,7 @@ pieces-preserved g c =
     let Goes : Head → Type 0 = λ h. (s : State) → Backs (state mid.disk) h s → TakenOf s h c.pieces.walker → TakenOf s h next in
     let goes : Goes head = subst Goes was.0 on.of_state in
     let within : position next ≤ head.control.flushed = subst (λ (h : Head). position next ≤ h.control.flushed) was.0 on.on.1 in
-    let piece : Asks {A = Unit {0}} (Ok tt) (state mid.disk) (state new.disk) = record {
+    let piece : Asks {A = Unit {0}} disk_fault (Ok tt) (state mid.disk) (state new.disk) = record {
       only = on.reads;
       ok = on.caused.ok;
       failed = λ is. absurd cc;
@@ -105,7 +105,7 @@ pieces-preserved g c =
       within,
       taken,
       g.met.D.Disk.keeps_on old.disk mid.disk new.disk was.6 on.keeps,
-      asks_then tt (state old.disk) (state mid.disk) (state new.disk) was.7 (Ok tt) piece,
+      asks_then disk_fault tt (state old.disk) (state mid.disk) (state new.disk) was.7 (Ok tt) piece,
       λ s backs first. goes s (backs_reads (state old.disk) (state mid.disk) head s was.7.only backs) (was.8 s backs first),
     )
 

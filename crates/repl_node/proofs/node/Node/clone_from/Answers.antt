@@ -1,33 +1,36 @@
 -- The slots go, and then the log is copied.
-use Rattle.std.proofs.Common.{◌≡◌, ℕ, ◌⊎◌, [], true, false, Result, Ok, Err, IfOk, IfErr, refl, sym, ap, subst}
-use Rattle.repl_clone.specs.Causes.{IsTooLong}
+use Rattle.std.proofs.Common.{◌≡◌, ℕ, ◌⊎◌, [], true, false, IsSome, Result, Ok, Err, IfOk, IfErr, refl, sym, ap, subst}
+use Rattle.repl_clone.specs.Causes.{IsOfDisk, IsTooLong}
 use Rattle.repl_clone.specs.Copied.{IsCopying, copied}
+use Rattle.repl_clone.specs.declared.fault.CopyFault.{CopyFault}
+use Rattle.repl_clone.specs.declared.fault.CopyFault.TheVariants as copy
 use Rattle.repl_control.specs.declared.control.TheConstants.{VERSION_1_SIZE}
 use Rattle.repl_effects.specs.Counts.{Rose}
 use Rattle.repl_disk.specs.Crash.{LeavesOnly}
+use Rattle.repl_disk.specs.Folder.{IfTold}
 use Rattle.repl_disk.specs.Moments.{weakened}
 use Rattle.repl_disk.specs.Runs.{told_so}
 use Rattle.repl_disk.specs.State.{DiskState}
 use Rattle.repl_slots.specs.Slot.{SlotList}
-use Rattle.repl_wal.specs.Cloning.{IsKnownSource}
+use Rattle.repl_wal.specs.Cloning.{IsCloned, IsDiskFault, IsKnownSource}
 use Rattle.repl_wal.specs.Holding.{HeldLog, Holds as HoldsLog, disk_after as log_disk_after}
 use Rattle.repl_wal.specs.Making.{mounted_log}
 use Rattle.repl_wal.specs.State.{path_of}
-use Rattle.repl_wal.specs.declared.fault.NodeFault.{NodeFault}
-use Rattle.repl_wal.specs.declared.fault.NodeFault.TheVariants as fault
+use Rattle.repl_wal.specs.declared.fault.CloneFault.{CloneFault}
+use Rattle.repl_wal.specs.declared.fault.CloneFault.TheVariants as fault
 use Rattle.repl_store.specs.Apart.{StaysApart}
-use Rattle.repl_store.specs.Durable.{Durable}
-use Rattle.repl_wal.proofs.Cloning.{if_err}
+use Rattle.repl_store.specs.Durable.{Durable, control_name}
+use Rattle.repl_wal.proofs.Cloning.{uncopied_rose}
 use Rattle.repl_node.specs.Cloning.{IsCopyingNode, LeavesNode}
-use Rattle.repl_node.specs.Holding.{AllStore, HeldNode, Holds, Remembers, disk_after}
+use Rattle.repl_node.specs.Holding.{AllStore, HeldNode, Holds, Remembers, answer_of, disk_after}
 use Rattle.repl_node.specs.Making.{IsCleared, IsClearing, mounted_node}
 use Rattle.repl_node.proofs.Begun.{is_some_as, known_on, some_folder, without_slots}
 use Rattle.repl_node.proofs.Copied.{source_left}
-use Rattle.repl_node.proofs.Copying.{copying_cleared, copying_moments, known_past, same_disk}
+use Rattle.repl_node.proofs.Copying.{cloned_on, copying_cleared, copying_moments, if_err, known_past, same_disk, uncleared_caused, uncleared_exists, uncleared_other, uncleared_short}
 use Rattle.repl_node.proofs.node.Node.clone_from.Goals as goal
 
 -- the node of a log that is so, without slots
-node_holds : {D : Type 0} (state : D → DiskState) (log : Result (HeldLog D) (NodeFault × D)) (result : Result (HeldNode D) (NodeFault × D))
+node_holds : {D : Type 0} (state : D → DiskState) (log : Result (HeldLog D) (CloneFault × D)) (result : Result (HeldNode D) (CloneFault × D))
     (size : ℕ) (d : Durable) → IfOk result (λ node. (log ≡ Ok node.wal) × (node.slots ≡ record { slots = []; broken = false }))
     → IfOk log (λ wal. HoldsLog (state wal.disk) wal.log (mounted_log size d))
     → ((wal : HeldLog D) → log ≡ Ok wal → AllStore (state wal.disk) [])
@@ -41,7 +44,7 @@ node_holds state log (Ok node) size d made holds stored = record {
 node_holds state log (Err e) size d made holds stored = tt
 
 -- a refusal of the log is one of the node
-refused_as : {A B D : Type 0} (first : Result A (NodeFault × D)) (result : Result B (NodeFault × D)) (P : NodeFault × D → Type 0)
+refused_as : {A B D : Type 0} (first : Result A (CloneFault × D)) (result : Result B (CloneFault × D)) (P : CloneFault × D → Type 0)
     → IfErr result (λ e. first ≡ Err e) → IfErr first P → IfErr result P
 refused_as first (Ok x) P refused is = tt
 refused_as {A} first (Err e) P refused is = subst (λ r. IfErr {T = A} r P) refused is
@@ -71,7 +74,7 @@ returns-clause-source g c n =
     (state after.wal.disk) after n in
     subst From c.from.view_is (λ holds.
     source_left c.clone_from.result c.without_slots.result (state before.wal.disk) (state after.wal.disk) before after n
-    (refused_as c.clone_from.result c.without_slots.result (λ e. e.0 ≡ fault.SourceFault) c.without_slots.ensures.refused) holds
+    (refused_as c.clone_from.result c.without_slots.result (λ e. e.0 ≡ fault.Copy copy.SourceFault) c.without_slots.ensures.refused) holds
     c.clone_from.ensures.source_apart refl (c.clone_from.ensures.source n.log holds.log))
 
 -- ---- the disk
@@ -117,8 +120,8 @@ returns-clause-rose g c n known is =
     let mid = state c.clear.new.disk in
     let folder = some_folder old.files is.files in
     let slots = (told_so old.files folder.0 (λ f. IsCleared old mid f) folder.1 c.in-Ok.ensures.cleared).slots in
-    let First : NodeFault × g.row.D.Denot → Type 0 = λ e. e.0 ≡ fault.DiskFault → Rose mid.faults (state e.1).faults in
-    let Rises : NodeFault × g.row.D.Denot → Type 0 = λ e. e.0 ≡ fault.DiskFault → Rose old.faults (state e.1).faults in
+    let First : CloneFault × g.row.D.Denot → Type 0 = λ e. IsDiskFault e.0 → Rose mid.faults (state e.1).faults in
+    let Rises : CloneFault × g.row.D.Denot → Type 0 = λ e. IsDiskFault e.0 → Rose old.faults (state e.1).faults in
     let From : HeldNode g.row.E.Denot → Type 0 = λ h. IsKnownSource (g.E.Disk.state h.wal.disk) h.wal.log old n.log known
     → IfErr c.without_slots.result Rises in
     let before : HeldNode g.row.E.Denot = record { wal = c.from.inside.wal; slots = c.from.inside.slots } in
@@ -128,11 +131,53 @@ returns-clause-rose g c n known is =
     (c.clone_from.ensures.rose n.log known (known_past old mid folder.0 slots (g.E.Disk.state before.wal.disk) before.wal n.log known is))) in
     subst From c.from.view_is here is
 
+pub returns-clause-caused : goal.returns-clause-caused
+returns-clause-caused g c =
+    let state = g.D.Disk.state in
+    let old = state c.args.disk in
+    let mid = state c.clear.new.disk in
+    let falls = g.met.D.Disk.never_falls c.args.disk c.clear.new.disk c.in-Ok.ensures.keeps in
+    subst (λ (d : g.row.D.Denot). IsCloned (answer_of c.without_slots.result) old (state d))
+    (same_disk c.clone_from.result c.without_slots.result c.without_slots.ensures.made c.without_slots.ensures.refused)
+    (cloned_on c.clone_from.result c.without_slots.result old mid (state (log_disk_after c.clone_from.result)) c.without_slots.ensures.made
+    c.without_slots.ensures.refused c.in-Ok.ensures.caused.ok falls.lacks falls.tells c.clone_from.ensures.caused)
+
+-- ---- no node may be made
+
+pub returns-in-Err-clause-exists : goal.returns-in-Err-clause-exists
+returns-in-Err-clause-exists g c =
+    let told = (g.D.Disk.state c.args.disk).files in
+    let f = c.in-Err.fault in
+    subst (λ (e : CopyFault). fault.Copy e ≡ fault.Copy copy.Exists → IfTold told (λ folder. IsSome (folder control_name))) (sym c.of_create.ensures)
+    (uncleared_exists f told c.in-Err.ensures.refused)
+
+pub returns-in-Err-clause-too_long : goal.returns-in-Err-clause-too_long
+returns-in-Err-clause-too_long g c n remembers have is =
+    let f = c.in-Err.fault in
+    absurd (uncleared_short f have (subst (λ (e : CopyFault). fault.Copy e ≡ fault.Copy (copy.HistoryTooLong have)) c.of_create.ensures is))
+
+pub returns-in-Err-clause-caused : goal.returns-in-Err-clause-caused
+returns-in-Err-clause-caused g c =
+    let state = g.D.Disk.state in
+    let old = state c.args.disk in
+    let mid = state c.clear.new.disk in
+    subst (λ (e : CopyFault). IsOfDisk {A = Unit {0}} (Err e) old mid) (sym c.of_create.ensures)
+    (uncleared_caused c.in-Err.fault old mid c.in-Err.ensures.caused)
+
+pub returns-in-Err-clause-rose : goal.returns-in-Err-clause-rose
+returns-in-Err-clause-rose g c n known is =
+    let state = g.D.Disk.state in
+    uncopied_rose c.of_create.result (state c.args.disk) (state c.clear.new.disk) is.files (returns-in-Err-clause-caused g c)
+
+pub returns-in-Err-clause-failed : goal.returns-in-Err-clause-failed
+returns-in-Err-clause-failed g c n remembers is =
+    absurd (uncleared_other c.in-Err.fault (subst (λ (e : CopyFault). fault.Copy e ≡ fault.Copy copy.SourceFault) c.of_create.ensures is))
+
 -- ---- refusals that speak of the source
 
 pub returns-clause-too_long : goal.returns-clause-too_long
 returns-clause-too_long g c n remembers =
-    let Long : NodeFault × g.row.D.Denot → Type 0 = λ e. (have : ℕ) → e.0 ≡ fault.HistoryFull have → IsTooLong (path_of n.log) have in
+    let Long : CloneFault × g.row.D.Denot → Type 0 = λ e. (have : ℕ) → e.0 ≡ fault.Copy (copy.HistoryTooLong have) → IsTooLong (path_of n.log) have in
     let From : HeldNode g.row.E.Denot → Type 0 = λ h. Remembers h n → IfErr c.without_slots.result Long in
     let before : HeldNode g.row.E.Denot = record { wal = c.from.inside.wal; slots = c.from.inside.slots } in
     let here : From before = λ remembers.
@@ -143,7 +188,7 @@ pub returns-clause-failed : goal.returns-clause-failed
 returns-clause-failed g c n remembers =
     let state = g.E.Disk.state in
     let new = state c.clone_from.new.from.disk in
-    let Because : HeldNode g.row.E.Denot → NodeFault × g.row.D.Denot → Type 0 = λ h e. e.0 ≡ fault.SourceFault
+    let Because : HeldNode g.row.E.Denot → CloneFault × g.row.D.Denot → Type 0 = λ h e. e.0 ≡ fault.Copy copy.SourceFault
     → (n.log.broken ≡ true) ⊎ Rose (state h.wal.disk).faults new.faults ⊎ Rose (state h.wal.disk).lacks new.lacks in
     let From : HeldNode g.row.E.Denot → Type 0 = λ h. Remembers h n → IfErr c.without_slots.result (Because h) in
     let before : HeldNode g.row.E.Denot = record { wal = c.from.inside.wal; slots = c.from.inside.slots } in

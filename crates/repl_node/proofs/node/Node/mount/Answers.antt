@@ -9,7 +9,7 @@ use Rattle.repl_slots.specs.Stored.{Stores}
 use Rattle.repl_store.proofs.Asking.{reads_then}
 use Rattle.repl_store.specs.Durable.{Durable, StandsFor}
 use Rattle.repl_wal.specs.Making.{IsMountRefusal}
-use Rattle.repl_wal.specs.declared.fault.NodeFault.{NodeFault}
+use Rattle.repl_wal.specs.declared.fault.OpenFault.{OpenFault}
 use Rattle.repl_node.specs.Making.{IsFirstRefusal, IsNodeRefusal}
 use Rattle.repl_node.specs.declared.node.Node.{Node}
 use Rattle.repl_node.proofs.Opening.{only_opens, same_failure}
@@ -48,7 +48,7 @@ returns-in-Ok-mount-clause-stands g c =
 -- ---- what is refused
 
 -- what is wrong after right slots
-past : (size : ℕ) (folder : Folder) (old mid : Folder → Type 0) (e : NodeFault) → ((image : Folder) → mid image → old image)
+past : (size : ℕ) (folder : Folder) (old mid : Folder → Type 0) (e : OpenFault) → ((image : Folder) → mid image → old image)
     → IsMountRefusal size folder mid e → IsMountRefusal size folder old e
 past size folder old mid e none (inl refused) = inl refused
 past size folder old mid e none (inr (d, stands, wrong)) = inr (d, stands, λ all. wrong (λ image left. all image (none image left)))
@@ -79,7 +79,7 @@ IsNode folder = (d : Durable) × (saved : List Entry) × StandsFor VERSION_1_SIZ
 
 pub returns-in-Err-clause-lost : goal.returns-in-Err-clause-lost
 returns-in-Err-clause-lost g c is =
-    let Fails : NodeFault → Result (Unit {0}) NodeFault = λ x. Err x in
+    let Fails : OpenFault → Result (Unit {0}) OpenFault = λ x. Err x in
     ⊎_elim inl (λ lack. inr (subst (λ (f : ToldFiles). IfTold f IsNode) (sym lack.0) tt)) (c.in-Err.ensures.caused.failed (ap Fails is))
 
 pub returns-in-Err-mount-clause-lost : goal.returns-in-Err-mount-clause-lost

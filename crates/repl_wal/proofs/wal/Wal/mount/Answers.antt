@@ -10,16 +10,14 @@ use Rattle.repl_store.specs.Backing.{Asks, Backs, State}
 use Rattle.repl_store.specs.Durable.{Durable, StandsFor}
 use Rattle.repl_store.specs.Head.{Head, IsMounted}
 use Rattle.repl_store.specs.Refusal.{IsOfDisk, IsRefusal}
-use Rattle.repl_store.specs.declared.fault.StoreFault.{StoreFault}
-use Rattle.repl_store.specs.declared.fault.StoreFault.TheVariants as store
-use Rattle.repl_wal.specs.Faults.{of_store}
+use Rattle.repl_store.specs.declared.fault.MountFault.{MountFault}
+use Rattle.repl_store.specs.declared.fault.MountFault.TheVariants as mount
 use Rattle.repl_wal.specs.Holding.{Holds}
-use Rattle.repl_wal.specs.Making.{IsFailure, IsMountRefusal, IsWrongTail, mounted_log}
-use Rattle.repl_wal.specs.declared.fault.NodeFault.{NodeFault}
-use Rattle.repl_wal.specs.declared.fault.NodeFault.TheVariants as fault
+use Rattle.repl_wal.specs.Making.{IsFailure, IsMountRefusal, IsWrongTail, disk_fault, mounted_log}
+use Rattle.repl_wal.specs.declared.fault.OpenFault.{OpenFault}
+use Rattle.repl_wal.specs.declared.fault.OpenFault.TheVariants as fault
 use Rattle.repl_wal.specs.declared.wal.Wal.{Wal}
-use Rattle.repl_wal.proofs.Ending.{failure}
-use Rattle.repl_wal.proofs.Opening.{failed_of, only_opens}
+use Rattle.repl_wal.proofs.Opening.{only_opens, opens_not}
 use Rattle.repl_wal.proofs.wal.Wal.mount.Goals as goal
 
 -- what was found in the files that are told
@@ -27,12 +25,12 @@ abbrev Found : ℕ → Head → Folder → Type 0
 Found size head folder = (d : Durable) × StandsFor size folder d × IsMounted head size d
 
 -- a failure of the disk is a refusal over any files
-refusal_of : (size : ℕ) (folder : Folder) (f : StoreFault) → IsOfDisk f → IsRefusal size folder f
-refusal_of size folder store.DiskFault is = tt
-refusal_of size folder store.Memory is = tt
+refusal_of : (size : ℕ) (folder : Folder) (f : MountFault) → IsOfDisk f → IsRefusal size folder f
+refusal_of size folder mount.DiskFault is = tt
+refusal_of size folder mount.Memory is = tt
 refusal_of size folder f is = absurd is
 
-refused_told : (told : ToldFiles) (size : ℕ) (disk : DiskState) (head : Head) (leaves : Folder → Type 0) (e : NodeFault) → IfTold told (Found size head)
+refused_told : (told : ToldFiles) (size : ℕ) (disk : DiskState) (head : Head) (leaves : Folder → Type 0) (e : OpenFault) → IfTold told (Found size head)
     → IsFailure e ⊎ ((s : State) → Backs disk head s → IsWrongTail head.size s.durable e)
     → ((folder : Folder) (d : Durable) → told ≡ Some folder → StandsFor size folder d → ((image : Folder) → leaves image → StandsFor size image d)
     → Backs disk head (record { durable = d; unflushed = [] })) → IfTold told (λ folder. IsMountRefusal size folder leaves e)
@@ -65,11 +63,12 @@ returns-in-Err-walk_on-clause-refused g c =
 -- ---- a failure of the disk
 
 -- the store was not mounted
-store_failed : {A : Type 0} (f : StoreFault) (e : NodeFault) (old new : DiskState) → e ≡ of_store f → Asks {A = A} (Err f) old new
-    → e ≡ fault.DiskFault → Rose old.faults new.faults ⊎ (old.files ≡ None)
-store_failed {A} f e old new told asks is =
-    let Fails : StoreFault → Result A StoreFault = λ x. Err x in
-    ⊎_elim inl (λ lack. inr lack.0) (asks.failed (ap Fails (failed_of f e told is)))
+store_failed : {A : Type 0} (f : MountFault) (old new : DiskState) → Asks {A = A} mount.DiskFault (Err f) old new
+    → fault.Store f ≡ disk_fault → Rose old.faults new.faults ⊎ (old.files ≡ None)
+store_failed {A} f old new asks is =
+    let Fails : MountFault → Result A MountFault = λ x. Err x in
+    let same : f ≡ mount.DiskFault = cc in
+    ⊎_elim inl (λ lack. inr lack.0) (asks.failed (ap Fails same))
 
 abbrev IsStore : Folder → Type 0
 IsStore folder = (d : Durable) × StandsFor VERSION_1_SIZE folder d
@@ -79,7 +78,7 @@ returns-in-Err-clause-lost g c is =
     let state = g.D.Disk.state in
     let old = state c.args.disk in
     ⊎_elim inl (λ none. inr (subst (λ (f : ToldFiles). IfTold f IsStore) (sym none) tt))
-    (store_failed c.in-Err.fault c.of_store.result old (state c.in-Err.disk) c.of_store.ensures c.in-Err.ensures.asks is)
+    (store_failed c.in-Err.fault old (state c.in-Err.disk) c.in-Err.ensures.asks is)
 
 found_store : (told : ToldFiles) (head : Head) → IfTold told (Found VERSION_1_SIZE head) → IfTold told IsStore
 found_store None head found = tt
@@ -124,16 +123,16 @@ returns-in-Err-walk_on-clause-only g c folder d told stands all =
     let s : State = record { durable = d; unflushed = [] } in
     only_opens {A = Wal g.row.D.Denot} (Err e) (state c.args.disk) new VERSION_1_SIZE d all (returns-in-Err-walk_on-clause-reads g c)
     (λ is. subst (λ (k : ℕ). Rose k new.faults) c.in-Ok.ensures.asks.ok.0
-    (c.in-Err-walk_on.ensures.failed (failure {A = Wal g.row.D.Denot} e is) s (c.in-Ok.ensures.backs folder d told stands all)))
+    (c.in-Err-walk_on.ensures.failed (opens_not {A = Wal g.row.D.Denot} e is) s (c.in-Ok.ensures.backs folder d told stands all)))
 
 pub returns-in-Err-clause-only : goal.returns-in-Err-clause-only
 returns-in-Err-clause-only g c folder d told stands all =
     let state = g.D.Disk.state in
     let old = state c.args.disk in
     let new = state c.in-Err.disk in
-    let e = c.of_store.result in
+    let e = fault.Store c.in-Err.fault in
     only_opens {A = Wal g.row.D.Denot} (Err e) old new VERSION_1_SIZE d all c.in-Err.ensures.asks.only
-    (λ is. elim (store_failed c.in-Err.fault e old new c.of_store.ensures c.in-Err.ensures.asks (failure {A = Wal g.row.D.Denot} e is)) [
+    (λ is. elim (store_failed c.in-Err.fault old new c.in-Err.ensures.asks (opens_not {A = Wal g.row.D.Denot} e is)) [
       | inl rose ↦ rose
       | inr none ↦ let clash : ◌≡◌ {A = ToldFiles} None (Some folder) = sym none ∙ told in absurd cc
     ])
