@@ -1,6 +1,6 @@
 //! The log of a store, judged as it stands on its disk.
 ghost use Rattle.std.specs.Prelude.{◌≡◌, ◌↔◌, true, Err, IsOk, OnOk};
-ghost use Rattle.repl_store.specs.Backing.{Backs, Before, Breaks, Comes, IsCaused, State};
+ghost use Rattle.repl_store.specs.Backing.{Before, Breaks, Calls, IsCaused, IsIn, State, Unchanged};
 ghost use Rattle.repl_check.specs.declared.check.CheckFault.TheVariants as CheckFault;
 ghost use Rattle.repl_check.specs.declared.flaw.Flaw.{Flaw};
 ghost use Rattle.repl_check.specs.Found.{LogFits, LogHas, read_of, told};
@@ -39,8 +39,8 @@ pub enum CheckFault {
 pub fn check_log<D: Disk>(alloc: Global, store: &mut Store<D>) -> Result<(), CheckFault>
     // Where the disk tells its files, which are the store's, and the log was read, it is found right exactly where it fits, and
     // else has the flaw that is answered.
-    ensures exact { OnOk (read_of result) ((s : State) → Backs (D.state store.old.disk) store.old.head s → IsOk result ↔ LogFits store.old.head s) }
-    ensures flaw { (flaw : Flaw) → result ≡ Err (told flaw) → (s : State) → Backs (D.state store.old.disk) store.old.head s → LogHas store.old.head s flaw }
+    ensures exact { OnOk (read_of result) ((s : State) → IsIn D.state store.old s → IsOk result ↔ LogFits store.old.head s) }
+    ensures flaw { (flaw : Flaw) → result ≡ Err (told flaw) → (s : State) → IsIn D.state store.old s → LogHas store.old.head s flaw }
     // Otherwise it is answered why it could not be read.
     ensures broken { (result ≡ Err CheckFault.Broken) ↔ (store.old.broken ≡ true) }
     ensures idle { result ≡ Err CheckFault.Broken → store.new.disk ≡ store.old.disk }
@@ -48,8 +48,7 @@ pub fn check_log<D: Disk>(alloc: Global, store: &mut Store<D>) -> Result<(), Che
     ensures head { store.new.head ≡ store.old.head }
     ensures caused { IsCaused (read_of result) (D.state store.old.disk) (D.state store.new.disk) }
     ensures keeps { D.keeps store.old.disk store.new.disk }
-    ensures comes { (s : State) → Backs (D.state store.old.disk) store.old.head s →
-        Comes (read_of result) (D.state store.old.disk) (D.state store.new.disk) store.new.head (Before s) s (λ t. t ≡ s) }
+    ensures comes { Calls D.state store.old store.new (read_of result) Before (λ s. s) Unchanged }
 {
     let status = store.status();
     match read_log(alloc, store) {

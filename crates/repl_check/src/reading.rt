@@ -1,7 +1,7 @@
 //! How the log of a store is read and given to a check.
 ghost use Rattle.std.specs.Prelude.{◌≡◌, ◌≢◌, ◌+◌, ◌-◌, ◌%◌, ◌^◌, ◌<◌, ◌≤◌, ◌↔◌, ◌++◌, ℕ, List, length, min, true, false, Err, IfOk, OnOk};
 ghost use Rattle.repl_lsn.specs.Path.{timeline_at};
-ghost use Rattle.repl_store.specs.Backing.{Backs, Before, Breaks, Comes, IsCaused, State};
+ghost use Rattle.repl_store.specs.Backing.{Before, Breaks, Calls, IsCaused, IsIdle, IsIn, State, Unchanged};
 ghost use Rattle.repl_store.specs.declared.fault.StoreFault.TheVariants as StoreFault;
 ghost use Rattle.repl_check.specs.Found.{GoesThrough, HasRead, log_identity};
 ghost use Rattle.repl_check.specs.Machine.{HasJudged, HasTaken, check_identity, check_position};
@@ -24,16 +24,15 @@ const _: () = prove!(PIECE % PAGE == 0);
 /// Gives the log of a store to a check, from the floor to the flushed end. Takes the memory of one piece and of the name of
 /// a segment.
 pub(crate) fn read_log<D: Disk>(alloc: Global, store: &mut Store<D>) -> Result<LogCheck, StoreFault>
-    ensures judged { IfOk result (λ check. (check_identity check ≡ log_identity store.old.head) × ((s : State) → Backs (D.state store.old.disk) store.old.head s
+    ensures judged { IfOk result (λ check. (check_identity check ≡ log_identity store.old.head) × ((s : State) → IsIn D.state store.old s
         → HasJudged check (timeline_at store.old.head.path) store.old.head.control.floor s.durable.bytes)) }
     ensures broken { (result ≡ Err StoreFault.Broken) ↔ (store.old.broken ≡ true) }
-    ensures idle { result ≡ Err StoreFault.Broken → store.new.disk ≡ store.old.disk }
+    ensures idle { IsIdle result store.old store.new }
     ensures breaks { Breaks result store.old.broken store.new.broken }
     ensures head { store.new.head ≡ store.old.head }
     ensures caused { IsCaused result (D.state store.old.disk) (D.state store.new.disk) }
     ensures keeps { D.keeps store.old.disk store.new.disk }
-    ensures comes { (s : State) → Backs (D.state store.old.disk) store.old.head s →
-        Comes result (D.state store.old.disk) (D.state store.new.disk) store.new.head (Before s) s (λ t. t ≡ s) }
+    ensures comes { Calls D.state store.old store.new result Before (λ s. s) Unchanged }
 {
     let floor = store.status().floor;
     // A store that is broken says so before memory is taken.
@@ -44,15 +43,14 @@ pub(crate) fn read_log<D: Disk>(alloc: Global, store: &mut Store<D>) -> Result<L
 /// Gives the log of a store that is not broken to a check, piece by piece.
 fn read_pieces<D: Disk>(alloc: Global, store: &mut Store<D>) -> Result<LogCheck, StoreFault>
     requires { store.old.broken ≡ false }
-    ensures judged { IfOk result (λ check. (check_identity check ≡ log_identity store.old.head) × ((s : State) → Backs (D.state store.old.disk) store.old.head s
+    ensures judged { IfOk result (λ check. (check_identity check ≡ log_identity store.old.head) × ((s : State) → IsIn D.state store.old s
         → HasJudged check (timeline_at store.old.head.path) store.old.head.control.floor s.durable.bytes)) }
     ensures unbroken { result ≢ Err StoreFault.Broken }
     ensures breaks { Breaks result store.old.broken store.new.broken }
     ensures head { store.new.head ≡ store.old.head }
     ensures caused { IsCaused result (D.state store.old.disk) (D.state store.new.disk) }
     ensures keeps { D.keeps store.old.disk store.new.disk }
-    ensures comes { (s : State) → Backs (D.state store.old.disk) store.old.head s →
-        Comes result (D.state store.old.disk) (D.state store.new.disk) store.new.head (Before s) s (λ t. t ≡ s) }
+    ensures comes { Calls D.state store.old store.new result Before (λ s. s) Unchanged }
 {
     let status = store.status();
     let mut room = vec![in alloc; 0; PIECE]?;
@@ -81,8 +79,7 @@ fn read_up_to<D: Disk>(
     ensures head { store.new.head ≡ store.old.head }
     ensures caused { IsCaused result (D.state store.old.disk) (D.state store.new.disk) }
     ensures keeps { D.keeps store.old.disk store.new.disk }
-    ensures comes { (s : State) → Backs (D.state store.old.disk) store.old.head s →
-        Comes result (D.state store.old.disk) (D.state store.new.disk) store.new.head (Before s) s (λ t. t ≡ s) }
+    ensures comes { Calls D.state store.old store.new result Before (λ s. s) Unchanged }
 {
     let mut at = check.position();
     'pieces: while at < end {
@@ -111,8 +108,7 @@ fn read_piece<D: Disk>(
     ensures head { store.new.head ≡ store.old.head }
     ensures caused { IsCaused result (D.state store.old.disk) (D.state store.new.disk) }
     ensures keeps { D.keeps store.old.disk store.new.disk }
-    ensures comes { (s : State) → Backs (D.state store.old.disk) store.old.head s →
-        Comes result (D.state store.old.disk) (D.state store.new.disk) store.new.head (Before s) s (λ t. t ≡ s) }
+    ensures comes { Calls D.state store.old store.new result Before (λ s. s) Unchanged }
     ensures size { length room.new ≡ length room.old }
     ensures ident { check_identity check.new ≡ check_identity check.old }
     ensures position { OnOk result (check_position check.new ≡ min (check_position check.old + length room.old) end) }

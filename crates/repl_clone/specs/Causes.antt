@@ -1,5 +1,5 @@
 -- Why a copy is not made: each answer has its cause.
-use Rattle.std.specs.Prelude.{◌≡◌, ◌≢◌, ◌↔◌, ◌⊎◌, ◌<◌, ◌-◌, ◌^◌, ℕ, min, Bool, true, length, None, IsSome, Result, Err, OnOk}
+use Rattle.std.specs.Prelude.{◌≡◌, ◌≢◌, ◌↔◌, ◌⊎◌, ◌<◌, ◌-◌, ◌^◌, ℕ, min, Bool, true, length, None, Result, Err, OnOk}
 use Rattle.repl_clone.specs.declared.fault.CopyFault.{CopyFault}
 use Rattle.repl_clone.specs.declared.fault.CopyFault.TheVariants as fault
 use Rattle.repl_effects.specs.Counts.{Rose, Stood}
@@ -12,7 +12,7 @@ use Rattle.repl_lsn.specs.declared.fault.HistoryFault.TheVariants as history
 use Rattle.repl_lsn.specs.declared.history.TheConstants.{HISTORY_LIMIT}
 use Rattle.repl_store.specs.Apart.{StaysApart}
 use Rattle.repl_store.specs.Backing.{Backs, Before, LeavesOne, State}
-use Rattle.repl_store.specs.Head.{Head}
+use Rattle.repl_store.specs.Head.{Head, Held}
 use Rattle.repl_store.specs.declared.fault.StoreFault.{StoreFault}
 use Rattle.repl_store.specs.declared.fault.StoreFault.TheVariants as store
 
@@ -47,6 +47,10 @@ pub record FromSource {A : Type 0} (result : Result A CopyFault) (old new : Disk
   pub caused : IsOfSource result old new was
   pub apart : StaysApart old new
   pub lasts : (s : State) → Backs old head s → Lasts result old new head s
+
+-- The same of a source, as contracts see it. `state` says what its disk is in.
+abbrev pub ReadsSource : {A E : Type 0} → (E → DiskState) → Held E → Held E → Result A CopyFault → Type 0
+ReadsSource state old new result = FromSource result (state old.disk) (state new.disk) old.head new.head old.broken new.broken
 
 -- what a failure of the disk is
 abbrev pub fault_of : DiskError → CopyFault

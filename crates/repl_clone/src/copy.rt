@@ -1,13 +1,13 @@
 //! Copying a store.
-ghost use Rattle.std.specs.Prelude.{◌≡◌, ◌⊎◌, ℕ, true, false, None, IsSome, Err, OnOk, IfErr};
-ghost use Rattle.repl_clone.specs.Causes.{BreaksSource, FromSource, IsOfDisk, IsOfSource, IsTooLong, IsUncopied, Lasts};
-ghost use Rattle.repl_clone.specs.Copied.{IsCopy, IsCopying, copied};
+ghost use Rattle.std.specs.Prelude.{◌≡◌, ℕ, false, None, IsSome, Err, OnOk, IfErr};
+ghost use Rattle.repl_clone.specs.Causes.{BreaksSource, IsOfDisk, IsOfSource, IsTooLong, IsUncopied, Lasts, ReadsSource};
+ghost use Rattle.repl_clone.specs.Copied.{EachImage, IsCopy, IsCopying, copied};
 ghost use Rattle.repl_clone.specs.Copying.{IsCopyOf};
 ghost use Rattle.repl_clone.specs.declared.fault.CopyFault.TheVariants as CopyFault;
 ghost use Rattle.repl_disk.specs.Crash.{LeavesOnly};
-ghost use Rattle.repl_disk.specs.Folder.{Folder, IfTold};
+ghost use Rattle.repl_disk.specs.Folder.{IfTold};
 ghost use Rattle.repl_store.specs.Apart.{StaysApart};
-ghost use Rattle.repl_store.specs.Backing.{Backs, OnlyReads, State};
+ghost use Rattle.repl_store.specs.Backing.{IsIn, OnlyReads, State};
 ghost use Rattle.repl_store.specs.Durable.{IsKnown, StandsFor, control_name};
 
 use crate::control::{CONTROL, put_control, standby_control};
@@ -34,24 +34,24 @@ pub fn copy_store<D: Disk, E: Disk>(
 ) -> Result<(), CopyFault>
     // There was no control, and from here on every image is the copy.
     ensures done { OnOk result (IfTold (D.state disk.old).files (λ folder. (folder control_name ≡ None)
-        × ((s : State) → Backs (E.state from.old.disk) from.old.head s → (image : Folder) → (D.state disk.new).may_leave image → IsCopy from.old.head.size s.durable image))) }
-    ensures reads { OnOk result (IfTold (D.state disk.new).files (λ folder. (s : State) → Backs (E.state from.old.disk) from.old.head s → IsCopy from.old.head.size s.durable folder)) }
+        × ((s : State) → IsIn E.state from.old s → EachImage (D.state disk.new) (IsCopy from.old.head.size s.durable)))) }
+    ensures reads { OnOk result (IfTold (D.state disk.new).files (λ folder. (s : State) → IsIn E.state from.old s → IsCopy from.old.head.size s.durable folder)) }
     // Where all images have heard of the same timelines, the copy has heard of these.
-    ensures known { (s : State) (known : ℕ) → Backs (E.state from.old.disk) from.old.head s
-        → ((image : Folder) → (D.state disk.old).may_leave image → IsKnown image from.old.head.control.tli known)
+    ensures known { (s : State) (known : ℕ) → IsIn E.state from.old s
+        → EachImage (D.state disk.old) (λ image. IsKnown image from.old.head.control.tli known)
         → OnOk result (IfTold (D.state disk.new).files (λ folder. StandsFor from.old.head.size folder (copied s.durable known)
-        × ((image : Folder) → (D.state disk.new).may_leave image → StandsFor from.old.head.size image (copied s.durable known)))) }
+        × EachImage (D.state disk.new) (λ image. StandsFor from.old.head.size image (copied s.durable known)))) }
     ensures exists { result ≡ Err CopyFault.Exists → IfTold (D.state disk.old).files (λ folder. IsSome (folder control_name)) }
     ensures idle { result ≡ Err CopyFault.Exists → OnlyReads (D.state disk.old) (D.state disk.new) }
     ensures too_long { (have : ℕ) → result ≡ Err (CopyFault.HistoryTooLong have) → IsTooLong from.old.head.path have }
     // A crash leaves the control that was there, or the copy.
-    ensures moments { IfTold (D.state disk.old).files (λ folder. (s : State) → Backs (E.state from.old.disk) from.old.head s
+    ensures moments { IfTold (D.state disk.old).files (λ folder. (s : State) → IsIn E.state from.old s
         → LeavesOnly (D.state disk.old) (D.state disk.new) (IsCopying (D.state disk.old).may_leave from.old.head.size s.durable)) }
     // The source stays as it was, unless its disk failed.
     ensures head { from.new.head ≡ from.old.head }
     ensures sound { OnOk result (from.old.broken ≡ false) }
     ensures breaks { BreaksSource result from.old.broken from.new.broken }
-    ensures lasts { (s : State) → Backs (E.state from.old.disk) from.old.head s →
+    ensures lasts { (s : State) → IsIn E.state from.old s →
         Lasts result (E.state from.old.disk) (E.state from.new.disk) from.old.head s }
     // The files of the slots stay, which are none of a store's.
     ensures apart { StaysApart (D.state disk.old) (D.state disk.new) }
@@ -75,11 +75,11 @@ fn copy_files<D: Disk, E: Disk>(
     disk: &mut D,
     from: &mut Store<E>,
 ) -> Result<(), CopyFault>
-    ensures copied { (s : State) → Backs (E.state from.old.disk) from.old.head s → OnOk result (IfTold (D.state disk.old).files
-        (λ folder. (image : Folder) → (D.state disk.new).may_leave image → IsCopyOf (D.state disk.old).may_leave from.old.head.size s.durable image)) }
-    ensures moments { IfTold (D.state disk.old).files (λ folder. (s : State) → Backs (E.state from.old.disk) from.old.head s
+    ensures copied { (s : State) → IsIn E.state from.old s → OnOk result (IfTold (D.state disk.old).files
+        (λ folder. EachImage (D.state disk.new) (IsCopyOf (D.state disk.old).may_leave from.old.head.size s.durable))) }
+    ensures moments { IfTold (D.state disk.old).files (λ folder. (s : State) → IsIn E.state from.old s
         → LeavesOnly (D.state disk.old) (D.state disk.new) (IsCopying (D.state disk.old).may_leave from.old.head.size s.durable)) }
-    ensures source { FromSource result (E.state from.old.disk) (E.state from.new.disk) from.old.head from.new.head from.old.broken from.new.broken }
+    ensures source { ReadsSource E.state from.old from.new result }
     ensures sound { OnOk result (from.old.broken ≡ false) }
     ensures apart { StaysApart (D.state disk.old) (D.state disk.new) }
     ensures of_disk { IsOfDisk result (D.state disk.old) (D.state disk.new) }

@@ -1,5 +1,5 @@
 //! The history of the source's timeline.
-ghost use Rattle.std.specs.Prelude.{◌≡◌, OnOk, IfErr};
+ghost use Rattle.std.specs.Prelude.{OnOk, IfErr};
 ghost use Rattle.repl_clone.specs.Causes.{IsOfDisk, IsUnheard};
 ghost use Rattle.repl_clone.specs.Copying.{ChangesOnly, HasHistory, OfHistory};
 ghost use Rattle.repl_disk.specs.Folder.{Folder, IfTold};

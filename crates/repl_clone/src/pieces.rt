@@ -1,9 +1,9 @@
 //! The log of one segment, written piece by piece.
 ghost use Rattle.std.specs.Prelude.{◌≡◌, ◌≤◌, ◌<◌, ◌+◌, ◌-◌, length, take, drop, IsSome, OnOk, IfErr};
-ghost use Rattle.repl_clone.specs.Causes.{FromSource, IsFailure, IsOfDisk};
+ghost use Rattle.repl_clone.specs.Causes.{IsFailure, IsOfDisk, ReadsSource};
 ghost use Rattle.repl_clone.specs.Copying.{Begins, ChangesOnly, log_part};
-ghost use Rattle.repl_disk.specs.Folder.{Became, Folder, IfTold, written};
-ghost use Rattle.repl_store.specs.Backing.{Backs, State, log};
+ghost use Rattle.repl_disk.specs.Folder.{Became, IfTold, written};
+ghost use Rattle.repl_store.specs.Backing.{IsIn, State, log};
 
 use crate::fault::{CopyFault, fault_of};
 use crate::source::read_source;
@@ -28,10 +28,10 @@ pub(crate) fn copy_pieces<D: Disk, E: Disk>(
     requires order { start ≤ end }
     requires end { end ≤ from.old.head.written }
     ensures changes { IfTold (D.state disk.old).files (λ folder. ChangesOnly (λ other. other ≡ name.now) (D.state disk.old) (D.state disk.new) folder) }
-    ensures written { (s : State) → Backs (E.state from.old.disk) from.old.head s → OnOk result (IfTold (D.state disk.new).files
+    ensures written { (s : State) → IsIn E.state from.old s → OnOk result (IfTold (D.state disk.new).files
         (λ folder. Begins (log_part from.old.head.control.floor s start end) (folder name.now))) }
     ensures there { OnOk result (start < end → IfTold (D.state disk.new).files (λ folder. IsSome (folder name.now))) }
-    ensures source { FromSource result (E.state from.old.disk) (E.state from.new.disk) from.old.head from.new.head from.old.broken from.new.broken }
+    ensures source { ReadsSource E.state from.old from.new result }
     ensures of_disk { IsOfDisk result (D.state disk.old) (D.state disk.new) }
     ensures answers { IfErr result IsFailure }
     ensures keeps { D.keeps disk.old disk.new }
@@ -68,9 +68,9 @@ fn copy_piece<D: Disk, E: Disk>(
     requires end { at + length room.old ≤ from.old.head.written }
     ensures changes { IfTold (D.state disk.old).files (λ folder. ChangesOnly (λ other. other ≡ name.now) (D.state disk.old) (D.state disk.new) folder) }
     ensures written { OnOk result (Became (D.state disk.old).files (D.state disk.new).files (λ folder. written folder name.now place room.new)) }
-    ensures read { (s : State) → Backs (E.state from.old.disk) from.old.head s →
+    ensures read { (s : State) → IsIn E.state from.old s →
         OnOk result (room.new ≡ take (length room.old) (drop (at - from.old.head.control.floor) (log s))) }
-    ensures source { FromSource result (E.state from.old.disk) (E.state from.new.disk) from.old.head from.new.head from.old.broken from.new.broken }
+    ensures source { ReadsSource E.state from.old from.new result }
     ensures of_disk { IsOfDisk result (D.state disk.old) (D.state disk.new) }
     ensures answers { IfErr result IsFailure }
     ensures keeps { D.keeps disk.old disk.new }

@@ -1,9 +1,9 @@
 //! The log of the source, segment by segment.
-ghost use Rattle.std.specs.Prelude.{◌≡◌, ◌≤◌, ◌<◌, ◌+◌, ◌/◌, ◌%◌, length, OnOk, IfErr};
-ghost use Rattle.repl_clone.specs.Causes.{FromSource, IsFailure, IsOfDisk};
+ghost use Rattle.std.specs.Prelude.{◌≡◌, ◌≤◌, ◌<◌, ◌/◌, length, OnOk, IfErr};
+ghost use Rattle.repl_clone.specs.Causes.{IsFailure, IsOfDisk, ReadsSource};
 ghost use Rattle.repl_clone.specs.Copying.{Begins, ChangesOnly, HasLog, OfSegment, log_part};
 ghost use Rattle.repl_disk.specs.Folder.{Folder, IfTold};
-ghost use Rattle.repl_store.specs.Backing.{Backs, State};
+ghost use Rattle.repl_store.specs.Backing.{IsIn, State};
 ghost use Rattle.repl_store.specs.Durable.{segment_file};
 
 use crate::fault::{CopyFault, fault_of};
@@ -25,10 +25,10 @@ pub(crate) fn copy_segments<D: Disk, E: Disk>(
     requires some { 0 < length room.old }
     requires history { history.now ≡ from.old.head.path }
     ensures changes { IfTold (D.state disk.old).files (λ folder. ChangesOnly (OfSegment from.old.head.size from.old.head.path) (D.state disk.old) (D.state disk.new) folder) }
-    ensures copied { (s : State) → Backs (E.state from.old.disk) from.old.head s → OnOk result (IfTold (D.state disk.old).files
+    ensures copied { (s : State) → IsIn E.state from.old s → OnOk result (IfTold (D.state disk.old).files
         (λ folder. (image : Folder) → (D.state disk.new).may_leave image
         → HasLog from.old.head.size from.old.head.path from.old.head.control.floor s from.old.head.control.flushed image)) }
-    ensures source { FromSource result (E.state from.old.disk) (E.state from.new.disk) from.old.head from.new.head from.old.broken from.new.broken }
+    ensures source { ReadsSource E.state from.old from.new result }
     ensures of_disk { IsOfDisk result (D.state disk.old) (D.state disk.new) }
     ensures answers { IfErr result IsFailure }
     ensures keeps { D.keeps disk.old disk.new }
@@ -61,10 +61,10 @@ fn copy_segment<D: Disk, E: Disk>(
     requires order { start < end }
     requires flushed { end ≤ from.old.head.control.flushed }
     ensures changes { IfTold (D.state disk.old).files (λ folder. ChangesOnly (λ other. other ≡ segment_file from.old.head.size from.old.head.path (start / from.old.head.size)) (D.state disk.old) (D.state disk.new) folder) }
-    ensures copied { (s : State) → Backs (E.state from.old.disk) from.old.head s → OnOk result (IfTold (D.state disk.old).files
+    ensures copied { (s : State) → IsIn E.state from.old s → OnOk result (IfTold (D.state disk.old).files
         (λ folder. (image : Folder) → (D.state disk.new).may_leave image
         → Begins (log_part from.old.head.control.floor s start end) (image (segment_file from.old.head.size from.old.head.path (start / from.old.head.size))))) }
-    ensures source { FromSource result (E.state from.old.disk) (E.state from.new.disk) from.old.head from.new.head from.old.broken from.new.broken }
+    ensures source { ReadsSource E.state from.old from.new result }
     ensures of_disk { IsOfDisk result (D.state disk.old) (D.state disk.new) }
     ensures answers { IfErr result IsFailure }
     ensures keeps { D.keeps disk.old disk.new }

@@ -1,7 +1,7 @@
 //! Reading the source.
 ghost use Rattle.std.specs.Prelude.{◌≡◌, ◌≤◌, ◌+◌, ◌-◌, length, take, drop, false, OnOk, IfErr};
-ghost use Rattle.repl_clone.specs.Causes.{FromSource, IsSourceFailure};
-ghost use Rattle.repl_store.specs.Backing.{Backs, State, log};
+ghost use Rattle.repl_clone.specs.Causes.{IsSourceFailure, ReadsSource};
+ghost use Rattle.repl_store.specs.Backing.{IsIn, State, log};
 
 use crate::fault::{CopyFault, of_store};
 use repl_disk::Disk;
@@ -18,11 +18,11 @@ pub(crate) fn read_source<E: Disk>(
 ) -> Result<(), CopyFault>
     requires floor { from.old.head.control.floor ≤ at }
     requires end { at + length room.old ≤ from.old.head.written }
-    ensures source { FromSource result (E.state from.old.disk) (E.state from.new.disk) from.old.head from.new.head from.old.broken from.new.broken }
+    ensures source { ReadsSource E.state from.old from.new result }
     ensures sound { OnOk result (from.old.broken ≡ false) }
     ensures answers { IfErr result IsSourceFailure }
     ensures keeps { E.keeps from.old.disk from.new.disk }
-    ensures read { (s : State) → Backs (E.state from.old.disk) from.old.head s →
+    ensures read { (s : State) → IsIn E.state from.old s →
         OnOk result (room.new ≡ take (length room.old) (drop (at - from.old.head.control.floor) (log s))) }
 {
     match from.read_into(alloc, at, room) {

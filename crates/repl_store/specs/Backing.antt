@@ -14,7 +14,7 @@ use Rattle.repl_lsn.specs.Path.{steps}
 use Rattle.repl_lsn.specs.declared.history.TheConstants.{HISTORY_LIMIT}
 use Rattle.repl_lsn.specs.Between.{AreBetween}
 use Rattle.repl_store.specs.Durable.{Carries, Durable, StandsFor}
-use Rattle.repl_store.specs.Head.{Head}
+use Rattle.repl_store.specs.Head.{Head, Held}
 use Rattle.repl_store.specs.declared.fault.StoreFault.{StoreFault}
 use Rattle.repl_store.specs.declared.fault.StoreFault.TheVariants as fault
 
@@ -65,6 +65,25 @@ pub record IsCaused {A : Type 0} (result : Result A StoreFault) (old new : DiskS
   pub failed : result ≡ Err fault.DiskFault → Rose old.faults new.faults ⊎ Rose old.lacks new.lacks
   pub no_memory : result ≡ Err fault.Memory → Stood old.faults new.faults
 
+-- What a call says of each state that its disk backs: where it answers Ok it comes to `done` of that state, after a want of
+-- memory to one of `some`, and a crash in it leaves one of the column's.
+abbrev pub Acts : {A : Type 0} → Result A StoreFault → DiskState → DiskState → Head → Head → (State → Durable → Type 0)
+    → (State → State) → (State → State → Type 0) → Type 0
+Acts result old new head later column done some = (s : State) → Backs old head s → Comes result old new later (column s) (done s) (some s)
+
+-- The same of a call of a store, as contracts see it. `state` says what a disk is in.
+abbrev pub Calls : {A D : Type 0} → (D → DiskState) → Held D → Held D → Result A StoreFault → (State → Durable → Type 0)
+    → (State → State) → (State → State → Type 0) → Type 0
+Calls state old new result column done some = Acts result (state old.disk) (state new.disk) old.head new.head column done some
+
+-- the store is in this state, which its disk backs
+abbrev pub IsIn : {D : Type 0} → (D → DiskState) → Held D → State → Type 0
+IsIn state held s = Backs (state held.disk) held.head s
+
+-- a store that answers that it is broken makes no call of the disk
+abbrev pub IsIdle : {A D : Type 0} → Result A StoreFault → Held D → Held D → Type 0
+IsIdle result old new = result ≡ Err fault.Broken → new.disk ≡ old.disk
+
 -- calls of the disk that only read: the files are as they were, and a crash leaves nothing new
 pub record OnlyReads (old new : DiskState) : Type 0 where
   pub stayed : Stayed old.files new.files
@@ -110,49 +129,43 @@ Before s d = d ≡ s.durable
 abbrev pub Either : Durable → Durable → Durable → Type 0
 Either a b d = (d ≡ a) ⊎ (d ≡ b)
 
+-- the state stays as it was
+abbrev pub Unchanged : State → State → Type 0
+Unchanged s t = t ≡ s
+
 -- more bytes are written
 abbrev pub appended : State → List ℕ → State
-appended s bytes = record { durable = s.durable; unflushed = s.unflushed ++ bytes }
+appended s bytes = record s { unflushed = s.unflushed ++ bytes }
 
 -- the control after a flush, in some role
 abbrev pub flushed_control : Control → Role → ℕ → ℕ → ℕ → Control
-flushed_control c role written whole prev = record {
-  role = role;
-  sysid = c.sysid;
-  tli = c.tli;
-  magic = c.magic;
-  flushed = written;
-  whole = whole;
-  floor = c.floor;
-  prev = prev;
-}
+flushed_control c role written whole prev = record c { role = role; flushed = written; whole = whole; prev = prev }
 
 -- all written bytes are flushed
 abbrev pub flushed : State → Role → ℕ → ℕ → State
 flushed s role whole prev = record {
-  durable = record {
+  durable = record s.durable {
     control = flushed_control s.durable.control role (s.durable.control.flushed + length s.unflushed) whole prev;
-    path = s.durable.path;
     bytes = log s;
-    known = s.durable.known;
   };
   unflushed = [];
 }
 
+-- a crash in a flush leaves the store as it was, or flushed
+abbrev pub FlushLeaves : State → Role → ℕ → ℕ → Durable → Type 0
+FlushLeaves s role whole prev = Either s.durable (flushed s role whole prev).durable
+
 -- another timeline was heard of
 abbrev pub heard : Durable → ℕ → Durable
-heard d tli = record { control = d.control; path = d.path; bytes = d.bytes; known = max d.known tli }
+heard d tli = record d { known = max d.known tli }
 
 -- the control on a timeline that leaves the own one at its last switch point
 abbrev pub switched_control : Control → Path → Role → ℕ → ℕ → Control
-switched_control c child role whole prev = record {
+switched_control c child role whole prev = record c {
   role = role;
-  sysid = c.sysid;
   tli = child.own;
-  magic = c.magic;
   flushed = last_switch child.parents;
   whole = whole;
-  floor = c.floor;
   prev = prev;
 }
 
@@ -167,25 +180,11 @@ switched d child role whole prev = record {
 
 -- the control with another floor
 abbrev pub raised_control : Control → ℕ → Control
-raised_control c floor = record {
-  role = c.role;
-  sysid = c.sysid;
-  tli = c.tli;
-  magic = c.magic;
-  flushed = c.flushed;
-  whole = c.whole;
-  floor = floor;
-  prev = c.prev;
-}
+raised_control c floor = record c { floor = floor }
 
 -- bytes below the floor go
 abbrev pub raised : Durable → ℕ → Durable
-raised d floor = record {
-  control = raised_control d.control floor;
-  path = d.path;
-  bytes = drop (floor - d.control.floor) d.bytes;
-  known = d.known;
-}
+raised d floor = record d { control = raised_control d.control floor; bytes = drop (floor - d.control.floor) d.bytes }
 
 -- ---- what calls ask for
 

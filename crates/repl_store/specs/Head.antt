@@ -1,5 +1,5 @@
 -- What a store has in memory, beside its disk.
-use Rattle.std.specs.Prelude.{◌≡◌, ℕ, ◌+◌, ◌*◌, ◌/◌, ◌^◌, ◌≤◌, ◌⊎◌, Bool, List, Option, Some}
+use Rattle.std.specs.Prelude.{◌≡◌, ℕ, ◌+◌, ◌*◌, ◌/◌, ◌^◌, ◌≤◌, ◌⊎◌, Bool, List, Option, Some, Result, Ok, Err}
 use Rattle.repl_control.specs.Control.{IsControl, FitsFields}
 use Rattle.repl_control.specs.declared.control.Control.{Control}
 use Rattle.repl_lsn.specs.History.{Path, IsPath}
@@ -47,7 +47,17 @@ pub record Held (D : Type 0) : Type 0 where
 
 -- the store over another disk
 abbrev pub with_disk : {D : Type 0} → Held D → D → Held D
-with_disk held disk = record { disk = disk; head = held.head; broken = held.broken }
+with_disk held disk = record held { disk = disk }
+
+-- the disk after a call that makes a store of it, or hands it back
+abbrev pub disk_after : {D E : Type 0} → Result (Held D) (E × D) → D
+disk_after (Ok store) = store.disk
+disk_after (Err e) = e.1
+
+-- and what it answers, without the disk
+abbrev pub answer_after : {D E : Type 0} → Result (Held D) (E × D) → Result (Held D) E
+answer_after (Ok store) = Ok store
+answer_after (Err e) = Err e.0
 
 -- the store has this control and path, and bytes up to this end, which are on the disk as far as they were
 pub record Stands (head : Head) (size : ℕ) (control : Control) (path : Path) (written : ℕ) : Type 0 where

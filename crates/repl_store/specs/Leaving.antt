@@ -6,19 +6,26 @@ use Rattle.repl_disk.specs.State.{DiskState}
 use Rattle.repl_lsn.specs.History.{Path, SaysHistory, last_switch}
 use Rattle.repl_lsn.specs.Segment.{history_name}
 use Rattle.repl_store.specs.Backing.{State, heard, log, switched, switched_control}
-use Rattle.repl_store.specs.Durable.{segment_file}
+use Rattle.repl_store.specs.Durable.{Durable, segment_file}
 use Rattle.repl_store.specs.Head.{Head}
 
 abbrev pub heard_state : State → ℕ → State
-heard_state s tli = record { durable = heard s.durable tli; unflushed = s.unflushed }
+heard_state s tli = record s { durable = heard s.durable tli }
 
 abbrev pub switched_state : State → Path → Role → ℕ → ℕ → State
 switched_state s child role whole prev = record { durable = switched s.durable child role whole prev; unflushed = [] }
 
+-- a crash leaves the store as it was, or that with the new timeline's number known, or the new one
+abbrev pub SwitchLeaves : State → Path → Role → ℕ → ℕ → Durable → Type 0
+SwitchLeaves s child role whole prev d = (d ≡ s.durable) ⊎ (d ≡ heard s.durable child.own) ⊎ (d ≡ switched s.durable child role whole prev)
+
+-- the state is as it was, or the new timeline's number is known
+abbrev pub MaybeHeard : State → Path → State → Type 0
+MaybeHeard s child t = (t ≡ s) ⊎ (t ≡ heard_state s child.own)
+
 -- nothing is written past the switch point
 abbrev pub switched_head : Head → Path → Role → ℕ → ℕ → Head
-switched_head head child role whole prev = record {
-  size = head.size;
+switched_head head child role whole prev = record head {
   control = switched_control head.control child role whole prev;
   path = child;
   written = last_switch child.parents;

@@ -2,21 +2,23 @@
 use Rattle.std.specs.Prelude.{◌≡◌, ℕ, ◌<◌, ◌⊎◌, List, Some, None}
 use Rattle.repl_disk.specs.Folder.{Folder, ToldFiles}
 use Rattle.repl_lsn.specs.Segment.{Names}
-use Rattle.repl_store.specs.Backing.{State, raised, raised_control}
+use Rattle.repl_store.specs.Backing.{Either, State, raised, raised_control}
+use Rattle.repl_store.specs.Durable.{Durable}
 use Rattle.repl_store.specs.Head.{Head}
 
 abbrev pub raised_head : Head → ℕ → Head
-raised_head head floor = record {
-  size = head.size;
-  control = raised_control head.control floor;
-  path = head.path;
-  written = head.written;
-  synced = head.synced;
-  unsynced = head.unsynced;
-}
+raised_head head floor = record head { control = raised_control head.control floor }
 
 abbrev pub raised_state : State → ℕ → State
-raised_state s floor = record { durable = raised s.durable floor; unflushed = s.unflushed }
+raised_state s floor = record s { durable = raised s.durable floor }
+
+-- a crash leaves the store as it was, or with that floor
+abbrev pub RaiseLeaves : State → ℕ → Durable → Type 0
+RaiseLeaves s floor = Either s.durable (raised s.durable floor)
+
+-- the state is as it was, or the floor is raised
+abbrev pub MaybeRaised : State → ℕ → State → Type 0
+MaybeRaised s floor t = (t ≡ s) ⊎ (t ≡ raised_state s floor)
 
 -- the name is that of a segment before this one, of some timeline
 abbrev pub NamesBelow : ℕ → List ℕ → ℕ → Type 0

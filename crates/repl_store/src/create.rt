@@ -1,6 +1,6 @@
 //! Making a store.
-ghost use Rattle.std.specs.Prelude.{◌≡◌, ◌≢◌, ◌⊎◌, ℕ, [], false, Some, None, Ok, Err, IsSome, IfOk, IfErr, OnOk, MatchResult};
-ghost use Rattle.repl_control.specs.Control.{FitsFields, IsControl, control_bytes, fresh_control};
+ghost use Rattle.std.specs.Prelude.{◌≡◌, ℕ, [], false, None, IsSome, IfOk, IfErr, OnOk};
+ghost use Rattle.repl_control.specs.Control.{control_bytes};
 ghost use Rattle.repl_control.specs.declared.control.TheConstants.{VERSION_1_SIZE};
 ghost use Rattle.repl_disk.specs.Crash.{LeavesOnly};
 ghost use Rattle.repl_disk.specs.Folder.{Folder, IfTold};
@@ -9,7 +9,7 @@ ghost use Rattle.repl_store.specs.Apart.{StaysApart};
 ghost use Rattle.repl_store.specs.Backing.{Backs};
 ghost use Rattle.repl_store.specs.Creating.{IsMade, IsMadeOf, IsMaking, IsUnmade, fresh};
 ghost use Rattle.repl_store.specs.Durable.{IsKnown, StandsFor, control_aside, control_name};
-ghost use Rattle.repl_store.specs.Head.{IsMounted};
+ghost use Rattle.repl_store.specs.Head.{IsMounted, answer_after, disk_after};
 ghost use Rattle.repl_store.specs.declared.fault.CreateFault.TheVariants as CreateFault;
 
 use crate::control::{CONTROL, put_control};
@@ -43,13 +43,11 @@ impl<D: Disk> Store<D> {
             → Backs (D.state store.disk) store.head (record { durable = fresh role ident known; unflushed = [] })) }
         ensures refused { IfErr result (λ e. IsUnmade (D.state disk).files e.0) }
         // A crash leaves what one before might have left, or the new store.
-        ensures moments { IfTold (D.state disk).files (λ folder. MatchResult result
-            (λ store. LeavesOnly (D.state disk) (D.state store.disk) (IsMaking (D.state disk).may_leave role ident))
-            (λ e. LeavesOnly (D.state disk) (D.state e.1) (IsMaking (D.state disk).may_leave role ident))) }
-        ensures caused { MatchResult result (λ store. IsMadeOf (Ok store) (D.state disk) (D.state store.disk))
-            (λ e. IsMadeOf {A = Store D} (Err e.0) (D.state disk) (D.state e.1)) }
-        ensures apart { MatchResult result (λ store. StaysApart (D.state disk) (D.state store.disk)) (λ e. StaysApart (D.state disk) (D.state e.1)) }
-        ensures keeps { MatchResult result (λ store. D.keeps disk store.disk) (λ e. D.keeps disk e.1) }
+        ensures moments { IfTold (D.state disk).files (λ folder. LeavesOnly (D.state disk) (D.state (disk_after result))
+            (IsMaking (D.state disk).may_leave role ident)) }
+        ensures caused { IsMadeOf (answer_after result) (D.state disk) (D.state (disk_after result)) }
+        ensures apart { StaysApart (D.state disk) (D.state (disk_after result)) }
+        ensures keeps { D.keeps disk (disk_after result) }
     {
         let mut disk = disk;
         let control = Control::fresh(role, ident.sysid, ident.magic, ident.size);

@@ -1,8 +1,8 @@
 //! Making certain what was written, and the role of a store.
-ghost use Rattle.std.specs.Prelude.{◌≡◌, ◌≢◌, ◌↔◌, true, false, Err, OnOk, IfErr};
+ghost use Rattle.std.specs.Prelude.{◌≡◌, ◌≢◌, ◌↔◌, true, Err, OnOk, IfErr};
 ghost use Rattle.repl_effects.specs.Counts.{Rose};
 ghost use Rattle.repl_store.specs.Apart.{StaysApart};
-ghost use Rattle.repl_store.specs.Backing.{Backs, Before, Breaks, CanFlush, Comes, Either, IsCaused, State, flushed, flushed_control};
+ghost use Rattle.repl_store.specs.Backing.{Acts, Before, Breaks, Calls, CanFlush, FlushLeaves, IsCaused, IsIdle, Unchanged, flushed, flushed_control};
 ghost use Rattle.repl_store.specs.Head.{IsAt, Stands};
 ghost use Rattle.repl_store.specs.Tail.{SyncsAll};
 ghost use Rattle.repl_store.specs.declared.fault.StoreFault.TheVariants as StoreFault;
@@ -23,7 +23,7 @@ impl<D: Disk> Store<D> {
         requires { CanFlush self.old.head self.old.head.control.role whole prev }
         ensures still { flushed_control self.old.head.control self.old.head.control.role self.old.head.written whole prev ≡ self.old.head.control → self.new.disk ≡ self.old.disk }
         ensures broken { (result ≡ Err StoreFault.Broken) ↔ (self.old.broken ≡ true) }
-        ensures idle { result ≡ Err StoreFault.Broken → self.new.disk ≡ self.old.disk }
+        ensures idle { IsIdle result self.old self.new }
         ensures breaks { Breaks result self.old.broken self.new.broken }
         ensures ok { OnOk result (Stands self.new.head self.old.head.size (flushed_control self.old.head.control self.old.head.control.role self.old.head.written whole prev) self.old.head.path self.old.head.written) }
         ensures stays { IfErr result (λ e. IsAt self.old.head self.new.head self.old.head.written) }
@@ -32,9 +32,8 @@ impl<D: Disk> Store<D> {
         ensures wants { result ≡ Err StoreFault.Memory → Rose (D.state self.old.disk).wants (D.state self.new.disk).wants }
         ensures apart { StaysApart (D.state self.old.disk) (D.state self.new.disk) }
         ensures keeps { D.keeps self.old.disk self.new.disk }
-        ensures comes { (s : State) → Backs (D.state self.old.disk) self.old.head s →
-            Comes result (D.state self.old.disk) (D.state self.new.disk) self.new.head
-            (Either s.durable (flushed s self.old.head.control.role whole prev).durable) (flushed s self.old.head.control.role whole prev) (λ t. t ≡ s) }
+        ensures comes { Calls D.state self.old self.new result (λ s. FlushLeaves s self.old.head.control.role whole prev)
+            (λ s. flushed s self.old.head.control.role whole prev) Unchanged }
     {
         let role = self.head.control.role;
         self.set_role(role, whole, prev)
@@ -45,7 +44,7 @@ impl<D: Disk> Store<D> {
         requires { CanFlush self.old.head role whole prev }
         ensures still { flushed_control self.old.head.control role self.old.head.written whole prev ≡ self.old.head.control → self.new.disk ≡ self.old.disk }
         ensures broken { (result ≡ Err StoreFault.Broken) ↔ (self.old.broken ≡ true) }
-        ensures idle { result ≡ Err StoreFault.Broken → self.new.disk ≡ self.old.disk }
+        ensures idle { IsIdle result self.old self.new }
         ensures breaks { Breaks result self.old.broken self.new.broken }
         ensures ok { OnOk result (Stands self.new.head self.old.head.size (flushed_control self.old.head.control role self.old.head.written whole prev) self.old.head.path self.old.head.written) }
         ensures stays { IfErr result (λ e. IsAt self.old.head self.new.head self.old.head.written) }
@@ -54,9 +53,7 @@ impl<D: Disk> Store<D> {
         ensures wants { result ≡ Err StoreFault.Memory → Rose (D.state self.old.disk).wants (D.state self.new.disk).wants }
         ensures apart { StaysApart (D.state self.old.disk) (D.state self.new.disk) }
         ensures keeps { D.keeps self.old.disk self.new.disk }
-        ensures comes { (s : State) → Backs (D.state self.old.disk) self.old.head s →
-            Comes result (D.state self.old.disk) (D.state self.new.disk) self.new.head
-            (Either s.durable (flushed s role whole prev).durable) (flushed s role whole prev) (λ t. t ≡ s) }
+        ensures comes { Calls D.state self.old self.new result (λ s. FlushLeaves s role whole prev) (λ s. flushed s role whole prev) Unchanged }
     {
         if self.broken {
             return Err(StoreFault::Broken);
@@ -83,9 +80,7 @@ fn make_certain<D: Disk>(
     ensures wants { result ≡ Err StoreFault.Memory → Rose (D.state disk.old).wants (D.state disk.new).wants }
     ensures apart { StaysApart (D.state disk.old) (D.state disk.new) }
     ensures keeps { D.keeps disk.old disk.new }
-    ensures comes { (s : State) → Backs (D.state disk.old) head.old s →
-        Comes result (D.state disk.old) (D.state disk.new) head.new
-        (Either s.durable (flushed s role whole prev).durable) (flushed s role whole prev) (λ t. t ≡ s) }
+    ensures comes { Acts result (D.state disk.old) (D.state disk.new) head.old head.new (λ s. FlushLeaves s role whole prev) (λ s. flushed s role whole prev) Unchanged }
 {
     let control = Control {
         role,
@@ -113,10 +108,8 @@ fn renew<D: Disk>(disk: &mut D, head: &mut Head, control: Control) -> Result<(),
     ensures wants { result ≡ Err StoreFault.Memory → Rose (D.state disk.old).wants (D.state disk.new).wants }
     ensures apart { StaysApart (D.state disk.old) (D.state disk.new) }
     ensures keeps { D.keeps disk.old disk.new }
-    ensures comes { (s : State) → Backs (D.state disk.old) head.old s →
-        Comes result (D.state disk.old) (D.state disk.new) head.new
-        (Either s.durable (flushed s control.role control.whole control.prev).durable)
-        (flushed s control.role control.whole control.prev) (λ t. t ≡ s) }
+    ensures comes { Acts result (D.state disk.old) (D.state disk.new) head.old head.new (λ s. FlushLeaves s control.role control.whole control.prev)
+        (λ s. flushed s control.role control.whole control.prev) Unchanged }
 {
     match put_control(disk, &control) {
         Ok(()) => {
@@ -136,8 +129,7 @@ pub(crate) fn sync_tail<D: Disk>(disk: &mut D, head: &mut Head) -> Result<(), St
     ensures wants { result ≡ Err StoreFault.Memory → Rose (D.state disk.old).wants (D.state disk.new).wants }
     ensures apart { StaysApart (D.state disk.old) (D.state disk.new) }
     ensures keeps { D.keeps disk.old disk.new }
-    ensures comes { (s : State) → Backs (D.state disk.old) head.old s →
-        Comes result (D.state disk.old) (D.state disk.new) head.new (Before s) s (λ t. t ≡ s) }
+    ensures comes { Acts result (D.state disk.old) (D.state disk.new) head.old head.new Before (λ s. s) Unchanged }
 {
     if head.synced == head.written {
         return Ok(());

@@ -2,7 +2,7 @@
 ghost use Rattle.std.specs.Prelude.{◌≡◌, ◌≢◌, ◌↔◌, ◌∷◌, [], map, string_bytes, true, Err, IfOk};
 ghost use Rattle.repl_disk.specs.Folder.{IfTold};
 ghost use Rattle.repl_store.specs.Apart.{StaysApart};
-ghost use Rattle.repl_store.specs.Backing.{Asks, Backs, Before, Breaks, Comes, IsCaused, State};
+ghost use Rattle.repl_store.specs.Backing.{Asks, Before, Breaks, Calls, IsCaused, IsIdle, IsIn, State, Unchanged};
 ghost use Rattle.repl_store.specs.Durable.{IsKnown};
 ghost use Rattle.repl_store.specs.Numbers.{IsGreatest};
 ghost use Rattle.repl_store.specs.declared.fault.StoreFault.TheVariants as StoreFault;
@@ -17,16 +17,15 @@ impl<D: Disk> Store<D> {
     /// disk's files.
     pub fn known_numbers(&mut self) -> Result<Tli, StoreFault>
         ensures broken { (result ≡ Err StoreFault.Broken) ↔ (self.old.broken ≡ true) }
-        ensures idle { result ≡ Err StoreFault.Broken → self.new.disk ≡ self.old.disk }
+        ensures idle { IsIdle result self.old self.new }
         ensures breaks { Breaks result self.old.broken self.new.broken }
         ensures head { self.new.head ≡ self.old.head }
         ensures known { IfOk result (λ known. IfTold (D.state self.old.disk).files (λ folder. IsKnown folder self.old.head.control.tli known)) }
         ensures caused { IsCaused result (D.state self.old.disk) (D.state self.new.disk) }
         ensures apart { StaysApart (D.state self.old.disk) (D.state self.new.disk) }
         ensures keeps { D.keeps self.old.disk self.new.disk }
-        ensures of_state { (s : State) → Backs (D.state self.old.disk) self.old.head s → IfOk result (λ known. known ≡ s.durable.known) }
-        ensures comes { (s : State) → Backs (D.state self.old.disk) self.old.head s →
-            Comes result (D.state self.old.disk) (D.state self.new.disk) self.new.head (Before s) s (λ t. t ≡ s) }
+        ensures of_state { (s : State) → IsIn D.state self.old s → IfOk result (λ known. known ≡ s.durable.known) }
+        ensures comes { Calls D.state self.old self.new result Before (λ s. s) Unchanged }
     {
         if self.broken {
             return Err(StoreFault::Broken);

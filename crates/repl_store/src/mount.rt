@@ -1,13 +1,13 @@
 //! Opening the store that stands on a disk.
-ghost use Rattle.std.specs.Prelude.{◌≡◌, ◌↔◌, ◌≢◌, ◌*◌, ◌+◌, ◌/◌, ◌<◌, ◌≤◌, ◌⊎◌, ◌^◌, ℕ, List, [], length, take, false, Some, None, Ok, Err, IfOk, IfErr, IsTrue, OnOk, MatchResult};
+ghost use Rattle.std.specs.Prelude.{◌≡◌, ◌↔◌, ◌*◌, ◌/◌, ◌<◌, ◌≤◌, ◌⊎◌, ◌^◌, ℕ, [], false, Some, IfOk, IfErr, IsTrue, OnOk};
 ghost use Rattle.repl_control.specs.Control.{FitsFields, IsControl};
 ghost use Rattle.repl_control.specs.declared.control.TheConstants.{VERSION_1_SIZE};
 ghost use Rattle.repl_disk.specs.Folder.{Folder, IfTold};
 ghost use Rattle.repl_lsn.specs.Between.{AreBetween};
 ghost use Rattle.repl_store.specs.Apart.{StaysApart};
-ghost use Rattle.repl_store.specs.Backing.{Asks, Backs, OnlyReads};
+ghost use Rattle.repl_store.specs.Backing.{Asks, Backs};
 ghost use Rattle.repl_store.specs.Durable.{Durable, HasPath, StandsFor, control_name};
-ghost use Rattle.repl_store.specs.Head.{IsMounted};
+ghost use Rattle.repl_store.specs.Head.{IsMounted, answer_after, disk_after};
 ghost use Rattle.repl_store.specs.Refusal.{HasControl, IsEnough, IsHeld, IsLackOf, IsRefusal, IsSegmentLack, IsUnread, bad_history};
 ghost use Rattle.repl_text.specs.Text.{IsText};
 ghost use Rattle.repl_store.specs.declared.fault.MountFault.TheVariants as MountFault;
@@ -41,9 +41,9 @@ impl<D: Disk> Store<D> {
             → ((image : Folder) → (D.state disk).may_leave image → StandsFor VERSION_1_SIZE image d)
             → Backs (D.state store.disk) store.head (record { durable = d; unflushed = [] })) }
         ensures refused { IfErr result (λ e. IfTold (D.state disk).files (λ folder. IsRefusal VERSION_1_SIZE folder e.0)) }
-        ensures asks { MatchResult result (λ store. Asks MountFault.DiskFault (Ok store) (D.state disk) (D.state store.disk)) (λ e. Asks {A = Store D} MountFault.DiskFault (Err e.0) (D.state disk) (D.state e.1)) }
-        ensures apart { MatchResult result (λ store. StaysApart (D.state disk) (D.state store.disk)) (λ e. StaysApart (D.state disk) (D.state e.1)) }
-        ensures keeps { MatchResult result (λ store. D.keeps disk store.disk) (λ e. D.keeps disk e.1) }
+        ensures asks { Asks MountFault.DiskFault (answer_after result) (D.state disk) (D.state (disk_after result)) }
+        ensures apart { StaysApart (D.state disk) (D.state (disk_after result)) }
+        ensures keeps { D.keeps disk (disk_after result) }
     {
         let mut disk = disk;
         match read_head(alloc, &mut disk) {

@@ -1,10 +1,10 @@
 //! Raising the floor: segments below it go.
-ghost use Rattle.std.specs.Prelude.{◌≡◌, ◌≢◌, ◌↔◌, ◌⊎◌, ◌/◌, ◌<◌, IsTrue, true, Err, OnOk, IfErr};
+ghost use Rattle.std.specs.Prelude.{◌≡◌, ◌≢◌, ◌↔◌, ◌⊎◌, ◌/◌, IsTrue, true, Err, OnOk, IfErr};
 ghost use Rattle.repl_disk.specs.Folder.{IfTold};
 ghost use Rattle.repl_store.specs.Apart.{StaysApart};
-ghost use Rattle.repl_store.specs.Backing.{Backs, Before, Breaks, CanRaise, Comes, Either, IsCaused, State, raised, raised_control};
-ghost use Rattle.repl_store.specs.Head.{IsAt, Stands};
-ghost use Rattle.repl_store.specs.Raised.{Drops, IsFree, NamesBelow, raised_head, raised_state};
+ghost use Rattle.repl_store.specs.Backing.{Acts, Before, Breaks, Calls, CanRaise, IsCaused, IsIdle, Unchanged, raised_control};
+ghost use Rattle.repl_store.specs.Head.{Stands};
+ghost use Rattle.repl_store.specs.Raised.{Drops, IsFree, MaybeRaised, NamesBelow, RaiseLeaves, raised_head, raised_state};
 ghost use Rattle.repl_store.specs.declared.fault.StoreFault.TheVariants as StoreFault;
 
 use crate::control::put_control;
@@ -21,7 +21,7 @@ impl<D: Disk> Store<D> {
     pub fn raise_floor(&mut self, floor: Lsn) -> Result<(), StoreFault>
         requires { CanRaise self.old.head floor }
         ensures broken { (result ≡ Err StoreFault.Broken) ↔ (self.old.broken ≡ true) }
-        ensures idle { result ≡ Err StoreFault.Broken → self.new.disk ≡ self.old.disk }
+        ensures idle { IsIdle result self.old self.new }
         ensures breaks { Breaks result self.old.broken self.new.broken }
         ensures ok { OnOk result (Stands self.new.head self.old.head.size (raised_control self.old.head.control floor) self.old.head.path self.old.head.written) }
         ensures stays { IfErr result (λ e. (self.new.head ≡ self.old.head) ⊎ ((result ≡ Err StoreFault.Memory)
@@ -31,11 +31,7 @@ impl<D: Disk> Store<D> {
         ensures keeps { D.keeps self.old.disk self.new.disk }
         // No file of a segment below the floor is left, of any timeline.
         ensures removed { OnOk result (IfTold (D.state self.new.disk).files (IsFree self.old.head.size (floor / self.old.head.size))) }
-        ensures comes { (s : State) → Backs (D.state self.old.disk) self.old.head s →
-            Comes result (D.state self.old.disk) (D.state self.new.disk) self.new.head
-            (Either s.durable (raised s.durable floor))
-            (record { durable = raised s.durable floor; unflushed = s.unflushed })
-            (λ t. (t ≡ s) ⊎ (t ≡ record { durable = raised s.durable floor; unflushed = s.unflushed })) }
+        ensures comes { Calls D.state self.old self.new result (λ s. RaiseLeaves s floor) (λ s. raised_state s floor) (λ s. MaybeRaised s floor) }
     {
         if self.broken {
             return Err(StoreFault::Broken);
@@ -55,9 +51,8 @@ fn raise<D: Disk>(disk: &mut D, head: &mut Head, floor: Lsn) -> Result<(), Store
     ensures apart { StaysApart (D.state disk.old) (D.state disk.new) }
     ensures keeps { D.keeps disk.old disk.new }
     ensures removed { OnOk result (IfTold (D.state disk.new).files (IsFree head.old.size (floor / head.old.size))) }
-    ensures comes { (s : State) → Backs (D.state disk.old) head.old s →
-        Comes result (D.state disk.old) (D.state disk.new) head.new (Either s.durable (raised s.durable floor))
-        (raised_state s floor) (λ t. (t ≡ s) ⊎ (t ≡ raised_state s floor)) }
+    ensures comes { Acts result (D.state disk.old) (D.state disk.new) head.old head.new (λ s. RaiseLeaves s floor)
+        (λ s. raised_state s floor) (λ s. MaybeRaised s floor) }
 {
     let before = head.control;
     put_floor(disk, head, floor)?;
@@ -80,9 +75,7 @@ fn put_floor<D: Disk>(disk: &mut D, head: &mut Head, floor: Lsn) -> Result<(), S
     ensures unbroken { result ≢ Err StoreFault.Broken }
     ensures apart { StaysApart (D.state disk.old) (D.state disk.new) }
     ensures keeps { D.keeps disk.old disk.new }
-    ensures comes { (s : State) → Backs (D.state disk.old) head.old s →
-        Comes result (D.state disk.old) (D.state disk.new) head.new (Either s.durable (raised s.durable floor))
-        (raised_state s floor) (λ t. t ≡ s) }
+    ensures comes { Acts result (D.state disk.old) (D.state disk.new) head.old head.new (λ s. RaiseLeaves s floor) (λ s. raised_state s floor) Unchanged }
 {
     let control = Control {
         floor,
@@ -104,8 +97,7 @@ fn remove_below<D: Disk>(disk: &mut D, head: &Head) -> Result<(), StoreFault>
     ensures apart { StaysApart (D.state disk.old) (D.state disk.new) }
     ensures keeps { D.keeps disk.old disk.new }
     ensures removed { OnOk result (IfTold (D.state disk.new).files (IsFree head.now.size (head.now.control.floor / head.now.size))) }
-    ensures comes { (s : State) → Backs (D.state disk.old) head.now s →
-        Comes result (D.state disk.old) (D.state disk.new) head.now (Before s) s (λ t. t ≡ s) }
+    ensures comes { Acts result (D.state disk.old) (D.state disk.new) head.now head.now Before (λ s. s) Unchanged }
 {
     let names = match disk.names() {
         Ok(names) => names,
@@ -124,8 +116,7 @@ fn remove_if_below<D: Disk>(disk: &mut D, head: &Head, name: &str) -> Result<(),
     ensures apart { StaysApart (D.state disk.old) (D.state disk.new) }
     ensures keeps { D.keeps disk.old disk.new }
     ensures drops { OnOk result (Drops (D.state disk.old).files (D.state disk.new).files head.now.size (head.now.control.floor / head.now.size) name.now) }
-    ensures comes { (s : State) → Backs (D.state disk.old) head.now s →
-        Comes result (D.state disk.old) (D.state disk.new) head.now (Before s) s (λ t. t ≡ s) }
+    ensures comes { Acts result (D.state disk.old) (D.state disk.new) head.now head.now Before (λ s. s) Unchanged }
 {
     if !is_below(name, head.control.floor, head.size) {
         return Ok(());

@@ -1,7 +1,7 @@
 //! Reading the log along the path.
 ghost use Rattle.std.specs.Prelude.{◌≡◌, ◌≢◌, ◌<◌, ◌≤◌, ◌+◌, ◌-◌, ◌%◌, ◌↔◌, length, take, drop, true, Err, OnOk};
 ghost use Rattle.repl_store.specs.Apart.{StaysApart};
-ghost use Rattle.repl_store.specs.Backing.{Backs, Before, Breaks, Comes, IsCaused, OnlyReads, Reads, State, log};
+ghost use Rattle.repl_store.specs.Backing.{Backs, Before, Breaks, Calls, IsCaused, IsIdle, IsIn, OnlyReads, Reads, State, Unchanged, log};
 ghost use Rattle.repl_store.specs.declared.fault.StoreFault.TheVariants as StoreFault;
 
 use crate::fault::{StoreFault, fault_of};
@@ -19,7 +19,7 @@ impl<D: Disk> Store<D> {
         requires floor { self.old.head.control.floor ≤ at }
         requires end { at + length room.old ≤ self.old.head.written }
         ensures broken { (result ≡ Err StoreFault.Broken) ↔ (self.old.broken ≡ true) }
-        ensures idle { result ≡ Err StoreFault.Broken → self.new.disk ≡ self.old.disk }
+        ensures idle { IsIdle result self.old self.new }
         ensures breaks { Breaks result self.old.broken self.new.broken }
         ensures head { self.new.head ≡ self.old.head }
         ensures caused { IsCaused result (D.state self.old.disk) (D.state self.new.disk) }
@@ -27,10 +27,9 @@ impl<D: Disk> Store<D> {
         ensures only { OnlyReads (D.state self.old.disk) (D.state self.new.disk) }
         ensures apart { StaysApart (D.state self.old.disk) (D.state self.new.disk) }
         ensures keeps { D.keeps self.old.disk self.new.disk }
-        ensures read { (s : State) → Backs (D.state self.old.disk) self.old.head s →
+        ensures read { (s : State) → IsIn D.state self.old s →
             OnOk result (room.new ≡ take (length room.old) (drop (at - self.old.head.control.floor) (log s))) }
-        ensures comes { (s : State) → Backs (D.state self.old.disk) self.old.head s →
-            Comes result (D.state self.old.disk) (D.state self.new.disk) self.new.head (Before s) s (λ t. t ≡ s) }
+        ensures comes { Calls D.state self.old self.new result Before (λ s. s) Unchanged }
     {
         if self.broken {
             return Err(StoreFault::Broken);

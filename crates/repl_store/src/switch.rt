@@ -1,5 +1,5 @@
 //! Going over to another timeline.
-ghost use Rattle.std.specs.Prelude.{◌≡◌, ◌≢◌, ◌↔◌, ◌⊎◌, ◌+◌, ◌*◌, ◌/◌, ◌^◌, ◌<◌, ◌≤◌, length, true, Some, Err, [], OnOk, IfErr};
+ghost use Rattle.std.specs.Prelude.{◌≡◌, ◌≢◌, ◌↔◌, ◌*◌, ◌/◌, ◌^◌, ◌<◌, ◌≤◌, length, true, Some, Err, OnOk, IfErr};
 ghost use Rattle.repl_disk.specs.Answers.{Caused, NeverMissing};
 ghost use Rattle.repl_disk.specs.Crash.{LeavesOnly};
 ghost use Rattle.repl_disk.specs.Folder.{Folder, IfTold};
@@ -7,9 +7,9 @@ ghost use Rattle.repl_disk.specs.Replacing.{IsAside};
 ghost use Rattle.repl_lsn.specs.History.{IsPath, canonical, last_switch};
 ghost use Rattle.repl_lsn.specs.declared.history.TheConstants.{HISTORY_LIMIT};
 ghost use Rattle.repl_store.specs.Apart.{IsApart, StaysApart};
-ghost use Rattle.repl_store.specs.Backing.{Backs, Before, Breaks, CanSwitch, Comes, Either, IsCaused, State, heard, switched, switched_control};
+ghost use Rattle.repl_store.specs.Backing.{Acts, Backs, Before, Breaks, Calls, CanSwitch, Comes, Either, IsCaused, IsIdle, State, Unchanged, heard, switched, switched_control};
 ghost use Rattle.repl_store.specs.Head.{IsAt, IsHead, Stands};
-ghost use Rattle.repl_store.specs.Leaving.{HasStart, IsFront, SaysIn, first_file, heard_state, switched_head, switched_state};
+ghost use Rattle.repl_store.specs.Leaving.{HasStart, IsFront, MaybeHeard, SaysIn, SwitchLeaves, first_file, heard_state, switched_head, switched_state};
 ghost use Rattle.repl_store.specs.declared.fault.StoreFault.TheVariants as StoreFault;
 
 use crate::control::put_control;
@@ -37,7 +37,7 @@ impl<D: Disk> Store<D> {
     ) -> Result<(), StoreFault>
         requires { CanSwitch self.old.head child.now role whole prev }
         ensures broken { (result ≡ Err StoreFault.Broken) ↔ (self.old.broken ≡ true) }
-        ensures idle { result ≡ Err StoreFault.Broken → self.new.disk ≡ self.old.disk }
+        ensures idle { IsIdle result self.old self.new }
         ensures breaks { Breaks result self.old.broken self.new.broken }
         ensures ok { OnOk result (Stands self.new.head self.old.head.size (switched_control self.old.head.control child.now role whole prev) child.now (last_switch child.now.parents)) }
         ensures stays { IfErr result (λ e. IsAt self.old.head self.new.head self.old.head.written) }
@@ -45,11 +45,8 @@ impl<D: Disk> Store<D> {
         ensures apart { StaysApart (D.state self.old.disk) (D.state self.new.disk) }
         ensures keeps { D.keeps self.old.disk self.new.disk }
         // A crash leaves the store as it was, or that with the new timeline's number known, or the new one.
-        ensures comes { (s : State) → Backs (D.state self.old.disk) self.old.head s →
-            Comes result (D.state self.old.disk) (D.state self.new.disk) self.new.head
-            (λ d. (d ≡ s.durable) ⊎ (d ≡ heard s.durable child.now.own) ⊎ (d ≡ switched s.durable child.now role whole prev))
-            (record { durable = switched s.durable child.now role whole prev; unflushed = [] })
-            (λ t. (t ≡ s) ⊎ (t ≡ record { durable = heard s.durable child.now.own; unflushed = s.unflushed })) }
+        ensures comes { Calls D.state self.old self.new result (λ s. SwitchLeaves s child.now role whole prev)
+            (λ s. switched_state s child.now role whole prev) (λ s. MaybeHeard s child.now) }
     {
         if self.broken {
             return Err(StoreFault::Broken);
@@ -95,11 +92,8 @@ fn leave<D: Disk>(
     ensures unbroken { result ≢ Err StoreFault.Broken }
     ensures apart { StaysApart (D.state disk.old) (D.state disk.new) }
     ensures keeps { D.keeps disk.old disk.new }
-    ensures comes { (s : State) → Backs (D.state disk.old) head.old s →
-        Comes result (D.state disk.old) (D.state disk.new) head.new
-        (λ d. (d ≡ s.durable) ⊎ (d ≡ heard s.durable child.now.own) ⊎ (d ≡ switched s.durable child.now role whole prev))
-        (switched_state s child.now role whole prev)
-        (λ t. (t ≡ s) ⊎ (t ≡ heard_state s child.now.own)) }
+    ensures comes { Acts result (D.state disk.old) (D.state disk.new) head.old head.new (λ s. SwitchLeaves s child.now role whole prev)
+        (λ s. switched_state s child.now role whole prev) (λ s. MaybeHeard s child.now) }
 {
     let switch = switch_of(child);
     let control = Control {
@@ -131,9 +125,8 @@ fn hear<D: Disk>(
     ensures apart { StaysApart (D.state disk.old) (D.state disk.new) }
     ensures keeps { D.keeps disk.old disk.new }
     ensures said { (s : State) → Backs (D.state disk.old) head.now s → OnOk result (SaysIn (D.state disk.new) child.now) }
-    ensures comes { (s : State) → Backs (D.state disk.old) head.now s →
-        Comes result (D.state disk.old) (D.state disk.new) head.now (Either s.durable (heard s.durable child.now.own))
-        (heard_state s child.now.own) (λ t. t ≡ s) }
+    ensures comes { Acts result (D.state disk.old) (D.state disk.new) head.now head.now (λ s. Either s.durable (heard s.durable child.now.own))
+        (λ s. heard_state s child.now.own) Unchanged }
 {
     let name = history_name(alloc, child.own())?;
     let aside = format!(in alloc; "{name}.tmp")?;
@@ -166,8 +159,7 @@ fn begin<D: Disk>(
     ensures keeps { D.keeps disk.old disk.new }
     ensures said { (s : State) → Backs (D.state disk.old) head.now s → SaysIn (D.state disk.old) child.now → OnOk result (SaysIn (D.state disk.new) child.now) }
     ensures begun { (s : State) → Backs (D.state disk.old) head.now s → OnOk result (HasStart (D.state disk.new) head.now child.now s) }
-    ensures comes { (s : State) → Backs (D.state disk.old) head.now s →
-        Comes result (D.state disk.old) (D.state disk.new) head.now (Before s) s (λ t. t ≡ s) }
+    ensures comes { Acts result (D.state disk.old) (D.state disk.new) head.now head.now Before (λ s. s) Unchanged }
 {
     let count = head.place_in_segment(switch);
     if count == 0 {
@@ -199,8 +191,7 @@ fn put_first<D: Disk>(
     ensures keeps { D.keeps disk.old disk.new }
     ensures said { (s : State) → Backs (D.state disk.old) head.now s → SaysIn (D.state disk.old) child.now → OnOk result (SaysIn (D.state disk.new) child.now) }
     ensures front { (s : State) → Backs (D.state disk.old) head.now s → OnOk result (IsFront (D.state disk.new) name.now bytes.now) }
-    ensures comes { (s : State) → Backs (D.state disk.old) head.now s →
-        Comes result (D.state disk.old) (D.state disk.new) head.now (Before s) s (λ t. t ≡ s) }
+    ensures comes { Acts result (D.state disk.old) (D.state disk.new) head.now head.now Before (λ s. s) Unchanged }
 {
     match write_and_sync(disk, name, bytes) {
         Ok(()) => Ok(()),
@@ -244,7 +235,7 @@ fn turn<D: Disk>(
         HasStart (D.state disk.old) head.old history s → history.own ≤ s.durable.known →
         Comes result (D.state disk.old) (D.state disk.new) head.new
         (Either s.durable (switched s.durable history control.role control.whole control.prev))
-        (switched_state s history control.role control.whole control.prev) (λ t. t ≡ s) }
+        (switched_state s history control.role control.whole control.prev) (Unchanged s) }
 {
     match put_control(disk, &control) {
         Ok(()) => {

@@ -1,7 +1,7 @@
 //! Appending bytes past the written end.
 ghost use Rattle.std.specs.Prelude.{◌≡◌, ◌≢◌, ◌≤◌, ◌+◌, ◌%◌, ◌^◌, ◌↔◌, length, true, Err, OnOk, IfErr};
 ghost use Rattle.repl_store.specs.Apart.{StaysApart};
-ghost use Rattle.repl_store.specs.Backing.{Backs, Before, Breaks, Comes, IsCaused, State, appended};
+ghost use Rattle.repl_store.specs.Backing.{Acts, Before, Breaks, Calls, IsCaused, IsIdle, Unchanged, appended};
 ghost use Rattle.repl_store.specs.Head.{IsAt};
 ghost use Rattle.repl_store.specs.Tail.{Grows, IsReady, KeepsEnds, SomeAppended};
 ghost use Rattle.repl_store.specs.declared.fault.StoreFault.TheVariants as StoreFault;
@@ -22,15 +22,14 @@ impl<D: Disk> Store<D> {
     pub fn write(&mut self, alloc: Global, bytes: &[u8]) -> Result<(), StoreFault>
         requires { self.old.head.written + length bytes.now ≤ 2 ^ 63 }
         ensures broken { (result ≡ Err StoreFault.Broken) ↔ (self.old.broken ≡ true) }
-        ensures idle { result ≡ Err StoreFault.Broken → self.new.disk ≡ self.old.disk }
+        ensures idle { IsIdle result self.old self.new }
         ensures breaks { Breaks result self.old.broken self.new.broken }
         ensures ok { OnOk result (IsAt self.old.head self.new.head (self.old.head.written + length bytes.now)) }
         ensures stays { IfErr result (λ e. IsAt self.old.head self.new.head self.old.head.written) }
         ensures caused { IsCaused result (D.state self.old.disk) (D.state self.new.disk) }
         ensures apart { StaysApart (D.state self.old.disk) (D.state self.new.disk) }
         ensures keeps { D.keeps self.old.disk self.new.disk }
-        ensures comes { (s : State) → Backs (D.state self.old.disk) self.old.head s →
-            Comes result (D.state self.old.disk) (D.state self.new.disk) self.new.head (Before s) (appended s bytes.now) (λ t. t ≡ s) }
+        ensures comes { Calls D.state self.old self.new result Before (λ s. appended s bytes.now) Unchanged }
     {
         if self.broken {
             return Err(StoreFault::Broken);
@@ -54,8 +53,7 @@ fn write_or_none<D: Disk>(
     ensures unbroken { result ≢ Err StoreFault.Broken }
     ensures apart { StaysApart (D.state disk.old) (D.state disk.new) }
     ensures keeps { D.keeps disk.old disk.new }
-    ensures comes { (s : State) → Backs (D.state disk.old) head.old s →
-        Comes result (D.state disk.old) (D.state disk.new) head.new (Before s) (appended s bytes.now) (λ t. t ≡ s) }
+    ensures comes { Acts result (D.state disk.old) (D.state disk.new) head.old head.new Before (λ s. appended s bytes.now) Unchanged }
 {
     let written = head.written;
     match write_pieces(alloc, disk, head, bytes) {
@@ -81,8 +79,7 @@ fn write_pieces<D: Disk>(
     ensures unbroken { result ≢ Err StoreFault.Broken }
     ensures apart { StaysApart (D.state disk.old) (D.state disk.new) }
     ensures keeps { D.keeps disk.old disk.new }
-    ensures comes { (s : State) → Backs (D.state disk.old) head.old s →
-        Comes result (D.state disk.old) (D.state disk.new) head.new (Before s) (appended s bytes.now) (SomeAppended s) }
+    ensures comes { Acts result (D.state disk.old) (D.state disk.new) head.old head.new Before (λ s. appended s bytes.now) SomeAppended }
 {
     let mut done = 0;
     while done < bytes.len() {
@@ -108,8 +105,7 @@ fn write_piece<D: Disk>(
     ensures unbroken { result ≢ Err StoreFault.Broken }
     ensures apart { StaysApart (D.state disk.old) (D.state disk.new) }
     ensures keeps { D.keeps disk.old disk.new }
-    ensures comes { (s : State) → Backs (D.state disk.old) head.old s →
-        Comes result (D.state disk.old) (D.state disk.new) head.new (Before s) (appended s piece.now) (λ t. t ≡ s) }
+    ensures comes { Acts result (D.state disk.old) (D.state disk.new) head.old head.new Before (λ s. appended s piece.now) Unchanged }
 {
     sync_full(disk, head)?;
     name_tail(alloc, head)?;
@@ -124,8 +120,7 @@ fn sync_full<D: Disk>(disk: &mut D, head: &mut Head) -> Result<(), StoreFault>
     ensures unbroken { result ≢ Err StoreFault.Broken }
     ensures apart { StaysApart (D.state disk.old) (D.state disk.new) }
     ensures keeps { D.keeps disk.old disk.new }
-    ensures comes { (s : State) → Backs (D.state disk.old) head.old s →
-        Comes result (D.state disk.old) (D.state disk.new) head.new (Before s) s (λ t. t ≡ s) }
+    ensures comes { Acts result (D.state disk.old) (D.state disk.new) head.old head.new Before (λ s. s) Unchanged }
 {
     if head.place_in_segment(head.written) == 0 {
         sync_tail(disk, head)
@@ -159,8 +154,7 @@ fn append<D: Disk>(disk: &mut D, head: &mut Head, piece: &[u8]) -> Result<(), St
     ensures unbroken { result ≢ Err StoreFault.Broken }
     ensures apart { StaysApart (D.state disk.old) (D.state disk.new) }
     ensures keeps { D.keeps disk.old disk.new }
-    ensures comes { (s : State) → Backs (D.state disk.old) head.old s →
-        Comes result (D.state disk.old) (D.state disk.new) head.new (Before s) (appended s piece.now) (λ t. t ≡ s) }
+    ensures comes { Acts result (D.state disk.old) (D.state disk.new) head.old head.new Before (λ s. appended s piece.now) Unchanged }
 {
     let Some(name) = &head.unsynced else {
         unreachable!()

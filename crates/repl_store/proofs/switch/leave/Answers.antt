@@ -3,7 +3,7 @@ use Rattle.std.proofs.Common.{rules, ◌≡◌, ◌*◌, ◌/◌, ◌≤◌, ℕ
 use Rattle.repl_lsn.specs.History.{Path}
 use Rattle.repl_store.specs.Backing.{Before, Comes, Either, switched}
 use Rattle.repl_store.specs.Head.{Head, IsHead}
-use Rattle.repl_store.specs.Leaving.{HasStart, SaysIn, heard_state, switched_state}
+use Rattle.repl_store.specs.Leaving.{HasStart, MaybeHeard, SaysIn, SwitchLeaves, heard_state, switched_state}
 use Rattle.repl_store.specs.declared.fault.StoreFault.{StoreFault}
 use Rattle.repl_store.specs.declared.fault.StoreFault.TheVariants as fault
 use Rattle.repl_store.proofs.Apart.{apart_on}
@@ -11,7 +11,7 @@ use Rattle.repl_store.proofs.Chaining.{moments_more, wanted_comes}
 use Rattle.repl_store.proofs.Pieces.{idle}
 use Rattle.repl_store.proofs.Switching.{child_above}
 use Rattle.repl_store.proofs.Turned.{start_low}
-use Rattle.repl_store.proofs.Left.{OneOf, OneState, heard_comes, begun_comes, turned_comes}
+use Rattle.repl_store.proofs.Left.{heard_comes, begun_comes, turned_comes}
 use Rattle.repl_store.proofs.Starting.{either_way, where_err, where_ok}
 use Rattle.repl_store.proofs.switch.leave.Goals as goal
 
@@ -19,9 +19,9 @@ pub returns-in_err-history-clause-comes : goal.returns-in_err-history-clause-com
 returns-in_err-history-clause-comes g c = λ s backs.
     let old = g.D.Disk.state c.args.disk.now in
     let is : c.from_residual.result ≡ Err fault.Memory = search rules in
-    wanted_comes c.from_residual.result old old c.args.head.now (OneOf s c.args.child.now c.args.role c.args.whole c.args.prev)
-    (switched_state s c.args.child.now c.args.role c.args.whole c.args.prev) (OneState s c.args.child.now) s is
-    (moments_more old old c.args.head.now.size (Before s) (OneOf s c.args.child.now c.args.role c.args.whole c.args.prev) (λ d h. inl h)
+    wanted_comes c.from_residual.result old old c.args.head.now (SwitchLeaves s c.args.child.now c.args.role c.args.whole c.args.prev)
+    (switched_state s c.args.child.now c.args.role c.args.whole c.args.prev) (MaybeHeard s c.args.child.now) s is
+    (moments_more old old c.args.head.now.size (Before s) (SwitchLeaves s c.args.child.now c.args.role c.args.whole c.args.prev) (λ d h. inl h)
     (idle old c.args.head.now s (g.met.D.Disk.only_now c.args.disk.now) backs)) (inl refl) backs
 
 pub hear-requires-clause-below : goal.hear-requires-clause-below

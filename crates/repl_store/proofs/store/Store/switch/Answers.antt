@@ -2,9 +2,8 @@
 use Rattle.std.proofs.Common.{Result, sym, subst}
 use Rattle.repl_store.specs.Backing.{Backs, Comes}
 use Rattle.repl_store.specs.Head.{Head, Held}
-use Rattle.repl_store.specs.Leaving.{switched_state}
+use Rattle.repl_store.specs.Leaving.{MaybeHeard, SwitchLeaves, switched_state}
 use Rattle.repl_store.specs.declared.fault.StoreFault.{StoreFault}
-use Rattle.repl_store.proofs.Left.{OneOf, OneState}
 use Rattle.repl_store.proofs.store.Store.switch.Goals as goal
 
 pub returns-clause-comes : goal.returns-clause-comes
@@ -14,9 +13,9 @@ returns-clause-comes g c s backs =
     let B : Held g.row.D.Denot → Type 0 = λ h. Backs (state h.disk) h.head s in
     let within = subst B (sym c.self.view_is) backs in
     let child = c.args.child.now in
-    let column = OneOf s child c.args.role c.args.whole c.args.prev in
+    let column = SwitchLeaves s child c.args.role c.args.whole c.args.prev in
     let later = switched_state s child c.args.role c.args.whole c.args.prev in
-    let some = OneState s child in
+    let some = MaybeHeard s child in
     let comes = c.leave-done.ensures.comes s within in
     let R : g.row.D.Denot → Type 0 = λ d. Comes done (state c.self.inside.disk) (state d) c.leave-done.new.head column later some in
     let Q : Head → Type 0 = λ h. Comes done (state c.self.inside.disk) (state c.remember.new.self.disk) h column later some in
